@@ -1,0 +1,29 @@
+# make run: plays the bundled example. make test: every test. Both install what is missing (Debian packages).
+.PHONY: run test bench setup clean
+
+LIB := $(CURDIR)/target/staticlib
+CARGO := cargo --quiet
+PEER := --release --offline --manifest-path tests/Cargo.toml
+PROVED := KERNEL_LIB_DIR=$(LIB) $(CARGO) run $(PEER) --features proved --bin
+
+run: setup
+	rt check
+
+test: setup
+	rt fmt --check
+	$(CARGO) test $(PEER)
+	rt staticlib exports
+	mkdir -p target/tests
+	sh tests/ghdl/tables.sh target/tests/tables
+	$(CARGO) run $(PEER) --bin tables second target/tests/tables
+	$(PROVED) tables proved target/tests/tables
+
+bench: setup
+	rt staticlib exports
+	bench/run
+
+setup:
+	@sh tools/setup
+
+clean:
+	rm -rf target tests/target

@@ -1,0 +1,328 @@
+//! Plays random models on the second kernel and, translated, on GHDL, and
+//! compares every signal's settled value at every time.
+//!
+//!     ghdlrun N [SEED]             N models from SEED on (default 200 from 1)
+//!     ghdlrun N SEED FROM TO       the same with FROM replaced by TO in each
+//!                                  translation: differences are expected
+//!     ghdlrun show SEED            one model's translation and its run
+//!
+//! Each accepted model is played until nothing is due (or 60 time steps), or
+//! up to the time at which it faults, passes 1,000 delta steps or has a process
+//! that never waits. GHDL must show the same changes of settled values and the
+//! same end: a failure at that time, or a stop by `--stop-delta`. Fault 3 is
+//! foreign to VHDL: such a run is compared up to the time before, and left out
+//! if it faults at time 0. The exit code is 1 on any difference.
+
+use second_kernel::cycle::{Config, Step, DELTA_LIMIT, NINTH, TIME_LIMIT};
+use second_kernel::gen;
+use second_kernel::model::{self, Model};
+use second_kernel::vhdl::{self, Form};
+use std::collections::BTreeMap;
+use std::path::{Path, PathBuf};
+use std::process::{exit, Command};
+use std::sync::atomic::{AtomicUsize, Ordering};
+use std::sync::Mutex;
+
+const TIME_STEPS: usize = 60;
+/// Picks in one settling after which some process is taken never to wait:
+/// then one has made the number that the translation allows.
+const PICKS: usize = 16 * vhdl::STEPS;
+
+/// Signal values at a time.
+type Row = (u64, Vec<i32>);
+
+/// Why a run ended.
+#[derive(Clone, Copy, Debug, PartialEq, Eq, PartialOrd, Ord)]
+enum End {
+    NothingDue,
+    TimeSteps,
+    DeltaSteps,
+    NoWait,
+    Fault,
+    Ninth,
+}
+
+/// A run of the second kernel.
+struct Run {
+    /// The first values, then the settled ones at each time.
+    rows: Vec<Row>,
+    end: End,
+    /// The time up to which GHDL is to run.
+    stop: u64,
+}
+
+fn values(c: &Config) -> Vec<i32> {
+    c.signals.iter().map(|s| s[0]).collect()
+}
+
+/// Settles; false if some process is still ready after many picks.
+fn settle(c: &mut Config, m: &Model) -> bool {
+    let mut picks = 0;
+    while picks < PICKS {
+        let (made, ready) = c.settle(m, 1_000);
+        picks += made as usize;
+        if !ready {
+            return true;
+        }
+    }
+    false
+}
+
+fn run(m: &Model) -> Run {
+    let mut c = Config::first(m);
+    let mut rows = vec![(0, values(&c))];
+    let end = loop {
+        if !settle(&mut c, m) {
+            break End::NoWait;
+        }
+        let (time, row) = (c.time, values(&c));
+        match c.advance(m) {
+            Ok(Step::Delta) => {}
+            Ok(Step::Time) => {
+                rows.push((time, row));
+                if rows.len() > TIME_STEPS {
+                    break End::TimeSteps;
+                }
+            }
+            Err(15) if c.processes.iter().all(|p| p.fault == 0 || p.fault == NINTH) => {
+                break End::Ninth
+            }
+            Err(15) => break End::Fault,
+            Err(16) => break End::DeltaSteps,
+            Err(_) => {
+                rows.push((time, row));
+                break End::NothingDue;
+            }
+        }
+    };
+    let stop = match end {
+        End::NothingDue => TIME_LIMIT,
+        End::TimeSteps | End::Ninth => rows.last().map_or(0, |r| r.0),
+        _ => c.time,
+    };
+    Run { rows, end, stop }
+}
+
+/// The first row and those that differ from the one before.
+fn changes(rows: Vec<Row>) -> Vec<Row> {
+    let mut kept: Vec<Row> = Vec::new();
+    for r in rows {
+        if kept.last().is_none_or(|l| l.1 != r.1) {
+            kept.push(r);
+        }
+    }
+    kept
+}
+
+/// A line of the translation's monitor: `@ TIME ns VALUES`.
+fn parse(line: &str) -> Option<Row> {
+    let mut words = line.strip_prefix("@ ")?.split(' ');
+    let time = words.next()?.parse().ok()?;
+    if words.next()? != "ns" {
+        return None;
+    }
+    let row: Result<Vec<i32>, _> = words.map(str::parse).collect();
+    Some((time, row.ok()?))
+}
+
+/// How GHDL ended.
+#[derive(Debug, PartialEq, Eq)]
+enum Outcome {
+    Done,
+    StopDelta,
+    Failure,
+}
+
+/// What GHDL says where the model faults or never waits: the translation's own
+/// words, and GHDL's for an overflow at run time and in a constant expression.
+const FAILURES: [&str; 5] =
+    ["fault 1", "fault 2", "no wait", "overflow detected", "bound check failure"];
+
+/// Runs GHDL on a text up to a time, that time included.
+fn ghdl(text: &str, stop: u64, dir: &Path, name: &str) -> Result<(Vec<Row>, Outcome), String> {
+    let file = dir.join(name);
+    std::fs::write(&file, text).map_err(|e| e.to_string())?;
+    let out = Command::new("timeout")
+        .args(["10", "ghdl", "-c", "--std=93", "-Wno-runtime-error"])
+        .arg(format!("--workdir={}", dir.display()))
+        .arg(&file)
+        .args(["-r", "top"])
+        .arg(format!("--stop-time={stop}ns"))
+        .arg(format!("--stop-delta={DELTA_LIMIT}"))
+        .output()
+        .map_err(|e| format!("ghdl: {e}"))?;
+    let _ = std::fs::remove_file(&file);
+    let said = String::from_utf8_lossy(&out.stdout).to_string();
+    let errors = String::from_utf8_lossy(&out.stderr).to_string();
+    let heard = |words: &str| said.contains(words) || errors.contains(words);
+    let outcome = if out.status.success() {
+        if heard("by --stop-delta") { Outcome::StopDelta } else { Outcome::Done }
+    } else if FAILURES.into_iter().any(heard) {
+        Outcome::Failure
+    } else {
+        return Err(format!("GHDL ended with {}: {}", out.status, errors.trim()));
+    };
+    let lines = said.lines().filter(|l| l.starts_with('@'));
+    let rows: Result<_, _> =
+        lines.map(|l| parse(l).ok_or(format!("cannot read GHDL's line: {l}"))).collect();
+    Ok((rows?, outcome))
+}
+
+/// The first place where the two lists of changes part.
+fn compare(case: &Case, theirs: &[Row], outcome: Outcome) -> Result<(), String> {
+    // A failure in the first settling comes before GHDL's first line.
+    let early = outcome == Outcome::Failure && case.stop == 0 && theirs.is_empty();
+    let ours = if early { &case.changes[1..] } else { &case.changes[..] };
+    let show = |r: Option<&Row>| match r {
+        Some((time, row)) => format!("time {time}, values {row:?}"),
+        None => "no further change".to_string(),
+    };
+    for n in 0..ours.len().max(theirs.len()) {
+        let (a, b) = (ours.get(n), theirs.get(n));
+        if a != b {
+            return Err(format!("kernel: {}\n  GHDL:   {}", show(a), show(b)));
+        }
+    }
+    let expected = match case.end {
+        End::NothingDue | End::TimeSteps | End::Ninth => Outcome::Done,
+        End::DeltaSteps => Outcome::StopDelta,
+        End::NoWait | End::Fault => Outcome::Failure,
+    };
+    if outcome != expected {
+        return Err(format!("kernel: end {:?} up to time {}\n  GHDL:   {outcome:?}", case.end, case.stop));
+    }
+    Ok(())
+}
+
+/// A model with its run on the second kernel.
+struct Case {
+    seed: u64,
+    model: Model,
+    stop: u64,
+    changes: Vec<Row>,
+    end: End,
+}
+
+impl Case {
+    /// The model of `session_case`'s seed, if it is accepted.
+    fn new(seed: u64) -> Option<Case> {
+        let model = model::load(&gen::session_case(seed).model).ok()?;
+        let Run { rows, end, stop } = run(&model);
+        Some(Case { seed, model, stop, changes: changes(rows), end })
+    }
+
+    /// A signal changes.
+    fn lively(&self) -> bool {
+        self.changes.len() > 1
+    }
+}
+
+/// The models from the seed on until n are lively.
+fn choose(n: usize, first: u64) -> Vec<Case> {
+    let mut cases: Vec<Case> = Vec::new();
+    let mut left = n;
+    for seed in first.. {
+        if left == 0 {
+            break;
+        }
+        if let Some(case) = Case::new(seed) {
+            left -= case.lively() as usize;
+            cases.push(case);
+        }
+    }
+    cases
+}
+
+/// Compares all cases, one GHDL run each, on all processors.
+fn compare_all(cases: &[Case], alter: &dyn Fn(String) -> String, dir: &Path) -> Vec<(u64, String)> {
+    let texts: Vec<String> =
+        cases.iter().map(|c| alter(vhdl::translate(&c.model, Form::Checked))).collect();
+    let next = AtomicUsize::new(0);
+    let bad = Mutex::new(Vec::new());
+    let workers = std::thread::available_parallelism().map_or(2, |n| n.get());
+    std::thread::scope(|s| {
+        for _ in 0..workers {
+            s.spawn(|| loop {
+                let n = next.fetch_add(1, Ordering::Relaxed);
+                let Some(case) = cases.get(n) else { return };
+                let result = ghdl(&texts[n], case.stop, dir, &format!("model{}.vhd", case.seed))
+                    .and_then(|(rows, outcome)| compare(case, &changes(rows), outcome));
+                if let Err(e) = result {
+                    bad.lock().unwrap().push((case.seed, e));
+                }
+            });
+        }
+    });
+    let mut bad = bad.into_inner().unwrap();
+    bad.sort();
+    bad
+}
+
+fn scratch() -> PathBuf {
+    let dir = std::env::temp_dir().join(format!("ghdlrun-{}", std::process::id()));
+    std::fs::create_dir_all(&dir).expect("a folder for GHDL's files");
+    dir
+}
+
+fn show(seed: u64) {
+    let Some(Case { model, stop, changes, end, .. }) = Case::new(seed) else {
+        return println!("-- the model is refused");
+    };
+    println!("{}", vhdl::translate(&model, Form::Checked));
+    for (time, row) in changes {
+        println!("-- {time}: {row:?}");
+    }
+    println!("-- end {end:?}, GHDL up to {stop}");
+}
+
+fn usage() -> ! {
+    eprintln!("usage: ghdlrun [N [SEED [FROM TO]]] | ghdlrun show SEED");
+    exit(2)
+}
+
+fn main() {
+    let args: Vec<String> = std::env::args().skip(1).collect();
+    let number = |n: usize, default: u64| match args.get(n) {
+        Some(a) => a.parse().unwrap_or_else(|_| usage()),
+        None => default,
+    };
+    if args.first().is_some_and(|a| a == "show") {
+        return show(number(1, 1));
+    }
+    let (n, seed) = (number(0, 200) as usize, number(1, 1));
+    let alter = |text: String| match &args[..] {
+        [_, _, from, to] => text.replace(from, to),
+        _ => text,
+    };
+    if args.len() == 3 || args.len() > 4 {
+        usage()
+    }
+    let mut cases = choose(n, seed);
+    let mut counts: BTreeMap<End, [usize; 2]> = BTreeMap::new();
+    for c in &cases {
+        counts.entry(c.end).or_default()[c.lively() as usize] += 1;
+    }
+    println!("  lively  others  end");
+    for (end, [still, lively]) in &counts {
+        println!("{lively:8}{still:8}  {end:?}");
+    }
+    let all = cases.len();
+    cases.retain(|c| c.end != End::Ninth || c.lively());
+    println!("{} models left out: fault 3 before any change", all - cases.len());
+    let dir = scratch();
+    let bad = compare_all(&cases, &alter, &dir);
+    for (seed, e) in bad.iter().take(10) {
+        println!("model {seed}:\n  {e}");
+    }
+    let rows: usize = cases.iter().map(|c| c.changes.len()).sum();
+    println!(
+        "ghdlrun: {} models, {} changes of settled values, {} models differ",
+        cases.len(),
+        rows,
+        bad.len()
+    );
+    let _ = std::fs::remove_dir_all(&dir);
+    if !bad.is_empty() {
+        exit(1)
+    }
+}

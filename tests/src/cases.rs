@@ -1,0 +1,319 @@
+//! The paper's bench cases as sessions, and sessions on both sides of the
+//! limits of orders and answers.
+
+use crate::builder::Builder;
+use crate::gen::order;
+use crate::model::*;
+use crate::values::code;
+
+pub const PICK: u8 = 1;
+pub const ADVANCE: u8 = 2;
+pub const SETTLE: u8 = 3;
+pub const READ: u8 = 4;
+
+const TOP: i32 = 2_147_483_647;
+
+/// A named session.
+pub struct Case {
+    pub name: String,
+    pub model: Vec<u8>,
+    pub orders: Vec<u8>,
+    /// Length of the answer buffer.
+    pub room: usize,
+}
+
+/// Orders of (kind, argument, count).
+pub fn orders(list: &[(u8, u8, u16)]) -> Vec<u8> {
+    list.iter()
+        .flat_map(|&(kind, argument, count)| order(kind, argument, count))
+        .collect()
+}
+
+/// The inverter: process 0 o <= not i after 0, wait on i; process 1
+/// i <= 1 after 1, wait.
+pub fn inverter() -> Builder {
+    let mut b = Builder::new();
+    let i = b.signal(LOGIC, 2);
+    let o = b.signal(LOGIC, 2);
+    let zero = b.integer(0);
+    let one = b.integer(1);
+    let high = b.logic(3);
+    let read = b.read_signal(i);
+    let not = b.unary(6, read);
+    b.process();
+    b.schedule(o, not, zero);
+    b.wait(1 << i, ABSENT, ABSENT);
+    b.process();
+    b.schedule(i, high, one);
+    b.wait(0, ABSENT, ABSENT);
+    b.driver(0, o);
+    b.driver(1, i);
+    b
+}
+
+/// The inverter's orders.
+pub fn inverter_orders() -> Vec<u8> {
+    orders(&[
+        (SETTLE, 0, 10),
+        (ADVANCE, 0, 0),
+        (ADVANCE, 0, 0),
+        (ADVANCE, 0, 0),
+        (SETTLE, 0, 10),
+        (ADVANCE, 0, 0),
+        (ADVANCE, 0, 0),
+        (READ, 1, 0),
+    ])
+}
+
+/// One process gives a signal transactions with these values and delays,
+/// then waits.
+pub fn line(delays: &[i32]) -> Builder {
+    let mut b = Builder::new();
+    let s = b.signal(INTEGER, 0);
+    let nodes: Vec<u16> = delays.iter().map(|&d| b.integer(d)).collect();
+    b.process();
+    for n in nodes {
+        b.schedule(s, n, n);
+    }
+    b.wait(0, ABSENT, ABSENT);
+    b.driver(0, s);
+    b
+}
+
+/// One process per letter drives a common signal to it at once.
+pub fn drivers(letters: &str) -> Builder {
+    let mut b = Builder::new();
+    let s = b.signal(LOGIC, 4);
+    let zero = b.integer(0);
+    for (p, letter) in letters.bytes().enumerate() {
+        let v = b.logic(code(letter));
+        b.process();
+        b.schedule(s, v, zero);
+        b.wait(0, ABSENT, ABSENT);
+        b.driver(p as u8, s);
+    }
+    b
+}
+
+/// One process assigns x `kind` y to a variable that starts at 5.
+pub fn sum(x: i32, kind: u8, y: i32) -> Builder {
+    let mut b = Builder::new();
+    let v = b.variable(INTEGER, 0, 5);
+    let x = b.integer(x);
+    let y = b.integer(y);
+    let sum = b.binary(kind, x, y);
+    b.process();
+    b.assign(v, sum);
+    b.null();
+    b
+}
+
+/// One process waits for 0, `turns` times, then for 1 each time.
+pub fn delta_turns(turns: i32) -> Builder {
+    let mut b = Builder::new();
+    let v = b.variable(INTEGER, 0, 0);
+    let zero = b.integer(0);
+    let one = b.integer(1);
+    let turns = b.integer(turns);
+    let read = b.read_variable(v);
+    let more = b.binary(11, read, one);
+    let less = b.binary(14, read, turns);
+    b.process();
+    b.unless(less, 4);
+    b.assign(v, more);
+    b.wait(0, ABSENT, zero);
+    b.go(0);
+    b.wait(0, ABSENT, one);
+    b
+}
+
+/// One process waits 499 times for 2,000,000,000, then for `last`, then
+/// for 1.
+pub fn time_turns(last: i32) -> Builder {
+    let mut b = Builder::new();
+    let v = b.variable(INTEGER, 0, 0);
+    let one = b.integer(1);
+    let turns = b.integer(499);
+    let step = b.integer(2_000_000_000);
+    let last = b.integer(last);
+    let read = b.read_variable(v);
+    let more = b.binary(11, read, one);
+    let less = b.binary(14, read, turns);
+    b.process();
+    b.unless(less, 4);
+    b.assign(v, more);
+    b.wait(0, ABSENT, step);
+    b.go(0);
+    b.wait(0, ABSENT, last);
+    b.wait(0, ABSENT, one);
+    b
+}
+
+/// Settle and advance, so often.
+pub fn rounds(n: usize, advances: usize) -> Vec<u8> {
+    let round = [vec![(SETTLE, 0, 9)], vec![(ADVANCE, 0, 0); advances]].concat();
+    orders(&round).repeat(n)
+}
+
+/// Variables for one row of an operator's table: `row` with each of the nine.
+fn operator_row(kind: u8, row: u8) -> Builder {
+    let mut b = Builder::new();
+    let a = b.logic(row);
+    let nodes: Vec<u16> = (0..9)
+        .map(|column| {
+            let c = b.logic(column);
+            if kind == 6 {
+                b.unary(6, c)
+            } else {
+                b.binary(kind, a, c)
+            }
+        })
+        .collect();
+    b.process();
+    for n in nodes {
+        let v = b.variable(LOGIC, 0, 0);
+        b.assign(v, n);
+    }
+    b.wait(0, ABSENT, ABSENT);
+    b
+}
+
+/// Nine signals, driven by `row` and each of the nine.
+fn resolution_row(row: u8) -> Builder {
+    let mut b = Builder::new();
+    let zero = b.integer(0);
+    for _ in 0..9 {
+        b.signal(LOGIC, 4);
+    }
+    for p in 0..2 {
+        b.process();
+        for s in 0..9u16 {
+            let v = b.logic(if p == 0 { row } else { s as u8 });
+            b.schedule(s, v, zero);
+            b.driver(p, s);
+        }
+        b.wait(0, ABSENT, ABSENT);
+    }
+    b
+}
+
+/// All named sessions.
+pub fn sessions() -> Vec<Case> {
+    let mut list = vec![];
+    let mut add = |name: String, model: &Builder, orders: Vec<u8>| {
+        let room = 4 * orders.len();
+        list.push(Case {
+            name,
+            model: model.encode(),
+            orders,
+            room,
+        });
+    };
+    add("inverter".into(), &inverter(), inverter_orders());
+    add("no orders".into(), &inverter(), vec![]);
+    let read = orders(&[(SETTLE, 0, 9), (ADVANCE, 0, 0), (READ, 0, 0)]);
+    for letters in ["01", "LH", "ZL", "W0", "U1", "-", "--"] {
+        add(
+            format!("drivers {letters}"),
+            &drivers(letters),
+            read.clone(),
+        );
+    }
+    for (x, kind, y) in [
+        (TOP - 1, 11, 1),
+        (TOP, 11, 1),
+        (-TOP + 1, 12, 1),
+        (-TOP, 12, 1),
+        (-TOP, 11, -TOP),
+        (TOP, 12, -TOP),
+    ] {
+        let picks = orders(&[(PICK, 0, 0), (PICK, 0, 0)]);
+        add(
+            format!("{x} and {y} in node kind {kind}"),
+            &sum(x, kind, y),
+            picks,
+        );
+    }
+    add(
+        "settle of no picks".into(),
+        &inverter(),
+        orders(&[(SETTLE, 0, 0), (SETTLE, 0, 9), (SETTLE, 0, 0)]),
+    );
+    for last in [7, 8, 9] {
+        let delays: Vec<i32> = [&[1, 2, 3, 4, 5, 6, 7, 8][..], &[last]].concat();
+        add(
+            format!("eight transactions, then one after {last}"),
+            &line(&delays),
+            orders(&[(SETTLE, 0, 20)]),
+        );
+    }
+    for turns in [998, 999, 1_000, 1_001, 1_002] {
+        add(
+            format!("{turns} delta steps"),
+            &delta_turns(turns),
+            rounds(1_003, 1),
+        );
+    }
+    for last in [-1, 0, 1] {
+        let model = time_turns(2_000_000_000 + last);
+        add(format!("time limit and {last}"), &model, rounds(502, 2));
+    }
+    for kind in 6..=9 {
+        for row in 0..if kind == 6 { 1 } else { 9 } {
+            let settle = orders(&[(SETTLE, 0, 20)]);
+            add(
+                format!("node kind {kind}, row {row}"),
+                &operator_row(kind, row),
+                settle,
+            );
+        }
+    }
+    for row in 0..9 {
+        let advance = orders(&[(SETTLE, 0, 30), (ADVANCE, 0, 0)]);
+        add(
+            format!("resolution, row {row}"),
+            &resolution_row(row),
+            advance,
+        );
+    }
+    add(
+        "4,096 orders".into(),
+        &inverter(),
+        order(ADVANCE, 0, 0).repeat(4_096),
+    );
+    add(
+        "65,535 picks".into(),
+        &sum(1, 11, 1),
+        orders(&[(SETTLE, 0, 65_535), (SETTLE, 0, 1)]),
+    );
+    for length in [1, 2, 3, 5, 16_383, 16_385, 16_388, 20_000] {
+        add(
+            format!("{length} bytes of orders"),
+            &inverter(),
+            vec![2; length],
+        );
+    }
+    for length in [0usize, 4, 8, 16_384] {
+        let right = 4 * length;
+        for room in [
+            0,
+            1,
+            15,
+            16,
+            17,
+            right.saturating_sub(1),
+            right + 1,
+            right + 16,
+        ] {
+            let name = format!("{length} bytes of orders, {room} of answers");
+            let orders = order(ADVANCE, 0, 0).repeat(length / 4);
+            list.push(Case {
+                name,
+                model: inverter().encode(),
+                orders,
+                room,
+            });
+        }
+    }
+    list
+}

@@ -1,0 +1,428 @@
+//! Configuration, pick, advance, settle and read.
+
+use crate::model::{driver_of, Model, StatementRecord, ABSENT, BOOLEAN, INTEGER};
+use crate::values;
+
+pub const READY: u8 = 0;
+pub const WAITING: u8 = 1;
+pub const STOPPED: u8 = 2;
+
+/// Faults.
+pub const OUT_OF_RANGE: u8 = 1;
+pub const NEGATIVE_DELAY: u8 = 2;
+pub const NINTH: u8 = 3;
+
+/// Most pending transactions of a driver.
+pub const WAVEFORM: usize = 8;
+/// Most delta steps at one time.
+pub const DELTA_LIMIT: u32 = 1_000;
+pub const TIME_LIMIT: u64 = 1_000_000_000_000;
+
+#[derive(Clone, Debug, Default, PartialEq, Eq)]
+pub struct Driver {
+    pub current: i32,
+    /// Pending transactions (time, value), rising in time.
+    pub wave: Vec<(u64, i32)>,
+}
+
+#[derive(Clone, Debug, Default, PartialEq, Eq)]
+pub struct Process {
+    pub place: u16,
+    pub standing: u8,
+    pub fault: u8,
+    pub deadline: Option<u64>,
+}
+
+/// `Config::default()` is the empty configuration.
+#[derive(Clone, Debug, Default, PartialEq, Eq)]
+pub struct Config {
+    pub time: u64,
+    /// Delta steps at this time.
+    pub delta: u32,
+    /// The current value, then those of 1 to 31 time units ago.
+    pub signals: Vec<[i32; 32]>,
+    pub variables: Vec<i32>,
+    pub drivers: Vec<Driver>,
+    pub processes: Vec<Process>,
+}
+
+/// A worked out expression.
+#[derive(Clone, Copy, Debug, PartialEq, Eq)]
+pub enum Value {
+    Integer(i32),
+    Logic(u8),
+    Boolean(bool),
+}
+
+impl Value {
+    fn of(ty: u8, raw: i32) -> Value {
+        match ty {
+            INTEGER => Value::Integer(raw),
+            BOOLEAN => Value::Boolean(raw == 1),
+            _ => Value::Logic(raw as u8),
+        }
+    }
+
+    pub fn raw(self) -> i32 {
+        match self {
+            Value::Integer(i) => i,
+            Value::Logic(v) => v as i32,
+            Value::Boolean(b) => b as i32,
+        }
+    }
+}
+
+fn in_range(i: i64) -> Result<Value, u8> {
+    if (-2_147_483_647..=2_147_483_647).contains(&i) {
+        Ok(Value::Integer(i as i32))
+    } else {
+        Err(OUT_OF_RANGE)
+    }
+}
+
+/// What a done advance was.
+#[derive(Clone, Copy, Debug, PartialEq, Eq)]
+pub enum Step {
+    Delta,
+    Time,
+}
+
+/// A signal's value from its drivers' current values, none if it has none.
+fn resolved(m: &Model, drivers: &[Driver], signal: usize) -> Option<i32> {
+    let values: Vec<i32> = m
+        .drivers
+        .iter()
+        .zip(drivers)
+        .filter(|(record, _)| record.signal as usize == signal)
+        .map(|(_, driver)| driver.current)
+        .collect();
+    if values.is_empty() {
+        None
+    } else if m.signals[signal].ty == INTEGER {
+        // An integer signal has one driver at most.
+        Some(values[0])
+    } else {
+        let codes: Vec<u8> = values.iter().map(|&v| v as u8).collect();
+        Some(values::resolve(&codes) as i32)
+    }
+}
+
+impl Config {
+    /// The first configuration of an accepted model.
+    pub fn first(m: &Model) -> Config {
+        let drivers: Vec<Driver> = m
+            .drivers
+            .iter()
+            .map(|d| Driver {
+                current: m.signals[d.signal as usize].start,
+                wave: Vec::new(),
+            })
+            .collect();
+        let signals = (0..m.signals.len())
+            .map(|s| [resolved(m, &drivers, s).unwrap_or(m.signals[s].start); 32])
+            .collect();
+        let processes = m
+            .processes
+            .iter()
+            .map(|p| Process {
+                place: p.first,
+                standing: READY,
+                fault: 0,
+                deadline: None,
+            })
+            .collect();
+        Config {
+            time: 0,
+            delta: 0,
+            signals,
+            variables: m.variables.iter().map(|v| v.start).collect(),
+            drivers,
+            processes,
+        }
+    }
+
+    /// Works out a node: its value or a fault.
+    pub fn evaluate(&self, m: &Model, node: u16) -> Result<Value, u8> {
+        use Value::*;
+        let n = &m.nodes[node as usize];
+        let (a, b) = (n.a as usize, n.b);
+        let value = match n.kind {
+            1 => Integer(n.k),
+            2 => Logic(n.k as u8),
+            3 => Value::of(m.variables[a].ty, self.variables[a]),
+            4 => Value::of(m.signals[a].ty, self.signals[a][0]),
+            5 => Value::of(m.signals[a].ty, self.signals[a][n.k as usize]),
+            6 => match self.evaluate(m, n.a)? {
+                Logic(v) => Logic(values::not(v)),
+                Boolean(v) => Boolean(!v),
+                Integer(_) => unreachable!(),
+            },
+            7 => match self.evaluate(m, n.a)? {
+                Boolean(false) => Boolean(false),
+                left => match (left, self.evaluate(m, b)?) {
+                    (Logic(v), Logic(w)) => Logic(values::and(v, w)),
+                    (Boolean(v), Boolean(w)) => Boolean(v && w),
+                    _ => unreachable!(),
+                },
+            },
+            8 => match self.evaluate(m, n.a)? {
+                Boolean(true) => Boolean(true),
+                left => match (left, self.evaluate(m, b)?) {
+                    (Logic(v), Logic(w)) => Logic(values::or(v, w)),
+                    (Boolean(v), Boolean(w)) => Boolean(v || w),
+                    _ => unreachable!(),
+                },
+            },
+            9 => match (self.evaluate(m, n.a)?, self.evaluate(m, b)?) {
+                (Logic(v), Logic(w)) => Logic(values::xor(v, w)),
+                (Boolean(v), Boolean(w)) => Boolean(v != w),
+                _ => unreachable!(),
+            },
+            10 => match self.evaluate(m, n.a)? {
+                Integer(v) => return in_range(-(v as i64)),
+                _ => unreachable!(),
+            },
+            11 => match (self.evaluate(m, n.a)?, self.evaluate(m, b)?) {
+                (Integer(v), Integer(w)) => return in_range(v as i64 + w as i64),
+                _ => unreachable!(),
+            },
+            12 => match (self.evaluate(m, n.a)?, self.evaluate(m, b)?) {
+                (Integer(v), Integer(w)) => return in_range(v as i64 - w as i64),
+                _ => unreachable!(),
+            },
+            13 => match (self.evaluate(m, n.a)?, self.evaluate(m, b)?) {
+                (Integer(v), Integer(w)) => Boolean(v == w),
+                (Logic(v), Logic(w)) => Boolean(v == w),
+                _ => unreachable!(),
+            },
+            14 => match (self.evaluate(m, n.a)?, self.evaluate(m, b)?) {
+                (Integer(v), Integer(w)) => Boolean(v < w),
+                _ => unreachable!(),
+            },
+            _ => unreachable!(),
+        };
+        Ok(value)
+    }
+
+    fn condition(&self, m: &Model, node: u16) -> Result<bool, u8> {
+        Ok(self.evaluate(m, node)? == Value::Boolean(true))
+    }
+
+    /// A delay, which must not be negative.
+    fn delay(&self, m: &Model, node: u16) -> Result<u64, u8> {
+        let c = self.evaluate(m, node)?.raw();
+        if c < 0 {
+            Err(NEGATIVE_DELAY)
+        } else {
+            Ok(c as u64)
+        }
+    }
+
+    /// The place after this one in its process.
+    fn following(m: &Model, process: usize, place: u16) -> u16 {
+        let p = &m.processes[process];
+        if place + 1 == p.first + p.count {
+            p.first
+        } else {
+            place + 1
+        }
+    }
+
+    /// Runs one statement of the process; Err is its fault.
+    fn run(&mut self, m: &Model, process: usize, s: &StatementRecord) -> Result<(), u8> {
+        let place = self.processes[process].place;
+        let mut next = Config::following(m, process, place);
+        match s.kind {
+            0 => {}
+            1 => {
+                self.variables[s.a as usize] = self.evaluate(m, s.b)?.raw();
+            }
+            2 => {
+                let value = self.evaluate(m, s.b)?.raw();
+                let at = self.time + self.delay(m, s.c)?;
+                let driver = driver_of(m, process, s.a as usize).expect("kind 2 has its driver");
+                let wave = &mut self.drivers[driver].wave;
+                let kept = wave.iter().take_while(|t| t.0 < at).count();
+                if kept == WAVEFORM {
+                    return Err(NINTH);
+                }
+                wave.truncate(kept);
+                wave.push((at, value));
+            }
+            3 => {
+                if !self.condition(m, s.b)? {
+                    next = s.a;
+                }
+            }
+            4 => next = s.a,
+            5 => {
+                let deadline = match s.c {
+                    ABSENT => None,
+                    c => Some(self.time + self.delay(m, c)?),
+                };
+                let p = &mut self.processes[process];
+                p.deadline = deadline;
+                p.standing = WAITING;
+                next = place;
+            }
+            _ => unreachable!(),
+        }
+        self.processes[process].place = next;
+        Ok(())
+    }
+
+    /// A pick of a ready process.
+    fn pick_ready(&mut self, m: &Model, process: usize) {
+        let s = m.statements[self.processes[process].place as usize];
+        if let Err(fault) = self.run(m, process, &s) {
+            self.processes[process].standing = STOPPED;
+            self.processes[process].fault = fault;
+        }
+    }
+
+    /// Pick: the refusal, or the new standing and the fault.
+    pub fn pick(&mut self, m: &Model, process: usize) -> Result<(u8, u8), u32> {
+        if process >= self.processes.len() {
+            return Err(12);
+        }
+        if self.processes[process].standing != READY {
+            return Err(13);
+        }
+        self.pick_ready(m, process);
+        Ok((
+            self.processes[process].standing,
+            self.processes[process].fault,
+        ))
+    }
+
+    fn lowest_ready(&self) -> Option<usize> {
+        self.processes.iter().position(|p| p.standing == READY)
+    }
+
+    /// Settle: the picks made, and whether a process is still ready.
+    pub fn settle(&mut self, m: &Model, count: u16) -> (u16, bool) {
+        let mut picks = 0;
+        while picks < count {
+            match self.lowest_ready() {
+                Some(process) => self.pick_ready(m, process),
+                None => break,
+            }
+            picks += 1;
+        }
+        (picks, self.lowest_ready().is_some())
+    }
+
+    /// Read: the signal's current value.
+    pub fn read(&self, signal: usize) -> Result<i32, u32> {
+        match self.signals.get(signal) {
+            Some(values) => Ok(values[0]),
+            None => Err(19),
+        }
+    }
+
+    /// The earliest time at which a transaction or a deadline is due.
+    fn earliest(&self) -> Option<u64> {
+        let transactions = self.drivers.iter().flat_map(|d| d.wave.iter().map(|t| t.0));
+        let deadlines = self
+            .processes
+            .iter()
+            .filter(|p| p.standing == WAITING)
+            .filter_map(|p| p.deadline);
+        transactions.chain(deadlines).min()
+    }
+
+    /// Advance: the refusal, or which step was done.
+    pub fn advance(&mut self, m: &Model) -> Result<Step, u32> {
+        if self.processes.iter().any(|p| p.standing == READY) {
+            return Err(14);
+        }
+        if self.processes.iter().any(|p| p.standing == STOPPED) {
+            return Err(15);
+        }
+        let earliest = self.earliest();
+        if earliest == Some(self.time) {
+            if self.delta >= DELTA_LIMIT {
+                return Err(16);
+            }
+            self.delta_step(m);
+            return Ok(Step::Delta);
+        }
+        match earliest {
+            None => Err(17),
+            Some(due) if due > TIME_LIMIT => Err(18),
+            Some(due) => {
+                self.time_step(due);
+                Ok(Step::Time)
+            }
+        }
+    }
+
+    fn delta_step(&mut self, m: &Model) {
+        let now = self.time;
+        self.delta += 1;
+        let mut active = vec![false; self.signals.len()];
+        for (record, driver) in m.drivers.iter().zip(&mut self.drivers) {
+            if let Some(n) = driver.wave.iter().position(|t| t.0 == now) {
+                driver.current = driver.wave.remove(n).1;
+                active[record.signal as usize] = true;
+            }
+        }
+        let mut changed = 0u32;
+        for signal in 0..self.signals.len() {
+            if !active[signal] {
+                continue;
+            }
+            let value = resolved(m, &self.drivers, signal).expect("an active signal is driven");
+            if value != self.signals[signal][0] {
+                changed |= 1 << signal;
+                self.signals[signal][0] = value;
+            }
+        }
+        for process in 0..self.processes.len() {
+            let (place, deadline) = match &self.processes[process] {
+                p if p.standing == WAITING => (p.place, p.deadline),
+                _ => continue,
+            };
+            let s = &m.statements[place as usize];
+            let wakes = if deadline == Some(now) {
+                Ok(true)
+            } else if s.set & changed == 0 {
+                Ok(false)
+            } else if s.b == ABSENT {
+                Ok(true)
+            } else {
+                self.condition(m, s.b)
+            };
+            let p = &mut self.processes[process];
+            match wakes {
+                Ok(true) => {
+                    p.standing = READY;
+                    p.deadline = None;
+                    p.place = Config::following(m, process, place);
+                }
+                Ok(false) => {}
+                Err(fault) => {
+                    p.standing = STOPPED;
+                    p.fault = fault;
+                }
+            }
+        }
+    }
+
+    fn time_step(&mut self, due: u64) {
+        let units = due - self.time;
+        for values in &mut self.signals {
+            let old = *values;
+            for ago in 1..32u64 {
+                // Up to `units` ago the old current value stood.
+                values[ago as usize] = if ago <= units {
+                    old[0]
+                } else {
+                    old[(ago - units) as usize]
+                };
+            }
+        }
+        self.time = due;
+        self.delta = 0;
+    }
+}

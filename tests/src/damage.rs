@@ -1,0 +1,1596 @@
+//! Models damaged in one rule of the refusals 1 to 8, in two, or in a single
+//! byte; and cases on both sides of each limit.
+
+use crate::builder::Builder;
+use crate::gen;
+use crate::model::*;
+use crate::rng::Rng;
+
+/// A model and bytes to change in its records (kind, record, byte, value).
+struct Subject {
+    m: Model,
+    patches: Vec<(usize, usize, usize, u8)>,
+}
+
+impl Subject {
+    fn bytes(&self, rng: &mut Rng) -> Vec<u8> {
+        let mut list = records(&self.m);
+        for &(kind, record, byte, value) in &self.patches {
+            // Another damage may have removed the record.
+            if let Some(r) = list[kind - 1].get_mut(record) {
+                r[byte] = value;
+            }
+        }
+        encode_records(&list, &gen::plan(rng, &self.m))
+    }
+}
+
+/// Damages the model in its rule if it can; gives whether it did.
+type ModelOp = fn(&mut Rng, &mut Subject) -> bool;
+/// The same for the blocks.
+type BlockOp = fn(&mut Rng, &mut Vec<u8>) -> bool;
+
+fn blocks(bytes: &[u8]) -> usize {
+    bytes.len() / BLOCK
+}
+
+fn repair(bytes: &mut [u8], n: usize) {
+    repair_sum(&mut bytes[BLOCK * n..BLOCK * (n + 1)]);
+}
+
+fn empty_block(number: usize, kind: u8) -> [u8; BLOCK] {
+    block(number as u16, kind, &[])
+}
+
+/// A byte other than this one.
+fn other_byte(rng: &mut Rng, old: u8) -> u8 {
+    let new = match rng.below(5) {
+        0 => old.wrapping_add(1),
+        1 => old.wrapping_sub(1),
+        2 => old ^ 1 << rng.below(8),
+        3 => rng.choose(&[0, 1, 2, 3, 7, 8, 9, 15, 31, 32, 64, 127, 128, 255]),
+        _ => rng.below(256) as u8,
+    };
+    if new == old {
+        old ^ 0x80
+    } else {
+        new
+    }
+}
+
+const LENGTH: &[(&str, BlockOp)] = &[
+    ("no bytes", |_, b| {
+        b.clear();
+        true
+    }),
+    ("cut short", |rng, b| {
+        let off = 1 + rng.below(511);
+        b.truncate(b.len() - off);
+        true
+    }),
+    ("one byte off", |rng, b| {
+        if rng.chance(1, 2) {
+            b.push(0);
+        } else {
+            b.pop();
+        }
+        true
+    }),
+    ("drawn out", |rng, b| {
+        let more = 1 + rng.below(511);
+        let fill = rng.choose(&[0, 255]);
+        b.resize(b.len() + more, fill);
+        true
+    }),
+    ("65 blocks or more", |rng, b| {
+        let total = 65 + rng.below(6);
+        while blocks(b) < total {
+            let block = empty_block(blocks(b), 6);
+            b.extend_from_slice(&block);
+        }
+        true
+    }),
+];
+
+const SUM: &[(&str, BlockOp)] = &[
+    ("a bit without its sum", |rng, b| {
+        let at = rng.below(b.len());
+        b[at] ^= 1 << rng.below(8);
+        true
+    }),
+    ("a byte without its sum", |rng, b| {
+        let at = rng.below(b.len());
+        b[at] = other_byte(rng, b[at]);
+        true
+    }),
+    ("a sum other than 1", |rng, b| {
+        let at = BLOCK * rng.below(blocks(b)) + 510;
+        let word = u16::from_le_bytes([b[at], b[at + 1]]);
+        let off = rng.choose(&[1, 2, 3, 255, 256, 32_768, 65_534, 65_535]);
+        b[at..at + 2].copy_from_slice(&word.wrapping_add(off).to_le_bytes());
+        true
+    }),
+    ("the last block's sum", |rng, b| {
+        let at = b.len() - 1 - rng.below(2);
+        b[at] = other_byte(rng, b[at]);
+        true
+    }),
+];
+
+const HEADER: &[(&str, BlockOp)] = &[
+    ("a block's number", |rng, b| {
+        let n = rng.below(blocks(b));
+        let at = BLOCK * n + rng.below(2);
+        b[at] = other_byte(rng, b[at]);
+        repair(b, n);
+        true
+    }),
+    ("two blocks changed over", |rng, b| {
+        if blocks(b) < 2 {
+            return false;
+        }
+        let x = rng.below(blocks(b) - 1);
+        let (one, two) = b[BLOCK * x..BLOCK * (x + 2)].split_at_mut(BLOCK);
+        one.swap_with_slice(two);
+        true
+    }),
+    ("no such kind", |rng, b| {
+        let n = rng.below(blocks(b));
+        b[BLOCK * n + 2] = rng.choose(&[0, 7, 8, 128, 255]);
+        repair(b, n);
+        true
+    }),
+    ("a falling kind", |rng, b| {
+        let n = rng.below(blocks(b));
+        if n == 0 || b[BLOCK * (n - 1) + 2] < 2 {
+            return false;
+        }
+        let below = b[BLOCK * (n - 1) + 2] as usize - 1;
+        b[BLOCK * n + 2] = 1 + rng.below(below) as u8;
+        repair(b, n);
+        true
+    }),
+    ("a count over 42", |rng, b| {
+        let n = rng.below(blocks(b));
+        b[BLOCK * n + 3] = rng.choose(&[43, 43, 44, 64, 128, 255]);
+        repair(b, n);
+        true
+    }),
+    ("a trailing byte", |rng, b| {
+        let n = rng.below(blocks(b));
+        let first = 4 + RECORD * b[BLOCK * n + 3] as usize;
+        let at = match rng.below(4) {
+            0 => first,
+            1 => 509,
+            2 => 508,
+            _ => first + rng.below(510 - first),
+        };
+        b[BLOCK * n + at] = 1 + rng.below(255) as u8;
+        repair(b, n);
+        true
+    }),
+    ("a count one too low", |rng, b| {
+        let n = rng.below(blocks(b));
+        let count = b[BLOCK * n + 3] as usize;
+        if count == 0 {
+            return false;
+        }
+        let at = BLOCK * n + 4 + RECORD * (count - 1);
+        if b[at..at + RECORD].iter().all(|&x| x == 0) {
+            return false;
+        }
+        b[BLOCK * n + 3] -= 1;
+        repair(b, n);
+        true
+    }),
+];
+
+const TOTAL: &[(&str, ModelOp)] = &[
+    ("33 signals or more", |rng, s| {
+        s.m.signals
+            .resize(33 + rng.below(20), SignalRecord::default());
+        true
+    }),
+    ("65 variables or more", |rng, s| {
+        s.m.variables
+            .resize(65 + rng.below(20), VariableRecord::default());
+        true
+    }),
+    ("17 processes or more", |rng, s| {
+        for _ in s.m.processes.len()..17 + rng.below(10) {
+            let first = s.m.statements.len() as u16;
+            s.m.processes.push(ProcessRecord { first, count: 1 });
+            s.m.statements.push(StatementRecord::default());
+        }
+        true
+    }),
+    ("65 drivers or more", |rng, s| {
+        s.m.drivers
+            .resize(65 + rng.below(20), DriverRecord::default());
+        true
+    }),
+    ("401 nodes or more", |rng, s| {
+        s.m.nodes.resize(
+            401 + rng.below(40),
+            NodeRecord {
+                kind: 1,
+                ..Default::default()
+            },
+        );
+        true
+    }),
+    ("201 statements or more", |rng, s| {
+        let more = 201 + rng.below(40) - s.m.statements.len();
+        s.m.statements
+            .resize(s.m.statements.len() + more, StatementRecord::default());
+        if let Some(p) = s.m.processes.last_mut() {
+            p.count += more as u16;
+        }
+        true
+    }),
+    ("no process", |_, s| {
+        s.m.processes.clear();
+        true
+    }),
+    ("no statement", |_, s| {
+        s.m.statements.clear();
+        true
+    }),
+];
+
+/// A number of an item that is not there.
+fn missing(rng: &mut Rng, total: usize, most: usize) -> u16 {
+    let n = rng.choose(&[total, total + 1, most, most - 1, most / 2]);
+    n.max(total) as u16
+}
+
+/// A value that the type does not have.
+fn outside(rng: &mut Rng, ty: u8) -> i32 {
+    match ty {
+        INTEGER => i32::MIN,
+        LOGIC => rng.choose(&[9, 10, -1, 256, 65_536, i32::MAX, i32::MIN, 0x0200_0000]),
+        _ => rng.choose(&[2, 3, -1, 256, 65_537, i32::MAX, i32::MIN]),
+    }
+}
+
+fn some<T>(rng: &mut Rng, list: &[T], fits: impl Fn(&T) -> bool) -> Option<usize> {
+    let found: Vec<usize> = (0..list.len()).filter(|&n| fits(&list[n])).collect();
+    if found.is_empty() {
+        None
+    } else {
+        Some(rng.choose(&found))
+    }
+}
+
+fn nonzero(rng: &mut Rng) -> u16 {
+    rng.choose(&[1, 2, 255, 256, 32_768, 65_535])
+}
+
+const UNNAMED: [&[usize]; 6] = [
+    &[1, 2, 3, 8, 9, 10, 11],
+    &[2, 3, 8, 9, 10, 11],
+    &[4, 5, 6, 7, 8, 9, 10, 11],
+    &[2, 3, 4, 5, 6, 7, 8, 9, 10, 11],
+    &[1, 6, 7],
+    &[1],
+];
+
+const FIELD: &[(&str, ModelOp)] = &[
+    ("an unnamed byte", |rng, s| {
+        let kind = 1 + rng.below(6);
+        let total = records(&s.m)[kind - 1].len();
+        if total == 0 {
+            return false;
+        }
+        let byte = rng.choose(UNNAMED[kind - 1]);
+        s.patches
+            .push((kind, rng.below(total), byte, 1 + rng.below(255) as u8));
+        true
+    }),
+    ("a signal's type", |rng, s| {
+        let Some(n) = some(rng, &s.m.signals, |_| true) else {
+            return false;
+        };
+        s.m.signals[n].ty = rng.choose(&[2, 3, 128, 255]);
+        true
+    }),
+    ("a signal's start", |rng, s| {
+        let Some(n) = some(rng, &s.m.signals, |_| true) else {
+            return false;
+        };
+        s.m.signals[n].start = outside(rng, s.m.signals[n].ty);
+        true
+    }),
+    ("a variable's type", |rng, s| {
+        let Some(n) = some(rng, &s.m.variables, |_| true) else {
+            return false;
+        };
+        s.m.variables[n].ty = rng.choose(&[3, 4, 128, 255]);
+        true
+    }),
+    ("a variable's process", |rng, s| {
+        let Some(n) = some(rng, &s.m.variables, |_| true) else {
+            return false;
+        };
+        s.m.variables[n].process = missing(rng, s.m.processes.len(), 255) as u8;
+        true
+    }),
+    ("a variable's start", |rng, s| {
+        let Some(n) = some(rng, &s.m.variables, |_| true) else {
+            return false;
+        };
+        s.m.variables[n].start = outside(rng, s.m.variables[n].ty);
+        true
+    }),
+    ("a process's first", |rng, s| {
+        let n = rng.below(s.m.processes.len());
+        let off = rng.choose(&[1, 65_535, 2, 256, 32_768]);
+        s.m.processes[n].first = s.m.processes[n].first.wrapping_add(off);
+        true
+    }),
+    ("a process's count", |rng, s| {
+        let n = rng.below(s.m.processes.len());
+        let off = rng.choose(&[1, 65_535, 2, 256, 32_768]);
+        s.m.processes[n].count = s.m.processes[n].count.wrapping_add(off);
+        true
+    }),
+    ("a process of no statement", |rng, s| {
+        // The spans join all the same.
+        if s.m.processes.len() >= 16 {
+            return false;
+        }
+        let n = rng.below(s.m.processes.len() + 1);
+        let first = match s.m.processes.get(n) {
+            Some(p) => p.first,
+            None => s.m.statements.len() as u16,
+        };
+        s.m.processes.insert(n, ProcessRecord { first, count: 0 });
+        true
+    }),
+    ("a driver's process", |rng, s| {
+        let Some(n) = some(rng, &s.m.drivers, |_| true) else {
+            return false;
+        };
+        s.m.drivers[n].process = missing(rng, s.m.processes.len(), 255) as u8;
+        true
+    }),
+    ("a driver's signal", |rng, s| {
+        let Some(n) = some(rng, &s.m.drivers, |_| true) else {
+            return false;
+        };
+        s.m.drivers[n].signal = missing(rng, s.m.signals.len(), 255) as u8;
+        true
+    }),
+    ("a node's kind", |rng, s| {
+        let n = rng.below(s.m.nodes.len());
+        s.m.nodes[n].kind = rng.choose(&[0, 15, 16, 128, 255]);
+        true
+    }),
+    ("a constant", |rng, s| {
+        let Some(n) = some(rng, &s.m.nodes, |n| n.kind <= 2) else {
+            return false;
+        };
+        s.m.nodes[n].k = outside(
+            rng,
+            if s.m.nodes[n].kind == 1 {
+                INTEGER
+            } else {
+                LOGIC
+            },
+        );
+        true
+    }),
+    ("a node's variable", |rng, s| {
+        let Some(n) = some(rng, &s.m.nodes, |n| n.kind == 3) else {
+            return false;
+        };
+        s.m.nodes[n].a = missing(rng, s.m.variables.len(), 65_535);
+        true
+    }),
+    ("a node's signal", |rng, s| {
+        let Some(n) = some(rng, &s.m.nodes, |n| n.kind == 4 || n.kind == 5) else {
+            return false;
+        };
+        s.m.nodes[n].a = missing(rng, s.m.signals.len(), 65_535);
+        true
+    }),
+    ("a delayed signal's delay", |rng, s| {
+        let Some(n) = some(rng, &s.m.nodes, |n| n.kind == 5) else {
+            return false;
+        };
+        s.m.nodes[n].k = rng.choose(&[32, 33, -1, 256, 65_536, i32::MIN, i32::MAX]);
+        true
+    }),
+    ("a node's unused a", |rng, s| {
+        let Some(n) = some(rng, &s.m.nodes, |n| n.kind <= 2) else {
+            return false;
+        };
+        s.m.nodes[n].a = nonzero(rng);
+        true
+    }),
+    ("a node's unused b", |rng, s| {
+        let Some(n) = some(rng, &s.m.nodes, |n| n.kind <= 6 || n.kind == 10) else {
+            return false;
+        };
+        s.m.nodes[n].b = nonzero(rng);
+        true
+    }),
+    ("a node's unused k", |rng, s| {
+        let unused = |n: &NodeRecord| n.kind == 3 || n.kind == 4 || n.kind >= 6;
+        let Some(n) = some(rng, &s.m.nodes, unused) else {
+            return false;
+        };
+        s.m.nodes[n].k = rng.choose(&[1, -1, 256, 65_536, 0x0100_0000, i32::MIN]);
+        true
+    }),
+    ("a statement's kind", |rng, s| {
+        let n = rng.below(s.m.statements.len());
+        s.m.statements[n].kind = rng.choose(&[6, 7, 128, 255]);
+        true
+    }),
+    ("an assigned variable", |rng, s| {
+        let Some(n) = some(rng, &s.m.statements, |s| s.kind == 1) else {
+            return false;
+        };
+        s.m.statements[n].a = missing(rng, s.m.variables.len(), 65_535);
+        true
+    }),
+    ("an assigned signal", |rng, s| {
+        let Some(n) = some(rng, &s.m.statements, |s| s.kind == 2) else {
+            return false;
+        };
+        s.m.statements[n].a = missing(rng, s.m.signals.len(), 65_535);
+        true
+    }),
+    ("a statement's b", |rng, s| {
+        let uses = |s: &StatementRecord| (1..=3).contains(&s.kind) || s.kind == 5;
+        let Some(n) = some(rng, &s.m.statements, uses) else {
+            return false;
+        };
+        let most = if s.m.statements[n].kind == 5 {
+            65_534
+        } else {
+            65_535
+        };
+        s.m.statements[n].b = missing(rng, s.m.nodes.len(), most);
+        true
+    }),
+    ("a statement's c", |rng, s| {
+        let uses = |s: &StatementRecord| s.kind == 2 || s.kind == 5;
+        let Some(n) = some(rng, &s.m.statements, uses) else {
+            return false;
+        };
+        let most = if s.m.statements[n].kind == 5 {
+            65_534
+        } else {
+            65_535
+        };
+        s.m.statements[n].c = missing(rng, s.m.nodes.len(), most);
+        true
+    }),
+    ("a jump out of its process", |rng, s| {
+        let jumps = |s: &StatementRecord| s.kind == 3 || s.kind == 4;
+        let Some(n) = some(rng, &s.m.statements, jumps) else {
+            return false;
+        };
+        let p = s.m.processes[process_of(&s.m, n)];
+        let total = s.m.statements.len() as u16;
+        let end = p.first + p.count;
+        let target = rng.choose(&[end, p.first.wrapping_sub(1), total, 0, total - 1, 65_535]);
+        if (p.first..end).contains(&target) {
+            return false;
+        }
+        s.m.statements[n].a = target;
+        true
+    }),
+    ("a statement's unused a", |rng, s| {
+        let Some(n) = some(rng, &s.m.statements, |s| s.kind == 0 || s.kind == 5) else {
+            return false;
+        };
+        s.m.statements[n].a = nonzero(rng);
+        true
+    }),
+    ("a statement's unused b", |rng, s| {
+        let Some(n) = some(rng, &s.m.statements, |s| s.kind == 0 || s.kind == 4) else {
+            return false;
+        };
+        s.m.statements[n].b = nonzero(rng);
+        true
+    }),
+    ("a statement's unused c", |rng, s| {
+        let unused = |s: &StatementRecord| s.kind != 2 && s.kind != 5;
+        let Some(n) = some(rng, &s.m.statements, unused) else {
+            return false;
+        };
+        s.m.statements[n].c = nonzero(rng);
+        true
+    }),
+    ("a statement's unused set", |rng, s| {
+        let Some(n) = some(rng, &s.m.statements, |s| s.kind != 5) else {
+            return false;
+        };
+        s.m.statements[n].set = 1 << rng.below(32);
+        true
+    }),
+    ("a set's signal", |rng, s| {
+        let signals = s.m.signals.len();
+        let Some(n) = some(rng, &s.m.statements, |s| s.kind == 5) else {
+            return false;
+        };
+        if signals == 32 {
+            return false;
+        }
+        let bit = if rng.chance(1, 2) {
+            signals
+        } else {
+            signals + rng.below(32 - signals)
+        };
+        s.m.statements[n].set |= 1 << bit;
+        true
+    }),
+];
+
+/// Tree sizes of an accepted model.
+fn sizes(m: &Model) -> Vec<usize> {
+    let mut list: Vec<usize> = vec![];
+    for n in &m.nodes {
+        list.push(1 + operands(n).iter().map(|&o| list[o as usize]).sum::<usize>());
+    }
+    list
+}
+
+fn not_lower(rng: &mut Rng, n: usize, total: usize) -> u16 {
+    let any = n + rng.below(total - n);
+    rng.choose(&[n, n, n + 1, total, any, 65_535]) as u16
+}
+
+const OPERAND: &[(&str, ModelOp)] = &[
+    ("an operand a", |rng, s| {
+        let Some(n) = some(rng, &s.m.nodes, |n| n.kind >= 6) else {
+            return false;
+        };
+        s.m.nodes[n].a = not_lower(rng, n, s.m.nodes.len());
+        true
+    }),
+    ("an operand b", |rng, s| {
+        let Some(n) = some(rng, &s.m.nodes, |n| n.kind >= 7 && n.kind != 10) else {
+            return false;
+        };
+        s.m.nodes[n].b = not_lower(rng, n, s.m.nodes.len());
+        true
+    }),
+    ("a tree of 65 nodes", |rng, s| {
+        // Unary nodes on top of any node.
+        let n = rng.below(s.m.nodes.len());
+        let Some(types) = node_types(&s.m) else {
+            return false;
+        };
+        let more = 65 - sizes(&s.m)[n];
+        if s.m.nodes.len() + more > 400 {
+            return false;
+        }
+        let kind = if types[n] == INTEGER { 10 } else { 6 };
+        let mut a = n as u16;
+        for _ in 0..more {
+            s.m.nodes.push(NodeRecord {
+                kind,
+                a,
+                b: 0,
+                k: 0,
+            });
+            a = s.m.nodes.len() as u16 - 1;
+        }
+        true
+    }),
+    ("a tree of repeats", |rng, s| {
+        let n = rng.below(s.m.nodes.len());
+        let Some(types) = node_types(&s.m) else {
+            return false;
+        };
+        let rounds = if rng.chance(1, 4) { 60 } else { 7 };
+        if s.m.nodes.len() + rounds > 400 {
+            return false;
+        }
+        let kind = if types[n] == INTEGER { 11 } else { 7 };
+        let mut a = n as u16;
+        for _ in 0..rounds {
+            s.m.nodes.push(NodeRecord {
+                kind,
+                a,
+                b: a,
+                k: 0,
+            });
+            a = s.m.nodes.len() as u16 - 1;
+        }
+        true
+    }),
+];
+
+/// Nodes that take operands of a wrong type when one is exchanged for a leaf.
+fn wrong_operand(rng: &mut Rng, s: &mut Subject, second: bool) -> bool {
+    let Some(types) = node_types(&s.m) else {
+        return false;
+    };
+    let takes = |n: &NodeRecord| n.kind >= 6 && (!second || (n.kind != 6 && n.kind != 10));
+    let Some(n) = some(rng, &s.m.nodes, takes) else {
+        return false;
+    };
+    let node = s.m.nodes[n];
+    let old = types[if second { node.b } else { node.a } as usize];
+    let leaves: Vec<usize> = (0..n)
+        .filter(|&l| s.m.nodes[l].kind <= 5)
+        .filter(|&l| match node.kind {
+            // One operand: the other allowed type stays allowed.
+            6 => types[l] == INTEGER,
+            _ => types[l] != old,
+        })
+        .collect();
+    if leaves.is_empty() {
+        return false;
+    }
+    let leaf = rng.choose(&leaves) as u16;
+    if second {
+        s.m.nodes[n].b = leaf;
+    } else {
+        s.m.nodes[n].a = leaf;
+    }
+    true
+}
+
+/// A node of a type other than this one.
+fn other_type(rng: &mut Rng, types: &[u8], ty: u8) -> Option<u16> {
+    some(rng, types, |&t| t != ty).map(|n| n as u16)
+}
+
+const TYPE: &[(&str, ModelOp)] = &[
+    ("an operand a of a wrong type", |rng, s| {
+        wrong_operand(rng, s, false)
+    }),
+    ("an operand b of a wrong type", |rng, s| {
+        wrong_operand(rng, s, true)
+    }),
+    ("an unused node of wrong types", |rng, s| {
+        let Some(types) = node_types(&s.m) else {
+            return false;
+        };
+        if s.m.nodes.len() >= 400 {
+            return false;
+        }
+        let sizes = sizes(&s.m);
+        let kind = 6 + rng.below(9) as u8;
+        let (x, y) = (rng.below(types.len()), rng.below(types.len()));
+        let (t, u) = (types[x], types[y]);
+        let wrong = match kind {
+            6 => t == INTEGER,
+            7..=9 => t == INTEGER || t != u,
+            10 => t != INTEGER,
+            13 => t == BOOLEAN || t != u,
+            _ => t != INTEGER || u != INTEGER,
+        };
+        let one = kind == 6 || kind == 10;
+        if !wrong || sizes[x] + if one { 0 } else { sizes[y] } > 63 {
+            return false;
+        }
+        s.m.nodes.push(NodeRecord {
+            kind,
+            a: x as u16,
+            b: if one { 0 } else { y as u16 },
+            k: 0,
+        });
+        true
+    }),
+    ("booleans compared", |rng, s| {
+        let Some(types) = node_types(&s.m) else {
+            return false;
+        };
+        let small: Vec<usize> = {
+            let sizes = sizes(&s.m);
+            (0..types.len())
+                .filter(|&n| types[n] == BOOLEAN && sizes[n] <= 31)
+                .collect()
+        };
+        if small.is_empty() || s.m.nodes.len() >= 400 {
+            return false;
+        }
+        let (a, b) = (rng.choose(&small) as u16, rng.choose(&small) as u16);
+        s.m.nodes.push(NodeRecord {
+            kind: 13,
+            a,
+            b,
+            k: 0,
+        });
+        true
+    }),
+    ("an assigned value's type", |rng, s| {
+        let Some(types) = node_types(&s.m) else {
+            return false;
+        };
+        let Some(n) = some(rng, &s.m.statements, |s| s.kind == 1 || s.kind == 2) else {
+            return false;
+        };
+        let t = s.m.statements[n];
+        let ty = match t.kind {
+            1 => s.m.variables[t.a as usize].ty,
+            _ => s.m.signals[t.a as usize].ty,
+        };
+        let Some(b) = other_type(rng, &types, ty) else {
+            return false;
+        };
+        s.m.statements[n].b = b;
+        true
+    }),
+    ("a delay's type", |rng, s| {
+        let Some(types) = node_types(&s.m) else {
+            return false;
+        };
+        let Some(n) = some(rng, &s.m.statements, |s| s.kind == 2 || s.kind == 5) else {
+            return false;
+        };
+        let Some(c) = other_type(rng, &types, INTEGER) else {
+            return false;
+        };
+        s.m.statements[n].c = c;
+        true
+    }),
+    ("a condition's type", |rng, s| {
+        let Some(types) = node_types(&s.m) else {
+            return false;
+        };
+        let Some(n) = some(rng, &s.m.statements, |s| s.kind == 3 || s.kind == 5) else {
+            return false;
+        };
+        let Some(b) = other_type(rng, &types, BOOLEAN) else {
+            return false;
+        };
+        s.m.statements[n].b = b;
+        true
+    }),
+];
+
+/// For each node the processes whose variables its tree reads.
+fn readers(m: &Model) -> Vec<u32> {
+    let mut list: Vec<u32> = vec![];
+    for n in &m.nodes {
+        let own = if n.kind == 3 {
+            1 << m.variables[n.a as usize].process
+        } else {
+            0
+        };
+        list.push(
+            operands(n)
+                .iter()
+                .fold(own, |set, &o| set | list[o as usize]),
+        );
+    }
+    list
+}
+
+/// For each variable: does a statement assign or read it?
+fn variables_used(m: &Model) -> Vec<bool> {
+    let mut used = vec![false; m.variables.len()];
+    let mut in_tree = vec![false; m.nodes.len()];
+    for s in &m.statements {
+        if s.kind == 1 {
+            used[s.a as usize] = true;
+        }
+        for root in roots(s) {
+            in_tree[root as usize] = true;
+        }
+    }
+    for n in (0..m.nodes.len()).rev() {
+        if in_tree[n] {
+            for o in operands(&m.nodes[n]) {
+                in_tree[o as usize] = true;
+            }
+            if m.nodes[n].kind == 3 {
+                used[m.nodes[n].a as usize] = true;
+            }
+        }
+    }
+    used
+}
+
+fn add_driver(m: &mut Model, process: u8, signal: u8) {
+    m.drivers.push(DriverRecord { process, signal });
+    m.drivers.sort_by_key(|d| (d.process, d.signal));
+}
+
+const OWNER: &[(&str, ModelOp)] = &[
+    ("drivers changed over", |rng, s| {
+        if s.m.drivers.len() < 2 {
+            return false;
+        }
+        let n = rng.below(s.m.drivers.len() - 1);
+        let other = if rng.chance(1, 2) {
+            n + 1
+        } else {
+            s.m.drivers.len() - 1
+        };
+        s.m.drivers.swap(n, other);
+        n != other
+    }),
+    ("a driver twice", |rng, s| {
+        if s.m.drivers.is_empty() || s.m.drivers.len() >= 64 {
+            return false;
+        }
+        let n = rng.below(s.m.drivers.len());
+        s.m.drivers.insert(n, s.m.drivers[n]);
+        true
+    }),
+    ("an integer signal of two drivers", |rng, s| {
+        let Some(n) = some(rng, &s.m.signals, |s| s.ty == INTEGER) else {
+            return false;
+        };
+        if s.m.processes.len() < 2 || s.m.drivers.len() > 62 {
+            return false;
+        }
+        let free: Vec<u8> = (0..s.m.processes.len())
+            .filter(|&p| driver_of(&s.m, p, n).is_none())
+            .map(|p| p as u8)
+            .collect();
+        let has = s.m.processes.len() - free.len();
+        for &p in free.iter().take(2 - has.min(2)) {
+            add_driver(&mut s.m, p, n as u8);
+        }
+        true
+    }),
+    ("a driver removed", |rng, s| {
+        let Some(n) = some(rng, &s.m.statements, |s| s.kind == 2) else {
+            return false;
+        };
+        let p = process_of(&s.m, n);
+        let Some(d) = driver_of(&s.m, p, s.m.statements[n].a as usize) else {
+            return false;
+        };
+        s.m.drivers.remove(d);
+        true
+    }),
+    ("a signal without a driver here", |rng, s| {
+        let Some(n) = some(rng, &s.m.statements, |s| s.kind == 2) else {
+            return false;
+        };
+        let p = process_of(&s.m, n);
+        let ty = s.m.signals[s.m.statements[n].a as usize].ty;
+        let free: Vec<usize> = (0..s.m.signals.len())
+            .filter(|&x| s.m.signals[x].ty == ty && driver_of(&s.m, p, x).is_none())
+            .collect();
+        if free.is_empty() {
+            return false;
+        }
+        s.m.statements[n].a = rng.choose(&free) as u16;
+        true
+    }),
+    ("another process's variable assigned", |rng, s| {
+        let Some(n) = some(rng, &s.m.statements, |s| s.kind == 1) else {
+            return false;
+        };
+        let v = s.m.variables[s.m.statements[n].a as usize];
+        let fits = |w: &VariableRecord| w.ty == v.ty && w.process != v.process;
+        let Some(w) = some(rng, &s.m.variables, fits) else {
+            return false;
+        };
+        s.m.statements[n].a = w as u16;
+        true
+    }),
+    ("another process's variable read", |rng, s| {
+        let Some(types) = node_types(&s.m) else {
+            return false;
+        };
+        let readers = readers(&s.m);
+        let uses = |s: &StatementRecord| !roots(s).is_empty();
+        let Some(n) = some(rng, &s.m.statements, uses) else {
+            return false;
+        };
+        let own = 1u32 << process_of(&s.m, n);
+        let t = s.m.statements[n];
+        let second = t.kind == 2 && rng.chance(1, 2)
+            || t.kind == 5 && t.b == ABSENT
+            || t.kind == 5 && t.c != ABSENT && rng.chance(1, 2);
+        let old = if second { t.c } else { t.b };
+        let fits: Vec<usize> = (0..types.len())
+            .filter(|&x| types[x] == types[old as usize] && readers[x] & !own != 0)
+            .collect();
+        if fits.is_empty() {
+            return false;
+        }
+        let new = rng.choose(&fits) as u16;
+        if second {
+            s.m.statements[n].c = new;
+        } else {
+            s.m.statements[n].b = new;
+        }
+        true
+    }),
+    ("a used variable moved", |rng, s| {
+        if s.m.processes.len() < 2 {
+            return false;
+        }
+        let used = variables_used(&s.m);
+        let Some(v) = some(rng, &used, |&u| u) else {
+            return false;
+        };
+        let others: Vec<u8> = (0..s.m.processes.len() as u8)
+            .filter(|&p| p != s.m.variables[v].process)
+            .collect();
+        s.m.variables[v].process = rng.choose(&others);
+        true
+    }),
+];
+
+fn model_ops(rule: u32) -> &'static [(&'static str, ModelOp)] {
+    match rule {
+        4 => TOTAL,
+        5 => FIELD,
+        6 => OPERAND,
+        7 => TYPE,
+        _ => OWNER,
+    }
+}
+
+fn block_ops(rule: u32) -> &'static [(&'static str, BlockOp)] {
+    match rule {
+        1 => LENGTH,
+        2 => SUM,
+        _ => HEADER,
+    }
+}
+
+fn subject(rng: &mut Rng) -> Subject {
+    Subject {
+        m: gen::model(rng),
+        patches: vec![],
+    }
+}
+
+fn damage_model(rng: &mut Rng, s: &mut Subject, rule: u32) -> Option<&'static str> {
+    for _ in 0..20 {
+        let (name, op) = rng.choose(model_ops(rule));
+        if op(rng, s) {
+            return Some(name);
+        }
+    }
+    None
+}
+
+fn damage_blocks(rng: &mut Rng, bytes: &mut Vec<u8>, rule: u32) -> &'static str {
+    loop {
+        let (name, op) = rng.choose(block_ops(rule));
+        if op(rng, bytes) {
+            return name;
+        }
+    }
+}
+
+/// A model damaged in that rule alone, and how.
+pub fn damaged(rng: &mut Rng, rule: u32) -> (&'static str, Vec<u8>) {
+    loop {
+        let mut s = subject(rng);
+        if rule <= 3 {
+            let mut bytes = s.bytes(rng);
+            let name = damage_blocks(rng, &mut bytes, rule);
+            return (name, bytes);
+        }
+        if let Some(name) = damage_model(rng, &mut s, rule) {
+            return (name, s.bytes(rng));
+        }
+    }
+}
+
+/// A model damaged in two rules: the lower one, how, and the bytes.
+pub fn twice(rng: &mut Rng) -> (u32, &'static str, Vec<u8>) {
+    loop {
+        let high = rng.range(2, 8) as u32;
+        let low = rng.range(1, high as i64 - 1) as u32;
+        let mut s = subject(rng);
+        if high >= 4 && damage_model(rng, &mut s, high).is_none() {
+            continue;
+        }
+        if low >= 4 && damage_model(rng, &mut s, low).is_none() {
+            continue;
+        }
+        let mut bytes = s.bytes(rng);
+        if high <= 3 {
+            damage_blocks(rng, &mut bytes, high);
+        }
+        if low <= 3 {
+            damage_blocks(rng, &mut bytes, low);
+        }
+        return (low, "two rules", bytes);
+    }
+}
+
+/// A record kind and a byte of its records.
+pub type Place = (u8, usize);
+
+/// An accepted model with one byte changed, sums mostly repaired.
+pub fn byte(rng: &mut Rng) -> (Option<Place>, &'static str, Vec<u8>) {
+    loop {
+        let s = subject(rng);
+        let mut bytes = s.bytes(rng);
+        if rng.chance(1, 10) {
+            // Any byte of a block, its header and its end above all.
+            let n = rng.below(blocks(&bytes));
+            let at = match rng.below(3) {
+                0 => rng.below(4),
+                1 => 506 + rng.below(6),
+                _ => rng.below(BLOCK),
+            };
+            bytes[BLOCK * n + at] = other_byte(rng, bytes[BLOCK * n + at]);
+            if rng.chance(3, 4) && at < 510 {
+                repair(&mut bytes, n);
+            }
+            return (None, "a block's byte", bytes);
+        }
+        let kind = 1 + rng.below(6) as u8;
+        let places: Vec<(usize, usize)> = (0..blocks(&bytes))
+            .filter(|&n| bytes[BLOCK * n + 2] == kind)
+            .flat_map(|n| (0..bytes[BLOCK * n + 3] as usize).map(move |r| (n, r)))
+            .collect();
+        if places.is_empty() {
+            continue;
+        }
+        let (n, r) = rng.choose(&places);
+        let byte = rng.below(RECORD);
+        let at = BLOCK * n + 4 + RECORD * r + byte;
+        bytes[at] = other_byte(rng, bytes[at]);
+        repair(&mut bytes, n);
+        return (Some((kind, byte)), "a record's byte", bytes);
+    }
+}
+
+/// Two signals, three variables and two processes, each record kind used.
+fn small() -> Builder {
+    let mut b = Builder::new();
+    b.signal(INTEGER, 0);
+    b.signal(LOGIC, 2);
+    b.variable(INTEGER, 0, 0);
+    b.variable(LOGIC, 0, 2);
+    b.variable(BOOLEAN, 1, 0);
+    b.integer(1); // 0
+    b.logic(3); // 1
+    b.read_variable(0); // 2
+    b.read_variable(2); // 3
+    b.delayed(1, 0); // 4
+    b.binary(11, 0, 2); // 5
+    b.binary(13, 1, 4); // 6
+    b.process();
+    b.assign(0, 5);
+    b.schedule(0, 2, 0);
+    b.unless(6, 0);
+    b.wait(3, 6, 0);
+    b.process();
+    b.assign(2, 3);
+    b.go(4);
+    b.wait(0, ABSENT, ABSENT);
+    b.driver(0, 0);
+    b.driver(0, 1);
+    b.driver(1, 1);
+    b
+}
+
+/// Models on both sides of each limit: name, bytes, number.
+pub fn limits() -> Vec<(String, Vec<u8>, u32)> {
+    let mut list: Vec<(String, Vec<u8>, u32)> = vec![];
+    let mut add = |name: String, bytes: Vec<u8>, number: u32| list.push((name, bytes, number));
+    let model = |change: &dyn Fn(&mut Builder)| {
+        let mut b = small();
+        change(&mut b);
+        b.encode()
+    };
+    let accepted = model(&|_| ());
+    add("small model".into(), accepted.clone(), 0);
+
+    // Lengths.
+    for length in [
+        0, 1, 2, 511, 513, 1_023, 1_025, 32_767, 32_769, 33_279, 33_280, 65_536,
+    ] {
+        add(format!("{length} zero bytes"), vec![0; length], 1);
+        let mut bytes = accepted.clone();
+        bytes.resize(length, 0);
+        add(format!("small model resized to {length}"), bytes, 1);
+    }
+    for length in [512, 1_024, 32_768] {
+        add(format!("{length} zero bytes"), vec![0; length], 2);
+    }
+    for total in [6, 7, 63, 64, 65, 66] {
+        for kind in 1..=6 {
+            let m = small().m;
+            let mut plan = full_plan(&m);
+            plan[kind - 1].splice(0..0, vec![0; total - 6]);
+            let number = if total > 64 { 1 } else { 0 };
+            add(
+                format!("{total} blocks, empty ones of kind {kind}"),
+                encode_with(&m, &plan),
+                number,
+            );
+        }
+    }
+
+    // Sums.
+    for off in [1u16, 2, 256, 32_768, 65_535] {
+        for n in 0..blocks(&accepted) {
+            let mut bytes = accepted.clone();
+            let at = BLOCK * n + 510;
+            let word = u16::from_le_bytes([bytes[at], bytes[at + 1]]).wrapping_add(off);
+            bytes[at..at + 2].copy_from_slice(&word.to_le_bytes());
+            add(format!("sum of block {n} off by {off}"), bytes, 2);
+        }
+    }
+
+    // Headers.
+    let mut lone = vec![0; BLOCK];
+    repair(&mut lone, 0);
+    add("a block of nothing but its sum".into(), lone, 3);
+    let empty: Vec<u8> = (1..=6)
+        .flat_map(|k| empty_block(k as usize - 1, k))
+        .collect();
+    add("six empty blocks".into(), empty, 4);
+    for (at, values) in [
+        (0usize, &[1u8, 6, 64, 255][..]),
+        (1, &[1, 128]),
+        (2, &[0, 7, 128, 255]),
+        (3, &[43, 44, 255]),
+        (507, &[1]),
+        (508, &[1, 255]),
+        (509, &[1, 255]),
+    ] {
+        for &value in values {
+            for n in 0..blocks(&accepted) {
+                if at == 0 && value as usize == n {
+                    continue;
+                }
+                let mut bytes = accepted.clone();
+                bytes[BLOCK * n + at] = value;
+                repair(&mut bytes, n);
+                add(format!("block {n} byte {at} is {value}"), bytes, 3);
+            }
+        }
+    }
+    for records in [41, 42, 43, 84, 85] {
+        let m = model(&|b| {
+            b.m.nodes.resize(records, b.m.nodes[0]);
+        });
+        add(format!("{records} nodes"), m, 0);
+    }
+    let mut bytes = model(&|b| b.m.nodes.resize(42, b.m.nodes[0]));
+    bytes[BLOCK * 4 + 3] = 43;
+    repair(&mut bytes, 4);
+    add("43 records in a block".into(), bytes, 3);
+    let mut bytes = model(&|b| b.m.nodes.resize(42, b.m.nodes[0]));
+    bytes[BLOCK * 4 + 508] = 1;
+    repair(&mut bytes, 4);
+    add("42 records and a byte after them".into(), bytes, 3);
+
+    // Totals.
+    for n in [0, 31, 32, 33] {
+        let number = if n > 32 { 4 } else { 0 };
+        let mut b = Builder::new();
+        for x in 0..n {
+            b.signal((x % 2) as u8, 0);
+        }
+        b.process();
+        let all = if n == 0 {
+            0
+        } else {
+            u32::MAX >> (32 - n.min(32))
+        };
+        b.wait(all, ABSENT, ABSENT);
+        add(format!("{n} signals"), b.encode(), number);
+    }
+    for n in [0, 63, 64, 65] {
+        let number = if n > 64 { 4 } else { 0 };
+        let mut b = Builder::new();
+        for x in 0..n {
+            b.variable((x % 3) as u8, 0, 0);
+        }
+        b.process();
+        b.null();
+        add(format!("{n} variables"), b.encode(), number);
+    }
+    for n in [0, 1, 15, 16, 17] {
+        let number = if n == 0 || n > 16 { 4 } else { 0 };
+        let mut b = Builder::new();
+        for _ in 0..n {
+            b.process();
+            b.null();
+        }
+        if n == 0 {
+            b.m.statements.push(StatementRecord::default());
+        }
+        add(format!("{n} processes"), b.encode(), number);
+    }
+    for n in [0, 63, 64, 65] {
+        let number = if n > 64 { 4 } else { 0 };
+        let mut b = Builder::new();
+        for _ in 0..32 {
+            b.signal(LOGIC, 4);
+        }
+        for p in 0..3 {
+            b.process();
+            b.null();
+            for s in 0..32 {
+                b.driver(p, s);
+            }
+        }
+        b.m.drivers.truncate(n);
+        add(format!("{n} drivers"), b.encode(), number);
+    }
+    for n in [0, 399, 400, 401] {
+        let number = if n > 400 { 4 } else { 0 };
+        let mut b = Builder::new();
+        b.process();
+        b.null();
+        for k in 0..n {
+            b.integer(k);
+        }
+        add(format!("{n} nodes alone"), b.encode(), number);
+    }
+    for n in [0, 1, 199, 200, 201] {
+        let number = if n == 0 || n > 200 { 4 } else { 0 };
+        let mut b = Builder::new();
+        b.process();
+        for _ in 0..n {
+            b.null();
+        }
+        add(format!("{n} statements"), b.encode(), number);
+    }
+
+    // Field values.
+    for (start, number) in [(TOP, 0), (-TOP, 0), (i32::MIN, 5)] {
+        add(
+            format!("integer signal starts at {start}"),
+            model(&|b| b.m.signals[0].start = start),
+            number,
+        );
+        add(
+            format!("integer variable starts at {start}"),
+            model(&|b| b.m.variables[0].start = start),
+            number,
+        );
+        add(
+            format!("integer constant {start}"),
+            model(&|b| b.m.nodes[0].k = start),
+            number,
+        );
+    }
+    for (start, number) in [(0, 0), (8, 0), (9, 5), (-1, 5), (256, 5), (i32::MIN, 5)] {
+        add(
+            format!("logic signal starts at {start}"),
+            model(&|b| b.m.signals[1].start = start),
+            number,
+        );
+        add(
+            format!("logic variable starts at {start}"),
+            model(&|b| b.m.variables[1].start = start),
+            number,
+        );
+        add(
+            format!("logic constant {start}"),
+            model(&|b| b.m.nodes[1].k = start),
+            number,
+        );
+    }
+    for (start, number) in [(0, 0), (1, 0), (2, 5), (-1, 5), (256, 5)] {
+        add(
+            format!("boolean variable starts at {start}"),
+            model(&|b| b.m.variables[2].start = start),
+            number,
+        );
+    }
+    for (k, number) in [(0, 0), (1, 0), (31, 0), (32, 5), (-1, 5)] {
+        add(
+            format!("signal delayed by {k}"),
+            model(&|b| b.m.nodes[4].k = k),
+            number,
+        );
+    }
+    add(
+        "a boolean signal".into(),
+        model(&|b| b.m.signals[0].ty = 2),
+        5,
+    );
+    add(
+        "variable type 3".into(),
+        model(&|b| b.m.variables[2].ty = 3),
+        5,
+    );
+    for (process, number) in [(1, 0), (2, 5), (255, 5)] {
+        add(
+            format!("an idle variable of process {process}"),
+            model(&|b| b.m.variables[1].process = process),
+            number,
+        );
+        add(
+            format!("last driver of process {process}"),
+            model(&|b| b.m.drivers[2].process = process),
+            number,
+        );
+    }
+    for (signal, number) in [(1, 0), (2, 5), (32, 5), (255, 5)] {
+        add(
+            format!("last driver of signal {signal}"),
+            model(&|b| b.m.drivers[2].signal = signal),
+            number,
+        );
+    }
+    for (kind, number) in [(0, 5), (15, 5), (255, 5)] {
+        add(
+            format!("node kind {kind}"),
+            model(&|b| b.m.nodes[0].kind = kind),
+            number,
+        );
+    }
+    add(
+        "statement kind 6".into(),
+        model(&|b| b.m.statements[0].kind = 6),
+        5,
+    );
+    for (set, number) in [
+        (0, 0),
+        (1, 0),
+        (3, 0),
+        (4, 5),
+        (7, 5),
+        (1 << 31, 5),
+        (u32::MAX, 5),
+    ] {
+        add(
+            format!("a wait on set {set}"),
+            model(&|b| b.m.statements[3].set = set),
+            number,
+        );
+    }
+    for (node, number) in [(6, 0), (7, 5), (65_534, 5), (65_535, 0)] {
+        add(
+            format!("a wait until node {node}"),
+            model(&|b| b.m.statements[3].b = node),
+            number,
+        );
+    }
+    for (node, number) in [(5, 0), (7, 5), (65_534, 5), (65_535, 0)] {
+        add(
+            format!("a wait for node {node}"),
+            model(&|b| b.m.statements[3].c = node),
+            number,
+        );
+    }
+    for (node, number) in [(5, 0), (7, 5), (65_534, 5), (65_535, 5)] {
+        add(
+            format!("an assignment of node {node}"),
+            model(&|b| b.m.statements[0].b = node),
+            number,
+        );
+        add(
+            format!("a transaction of node {node}"),
+            model(&|b| b.m.statements[1].b = node),
+            number,
+        );
+        add(
+            format!("a transaction after node {node}"),
+            model(&|b| b.m.statements[1].c = node),
+            number,
+        );
+    }
+    add(
+        "unless without a condition".into(),
+        model(&|b| b.m.statements[2].b = ABSENT),
+        5,
+    );
+    for (target, number) in [(0, 0), (2, 0), (3, 0), (4, 5), (6, 5), (7, 5), (65_535, 5)] {
+        add(
+            format!("process 0 jumps to {target}"),
+            model(&|b| b.m.statements[2].a = target),
+            number,
+        );
+    }
+    for (target, number) in [(0, 5), (3, 5), (4, 0), (6, 0), (7, 5), (65_535, 5)] {
+        add(
+            format!("process 1 jumps to {target}"),
+            model(&|b| b.m.statements[5].a = target),
+            number,
+        );
+    }
+
+    // Spans.
+    for (first, count, number) in [
+        (4, 3, 0),
+        (3, 3, 5),
+        (3, 4, 5),
+        (5, 3, 5),
+        (5, 2, 5),
+        (4, 2, 5),
+        (4, 4, 5),
+        (4, 0, 5),
+    ] {
+        add(
+            format!("process 1 from {first} with {count}"),
+            model(&|b| b.m.processes[1] = ProcessRecord { first, count }),
+            number,
+        );
+    }
+    for (first, count, number) in [
+        (0, 4, 0),
+        (0, 3, 5),
+        (0, 5, 5),
+        (1, 3, 5),
+        (0, 0, 5),
+        (0, 65_535, 5),
+    ] {
+        add(
+            format!("process 0 from {first} with {count}"),
+            model(&|b| b.m.processes[0] = ProcessRecord { first, count }),
+            number,
+        );
+    }
+    // Spans whose 16-bit sums would come round to the right places.
+    add(
+        "spans that meet modulo 65,536".into(),
+        model(&|b| {
+            b.m.processes = vec![
+                ProcessRecord {
+                    first: 0,
+                    count: 65_535,
+                },
+                ProcessRecord {
+                    first: 65_535,
+                    count: 8,
+                },
+            ]
+        }),
+        5,
+    );
+
+    // Operands and trees.
+    for (operand, number) in [(4, 7), (5, 6), (6, 6), (7, 6), (65_535, 6)] {
+        add(
+            format!("node 5 over operand {operand}"),
+            model(&|b| b.m.nodes[5].b = operand),
+            number,
+        );
+    }
+    for size in [63, 64, 65, 66] {
+        let number = if size > 64 { 6 } else { 0 };
+        for used in [true, false] {
+            let grow = |b: &mut Builder| {
+                let mut n = 0;
+                for _ in 1..size {
+                    n = b.unary(10, n);
+                }
+                if used {
+                    b.m.statements[0].b = n;
+                }
+            };
+            add(
+                format!("a chain of {size}, used: {used}"),
+                model(&grow),
+                number,
+            );
+            let grow = |b: &mut Builder| {
+                let mut n = 0;
+                for _ in 0..5 {
+                    n = b.binary(11, n, n);
+                }
+                for _ in 63..size {
+                    n = b.unary(10, n);
+                }
+                if used {
+                    b.m.statements[1].b = n;
+                }
+            };
+            add(
+                format!("a tree of {size} with repeats, used: {used}"),
+                model(&grow),
+                number,
+            );
+        }
+    }
+    let grow = |b: &mut Builder| {
+        let mut n = 0;
+        for _ in 0..390 {
+            n = b.binary(11, n, n);
+        }
+    };
+    add("repeats without end".into(), model(&grow), 6);
+
+    // Types of every node kind over every pair of types.
+    for kind in 6..=14u8 {
+        for (ta, a) in [(INTEGER, 0u16), (LOGIC, 1), (BOOLEAN, 3)] {
+            for (tb, b) in [(INTEGER, 0u16), (LOGIC, 1), (BOOLEAN, 3)] {
+                let one = kind == 6 || kind == 10;
+                if one && ta != tb {
+                    continue;
+                }
+                let right = match kind {
+                    6 => ta != INTEGER,
+                    7..=9 => ta == tb && ta != INTEGER,
+                    10 => ta == INTEGER,
+                    13 => ta == tb && ta != BOOLEAN,
+                    _ => ta == INTEGER && tb == INTEGER,
+                };
+                add(
+                    format!("node kind {kind} over types {ta} and {tb}"),
+                    model(&|m| {
+                        m.node(kind, a, if one { 0 } else { b }, 0);
+                    }),
+                    if right { 0 } else { 7 },
+                );
+            }
+        }
+    }
+
+    // Drivers and variables.
+    add("a driver twice".into(), model(&|b| b.driver(1, 1)), 8);
+    add(
+        "a second driver of an integer signal".into(),
+        model(&|b| b.m.drivers[2].signal = 0),
+        8,
+    );
+    add("no drivers".into(), model(&|b| b.m.drivers.clear()), 8);
+    add(
+        "a variable of the other process".into(),
+        model(&|b| b.m.variables[0].process = 1),
+        8,
+    );
+    add(
+        "an unused node over a variable of the other process".into(),
+        model(&|b| {
+            b.unary(6, 3);
+        }),
+        0,
+    );
+    add(
+        "a skipped part over a variable of the other process".into(),
+        model(&|b| {
+            let truth = b.binary(13, 0, 0);
+            let either = b.binary(8, truth, 3);
+            b.m.statements[2].b = either;
+        }),
+        8,
+    );
+    list
+}
+
+const TOP: i32 = 2_147_483_647;
+
+#[cfg(test)]
+mod tests {
+    use super::*;
+
+    #[test]
+    fn limits_come_out_as_said() {
+        for (name, bytes, number) in limits() {
+            assert_eq!(judge(&bytes), number, "{name}");
+        }
+    }
+
+    #[test]
+    fn generated_models_are_accepted() {
+        for seed in 0..3_000 {
+            let mut rng = Rng::new(seed);
+            let m = gen::model(&mut rng);
+            let plan = gen::plan(&mut rng, &m);
+            let bytes = encode_with(&m, &plan);
+            assert_eq!(load(&bytes).as_ref(), Ok(&m), "seed {seed}");
+        }
+    }
+
+    #[test]
+    fn every_damage_comes_out_as_made() {
+        let mut seen = std::collections::BTreeSet::new();
+        for rule in 1..=8 {
+            for seed in 0..4_000 {
+                let mut rng = Rng::new(seed);
+                let (name, bytes) = damaged(&mut rng, rule);
+                assert_eq!(judge(&bytes), rule, "{name}, seed {seed}");
+                seen.insert((rule, name));
+            }
+        }
+        let ops = LENGTH.len() + SUM.len() + HEADER.len();
+        let ops = ops + TOTAL.len() + FIELD.len() + OPERAND.len() + TYPE.len() + OWNER.len();
+        assert_eq!(seen.len(), ops);
+        for seed in 0..4_000 {
+            let (rule, _, bytes) = twice(&mut Rng::new(seed));
+            assert_eq!(judge(&bytes), rule, "two rules, seed {seed}");
+        }
+    }
+}

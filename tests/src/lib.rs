@@ -1,0 +1,18 @@
+//! A second delta-cycle kernel, written from the paper alone, to be held
+//! against the proved one.
+
+pub mod builder;
+pub mod cases;
+pub mod cycle;
+pub mod damage;
+pub mod dump;
+pub mod gen;
+pub mod model;
+pub mod rng;
+pub mod session;
+pub mod tally;
+pub mod values;
+pub mod vhdl;
+
+#[cfg(test)]
+mod bench;

@@ -1,0 +1,433 @@
+//! Runs generated cases through this kernel and, where given, another one;
+//! counts what came out and tells the first difference.
+
+use crate::cases;
+use crate::cycle::Config;
+use crate::damage;
+use crate::dump::{dump, DUMP};
+use crate::gen;
+use crate::model::{judge, load, ABSENT};
+use crate::session::session;
+use std::collections::BTreeMap;
+
+/// Another kernel's judge: the number of a model.
+pub type Judge<'a> = &'a dyn Fn(&[u8]) -> u32;
+/// Another kernel's session: model, orders, answers and dump to its number.
+pub type Session<'a> = &'a dyn Fn(&[u8], &[u8], &mut [u8], &mut [u8]) -> u32;
+
+#[derive(Default)]
+pub struct ModelTally {
+    pub cases: u64,
+    /// Cases by number, 0 the accepted ones.
+    pub numbers: [u64; 9],
+    /// Damaged bytes by record kind and byte.
+    pub bytes: [[u64; 12]; 6],
+    /// Numbers by the way a case was made.
+    pub ways: BTreeMap<&'static str, [u64; 9]>,
+    /// Cases made to be accepted, and those that were.
+    pub made: u64,
+    pub made_accepted: u64,
+}
+
+/// Judges `n` cases from seed `seed` on; case i has the seed `seed + i`.
+pub fn models(n: u64, seed: u64, other: Option<Judge>) -> Result<ModelTally, String> {
+    let mut t = ModelTally::default();
+    for i in 0..n {
+        let seed = seed.wrapping_add(i);
+        let case = gen::model_case(seed);
+        let number = judge(&case.bytes);
+        if let Some(other) = other {
+            let theirs = other(&case.bytes);
+            if theirs != number {
+                return Err(format!(
+                    "models: first difference at seed {seed} ({}): second kernel {number}, proved kernel {theirs}",
+                    case.what
+                ));
+            }
+        }
+        if case.expected.is_some_and(|e| e != number) {
+            return Err(format!(
+                "models: seed {seed} ({}) was made for number {}, but is judged {number}",
+                case.what,
+                case.expected.unwrap_or(0)
+            ));
+        }
+        t.cases += 1;
+        t.numbers[number as usize] += 1;
+        t.ways.entry(case.what).or_default()[number as usize] += 1;
+        if let Some((kind, byte)) = case.byte {
+            t.bytes[kind as usize - 1][byte] += 1;
+        }
+        if case.expected == Some(0) {
+            t.made += 1;
+            t.made_accepted += (number == 0) as u64;
+        }
+    }
+    Ok(t)
+}
+
+impl ModelTally {
+    pub fn print(&self) {
+        println!("judged {} models", self.cases);
+        println!("number      cases");
+        for (number, count) in self.numbers.iter().enumerate() {
+            println!("{number:6} {count:10}");
+        }
+        println!(
+            "made to be accepted {}, accepted {}",
+            self.made, self.made_accepted
+        );
+        println!("damaged bytes, record kinds 1 to 6 by bytes 0 to 11");
+        for (kind, row) in self.bytes.iter().enumerate() {
+            let row: Vec<String> = row.iter().map(|n| format!("{n:6}")).collect();
+            println!("{:4} {}", kind + 1, row.join(""));
+        }
+        println!("{:44} numbers 0 to 8", "how it was made");
+        for (way, row) in &self.ways {
+            let row: Vec<String> = row.iter().map(|n| format!("{n:7}")).collect();
+            println!("{way:44}{}", row.join(""));
+        }
+    }
+}
+
+/// Counts of the limit cases.
+#[derive(Default)]
+pub struct LimitTally {
+    /// Judged models and played sessions by number.
+    pub models: [u64; 9],
+    pub sessions: [u64; 11],
+}
+
+impl LimitTally {
+    pub fn print(&self) {
+        println!("limit models by number 0 to 8: {:?}", self.models);
+        println!(
+            "bench and limit sessions by number 0 to 10: {:?}",
+            self.sessions
+        );
+    }
+}
+
+/// Judges the limit models and plays the bench cases.
+pub fn limits(other: Option<(Judge, Session)>) -> Result<LimitTally, String> {
+    let mut t = LimitTally::default();
+    for (name, bytes, expected) in damage::limits() {
+        let number = judge(&bytes);
+        if number != expected {
+            return Err(format!("limits: `{name}` is {number}, not {expected}"));
+        }
+        if let Some((other, _)) = other {
+            let theirs = other(&bytes);
+            if theirs != number {
+                return Err(format!(
+                    "limits: first difference at `{name}`: second kernel {number}, proved kernel {theirs}"
+                ));
+            }
+        }
+        t.models[number as usize] += 1;
+    }
+    for case in cases::sessions() {
+        let (number, _) = play(
+            &case.model,
+            &case.orders,
+            case.room,
+            0xA5,
+            other.map(|o| o.1),
+        )
+        .map_err(|found| format!("limits: first difference at `{}`: {found}", case.name))?;
+        t.sessions[number as usize] += 1;
+    }
+    Ok(t)
+}
+
+/// What this kernel made of a session.
+type Played = (u32, (Vec<u8>, Config));
+
+/// Plays a session here and in the other kernel, with answer buffers full of
+/// `blank`; Err is the difference.
+fn play(
+    model: &[u8],
+    orders: &[u8],
+    room: usize,
+    blank: u8,
+    other: Option<Session>,
+) -> Result<Played, String> {
+    let mut answers = vec![blank; room];
+    let (number, config) = session(model, orders, &mut answers);
+    if let Some(other) = other {
+        let mut their_answers = vec![blank; room];
+        let mut their_dump = vec![!blank; DUMP];
+        let theirs = other(model, orders, &mut their_answers, &mut their_dump);
+        let found = difference(
+            (number, &answers, &dump(&config)),
+            (theirs, &their_answers, &their_dump),
+            orders,
+        );
+        if let Some(found) = found {
+            return Err(found);
+        }
+    }
+    Ok((number, (answers, config)))
+}
+
+#[derive(Default)]
+pub struct SessionTally {
+    pub sessions: u64,
+    pub orders: u64,
+    pub picks: u64,
+    /// Sessions by number.
+    pub numbers: [u64; 11],
+    /// Refusals 11 to 19 by answers and by sessions.
+    pub answers: [u64; 20],
+    pub refused: [u64; 20],
+    /// Faults 1 to 3 by processes and by sessions.
+    pub faults: [u64; 4],
+    pub faulted: [u64; 4],
+    /// Faults in a wait's condition.
+    pub until: u64,
+    /// Done orders: picks by new standing, settles by byte 1, delta steps,
+    /// time steps, reads.
+    pub done_picks: [u64; 3],
+    pub settles: [u64; 2],
+    pub steps: [u64; 3],
+    pub reads: u64,
+    /// End configurations: drivers by pending transactions.
+    pub pending: [u64; 9],
+    /// Signals whose past is not all alike.
+    pub varied: u64,
+    /// Sessions by time steps: none, 1, 2 to 4, 5 to 9, 10 to 29, more.
+    pub depth: [u64; 6],
+    pub ways: BTreeMap<&'static str, u64>,
+}
+
+/// Plays `n` sessions from seed `seed` on; session i has the seed `seed + i`.
+pub fn sessions(n: u64, seed: u64, other: Option<Session>) -> Result<SessionTally, String> {
+    let mut t = SessionTally::default();
+    for i in 0..n {
+        let seed = seed.wrapping_add(i);
+        let case = gen::session_case(seed);
+        // Bytes that a refused session must leave alone.
+        let blank = 0xA5 ^ seed as u8;
+        let (number, (answers, config)) = play(&case.model, &case.orders, case.room, blank, other)
+            .map_err(|found| {
+                format!(
+                    "sessions: first difference at seed {seed} ({}): {found}",
+                    case.what
+                )
+            })?;
+        *t.ways.entry(case.what).or_default() += 1;
+        t.count(&case, number, &answers, &config);
+    }
+    Ok(t)
+}
+
+/// What a byte of a dump belongs to.
+fn part(at: usize) -> String {
+    match at {
+        0..=7 => "time".into(),
+        8..=11 => "delta count".into(),
+        12..=15 => "totals".into(),
+        16..=4_111 => {
+            let at = at - 16;
+            format!("signal {}, {} units ago", at / 128, at % 128 / 4)
+        }
+        4_112..=4_367 => format!("variable {}", (at - 4_112) / 4),
+        4_368..=11_023 => format!("driver {}, byte {}", (at - 4_368) / 104, (at - 4_368) % 104),
+        _ => format!(
+            "process {}, byte {}",
+            (at - 11_024) / 16,
+            (at - 11_024) % 16
+        ),
+    }
+}
+
+type Outcome<'a> = (u32, &'a [u8], &'a [u8]);
+
+fn difference(ours: Outcome, theirs: Outcome, orders: &[u8]) -> Option<String> {
+    if ours.0 != theirs.0 {
+        return Some(format!(
+            "number: second kernel {}, proved kernel {}",
+            ours.0, theirs.0
+        ));
+    }
+    if let Some(at) = (0..ours.1.len()).find(|&n| ours.1[n] != theirs.1[n]) {
+        let n = at / 16;
+        let end = (16 * n + 16).min(ours.1.len());
+        return Some(format!(
+            "answer {n} to order {:?}: second kernel {:?}, proved kernel {:?}",
+            orders.get(4 * n..4 * n + 4),
+            &ours.1[16 * n..end],
+            &theirs.1[16 * n..end],
+        ));
+    }
+    let at = (0..DUMP).find(|&n| ours.2[n] != theirs.2[n])?;
+    Some(format!(
+        "end configuration, byte {at} ({}): second kernel {}, proved kernel {}",
+        part(at),
+        ours.2[at],
+        theirs.2[at]
+    ))
+}
+
+impl SessionTally {
+    fn count(&mut self, case: &gen::SessionCase, number: u32, answers: &[u8], config: &Config) {
+        self.sessions += 1;
+        self.numbers[number as usize] += 1;
+        if number != 0 {
+            return;
+        }
+        let mut refused = [false; 20];
+        let before = self.steps[2];
+        for (order, answer) in case.orders.chunks_exact(4).zip(answers.chunks_exact(16)) {
+            self.orders += 1;
+            self.picks += u16::from_le_bytes([answer[2], answer[3]]) as u64;
+            if answer[0] != 0 {
+                self.answers[answer[0] as usize] += 1;
+                refused[answer[0] as usize] = true;
+                continue;
+            }
+            match order[0] {
+                1 => self.done_picks[answer[1] as usize] += 1,
+                2 => self.steps[answer[1] as usize] += 1,
+                3 => self.settles[answer[1] as usize] += 1,
+                _ => self.reads += 1,
+            }
+        }
+        for n in 0..20 {
+            self.refused[n] += refused[n] as u64;
+        }
+        let depth = match self.steps[2] - before {
+            0 => 0,
+            1 => 1,
+            2..=4 => 2,
+            5..=9 => 3,
+            10..=29 => 4,
+            _ => 5,
+        };
+        self.depth[depth] += 1;
+        let m = load(&case.model).expect("a played model is accepted");
+        let mut faulted = [false; 4];
+        for p in config.processes.iter().filter(|p| p.fault != 0) {
+            self.faults[p.fault as usize] += 1;
+            faulted[p.fault as usize] = true;
+            let s = &m.statements[p.place as usize];
+            let waited = p.deadline.is_some() || s.c == ABSENT;
+            self.until += (s.kind == 5 && p.fault == 1 && waited) as u64;
+        }
+        for n in 0..4 {
+            self.faulted[n] += faulted[n] as u64;
+        }
+        for d in &config.drivers {
+            self.pending[d.wave.len()] += 1;
+        }
+        let varied = |s: &&[i32; 32]| s[1..].iter().any(|&v| v != s[1]);
+        self.varied += config.signals.iter().filter(varied).count() as u64;
+    }
+
+    pub fn print(&self) {
+        println!(
+            "played {} sessions, {} orders, {} picks",
+            self.sessions, self.orders, self.picks
+        );
+        println!("session number    sessions");
+        for (number, count) in self.numbers.iter().enumerate() {
+            println!("{number:14} {count:11}");
+        }
+        println!("order refusal      answers   sessions");
+        for n in 11..20 {
+            println!("{n:13} {:12} {:10}", self.answers[n], self.refused[n]);
+        }
+        println!("fault            processes   sessions");
+        for n in 1..4 {
+            println!("{n:5} {:20} {:10}", self.faults[n], self.faulted[n]);
+        }
+        println!("fault 1 in a wait's condition: {}", self.until);
+        println!(
+            "done: picks by standing {:?}, settles {:?}, delta steps {}, time steps {}, reads {}",
+            self.done_picks, self.settles, self.steps[1], self.steps[2], self.reads
+        );
+        println!(
+            "drivers by pending transactions at the end: {:?}",
+            self.pending
+        );
+        println!("signals with a varied past at the end: {}", self.varied);
+        println!(
+            "sessions by time steps (0, 1, 2-4, 5-9, 10-29, more): {:?}",
+            self.depth
+        );
+        println!("how the session was made");
+        for (way, count) in &self.ways {
+            println!("{way:44}{count:8}");
+        }
+    }
+}
+
+#[cfg(test)]
+mod tests {
+    use super::*;
+
+    fn own(model: &[u8], orders: &[u8], answers: &mut [u8], out: &mut [u8]) -> u32 {
+        let (number, config) = session(model, orders, answers);
+        out.copy_from_slice(&dump(&config));
+        number
+    }
+
+    #[test]
+    fn agreement() {
+        assert!(models(2_000, 5, Some(&judge)).is_ok());
+        assert!(sessions(1_000, 5, Some(&own)).is_ok());
+        assert!(limits(Some((&judge, &own))).is_ok());
+    }
+
+    #[test]
+    fn a_wrong_judge_is_found() {
+        let wrong = |b: &[u8]| if judge(b) == 8 { 0 } else { judge(b) };
+        let message = models(2_000, 5, Some(&wrong)).err().unwrap();
+        assert!(
+            message.contains("second kernel 8, proved kernel 0"),
+            "{message}"
+        );
+        assert!(limits(Some((&wrong, &own))).is_err());
+    }
+
+    #[test]
+    fn wrong_sessions_are_found() {
+        let number = |m: &[u8], o: &[u8], a: &mut [u8], d: &mut [u8]| match own(m, o, a, d) {
+            10 => 9,
+            n => n,
+        };
+        assert!(sessions(1_000, 5, Some(&number)).is_err());
+        assert!(limits(Some((&judge, &number))).is_err());
+        let answer = |m: &[u8], o: &[u8], a: &mut [u8], d: &mut [u8]| {
+            let n = own(m, o, a, d);
+            for x in a.chunks_exact_mut(16).filter(|x| n == 0 && x[0] == 18) {
+                x[8] ^= 1;
+            }
+            n
+        };
+        assert!(sessions(2_000, 5, Some(&answer)).is_err());
+        let writes_when_refused = |m: &[u8], o: &[u8], a: &mut [u8], d: &mut [u8]| {
+            let n = own(m, o, a, d);
+            if n != 0 {
+                a.fill(0);
+            }
+            n
+        };
+        assert!(sessions(1_000, 5, Some(&writes_when_refused)).is_err());
+        let configuration = |m: &[u8], o: &[u8], a: &mut [u8], d: &mut [u8]| {
+            let n = own(m, o, a, d);
+            d[16 + 124] = 0;
+            n
+        };
+        let message = sessions(1_000, 5, Some(&configuration)).err().unwrap();
+        assert!(message.contains("signal 0, 31 units ago"), "{message}");
+    }
+
+    // Seeds stand for the same cases for good within one build.
+    #[test]
+    fn seeds_repeat() {
+        let (a, b) = (gen::session_case(77), gen::session_case(77));
+        assert_eq!((a.model, a.orders, a.room), (b.model, b.orders, b.room));
+        assert_eq!(gen::model_case(78).bytes, gen::model_case(78).bytes);
+    }
+}

@@ -1,0 +1,231 @@
+//! The nine values of IEEE 1164: codes 0 to 8 are U X 0 1 Z W L H -.
+
+pub const U: u8 = 0;
+pub const X: u8 = 1;
+pub const ZERO: u8 = 2;
+pub const ONE: u8 = 3;
+pub const Z: u8 = 4;
+pub const W: u8 = 5;
+pub const L: u8 = 6;
+pub const H: u8 = 7;
+pub const DASH: u8 = 8;
+
+/// The letters in code order.
+pub const LETTERS: &[u8; 9] = b"UX01ZWLH-";
+
+/// The pair table of the resolution, rows and columns in code order.
+const PAIRS: [&[u8; 9]; 9] = [
+    b"UUUUUUUUU",
+    b"UXXXXXXXX",
+    b"UX0X0000X",
+    b"UXX11111X",
+    b"UX01ZWLHX",
+    b"UX01WWWWX",
+    b"UX01LWLWX",
+    b"UX01HWWHX",
+    b"UXXXXXXXX",
+];
+
+/// The code of a letter; panics on any other byte.
+pub const fn code(letter: u8) -> u8 {
+    let mut i = 0;
+    while i < 9 {
+        if LETTERS[i] == letter {
+            return i as u8;
+        }
+        i += 1;
+    }
+    panic!("not one of the nine letters")
+}
+
+const CODES: [[u8; 9]; 9] = {
+    let mut t = [[0u8; 9]; 9];
+    let mut r = 0;
+    while r < 9 {
+        let mut c = 0;
+        while c < 9 {
+            t[r][c] = code(PAIRS[r][c]);
+            c += 1;
+        }
+        r += 1;
+    }
+    t
+};
+
+/// One entry of the pair table.
+pub fn pair(a: u8, b: u8) -> u8 {
+    CODES[a as usize][b as usize]
+}
+
+/// Resolution: one value is itself; of more, the pair table applied one
+/// after another. There is no resolution of no value (panics).
+pub fn resolve(values: &[u8]) -> u8 {
+    let mut result = values[0];
+    for &v in &values[1..] {
+        result = pair(result, v);
+    }
+    result
+}
+
+fn low(v: u8) -> bool {
+    v == ZERO || v == L
+}
+
+fn high(v: u8) -> bool {
+    v == ONE || v == H
+}
+
+/// 0, L to 1; 1, H to 0; U to U; the rest to X.
+pub fn not(a: u8) -> u8 {
+    if low(a) {
+        ONE
+    } else if high(a) {
+        ZERO
+    } else if a == U {
+        U
+    } else {
+        X
+    }
+}
+
+/// 0 if either is 0 or L; else U if either is U; else 1 if both are 1 or H;
+/// else X.
+pub fn and(a: u8, b: u8) -> u8 {
+    if low(a) || low(b) {
+        ZERO
+    } else if a == U || b == U {
+        U
+    } else if high(a) && high(b) {
+        ONE
+    } else {
+        X
+    }
+}
+
+/// As `and`, with 0, L and 1, H exchanged.
+pub fn or(a: u8, b: u8) -> u8 {
+    if high(a) || high(b) {
+        ONE
+    } else if a == U || b == U {
+        U
+    } else if low(a) && low(b) {
+        ZERO
+    } else {
+        X
+    }
+}
+
+/// U if either is U; else X if either is none of 0 1 L H; else 1 if they
+/// differ as 0/L against 1/H, else 0.
+pub fn xor(a: u8, b: u8) -> u8 {
+    let known = |v: u8| low(v) || high(v);
+    if a == U || b == U {
+        U
+    } else if !known(a) || !known(b) {
+        X
+    } else if low(a) != low(b) {
+        ONE
+    } else {
+        ZERO
+    }
+}
+
+#[cfg(test)]
+mod tests {
+    use super::*;
+
+    fn text(f: impl Fn(u8, u8) -> u8) -> Vec<String> {
+        (0..9u8)
+            .map(|a| {
+                (0..9u8)
+                    .map(|b| LETTERS[f(a, b) as usize] as char)
+                    .collect()
+            })
+            .collect()
+    }
+
+    // The printed tables of IEEE 1164.
+    #[test]
+    fn printed_and_table() {
+        let t = [
+            "UU0UUU0UU",
+            "UX0XXX0XX",
+            "000000000",
+            "UX01XX01X",
+            "UX0XXX0XX",
+            "UX0XXX0XX",
+            "000000000",
+            "UX01XX01X",
+            "UX0XXX0XX",
+        ];
+        assert_eq!(text(and), t);
+    }
+
+    #[test]
+    fn printed_or_table() {
+        let t = [
+            "UUU1UUU1U",
+            "UXX1XXX1X",
+            "UX01XX01X",
+            "111111111",
+            "UXX1XXX1X",
+            "UXX1XXX1X",
+            "UX01XX01X",
+            "111111111",
+            "UXX1XXX1X",
+        ];
+        assert_eq!(text(or), t);
+    }
+
+    #[test]
+    fn printed_xor_table() {
+        let t = [
+            "UUUUUUUUU",
+            "UXXXXXXXX",
+            "UX01XX01X",
+            "UX10XX10X",
+            "UXXXXXXXX",
+            "UXXXXXXXX",
+            "UX01XX01X",
+            "UX10XX10X",
+            "UXXXXXXXX",
+        ];
+        assert_eq!(text(xor), t);
+    }
+
+    #[test]
+    fn printed_not_table() {
+        let t: String = (0..9u8).map(|a| LETTERS[not(a) as usize] as char).collect();
+        assert_eq!(t, "UX10XX10X");
+    }
+
+    #[test]
+    fn pair_table_is_the_papers() {
+        let t: Vec<String> =
+            "UUUUUUUUU, UXXXXXXXX, UX0X0000X, UXX11111X, UX01ZWLHX, UX01WWWWX, UX01LWLWX, UX01HWWHX, UXXXXXXXX"
+                .split(", ")
+                .map(String::from)
+                .collect();
+        assert_eq!(text(pair), t);
+    }
+
+    #[test]
+    fn resolution_cases() {
+        let r = |s: &str| {
+            let v: Vec<u8> = s.bytes().map(code).collect();
+            LETTERS[resolve(&v) as usize] as char
+        };
+        assert_eq!(r("01"), 'X');
+        assert_eq!(r("LH"), 'W');
+        assert_eq!(r("ZL"), 'L');
+        assert_eq!(r("W0"), '0');
+        assert_eq!(r("U1"), 'U');
+        assert_eq!(r("-"), '-');
+        assert_eq!(r("--"), 'X');
+        // One after another.
+        assert_eq!(r("LH0"), '0');
+        assert_eq!(r("ZZZ"), 'Z');
+        assert_eq!(r("HL1Z"), '1');
+        assert_eq!(r("10U"), 'U');
+    }
+}

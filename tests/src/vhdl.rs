@@ -1,0 +1,241 @@
+//! Translation of an accepted model to VHDL-93, for GHDL.
+//!
+//! | model                     | VHDL                                            |
+//! |---------------------------|-------------------------------------------------|
+//! | signal n                  | `sN`, `std_logic` or `integer`, its start value |
+//! | variable n                | `vN` of its process                             |
+//! | process n                 | process `pN`: `case pc is`, a branch a statement|
+//! | driver without assignment | an assignment in the branch never taken         |
+//! | signal a delayed by k     | `sA_dK <= transport sA after k ns`; k = 0: `sA` |
+//! | kind 2                    | `<= transport .. after ..`                      |
+//! | wait on an empty set      | `wait` or `wait for ..`: b is never asked       |
+//! | one unit of time          | 1 ns                                            |
+//!
+//! Every accepted model translates. `Form::Checked` is for comparing: it
+//! prints settled values and ends with a failure where the model has fault 1
+//! or 2 or a process runs `STEPS` statements without a wait. Two ends of a
+//! model are foreign to VHDL: fault 3 (a ninth transaction) and 16 (1,000
+//! delta steps; GHDL has `--stop-delta`). `Form::Bare` is for measuring.
+
+use crate::model::{Model, NodeRecord, StatementRecord, ABSENT, INTEGER};
+use crate::values;
+use std::collections::BTreeSet;
+use std::fmt::Write;
+
+/// What goes beside the model itself.
+#[derive(Clone, Copy, PartialEq, Eq)]
+pub enum Form {
+    Bare,
+    Checked,
+}
+
+/// Statements without a wait at which the checked form gives up.
+pub const STEPS: usize = 5_000;
+
+/// Delays that are not constants go through `span`, sums and differences of
+/// the checked form through `ranged`: GHDL's integers have one value more.
+const FUNCTIONS: &str = r#"
+  function span (n : integer) return time is
+  begin
+    assert n >= 0 report "fault 2" severity failure;
+    return n * 1 ns;
+  end span;
+
+  function ranged (n : integer) return integer is
+  begin
+    assert n /= integer'low report "fault 1" severity failure;
+    return n;
+  end ranged;
+
+"#;
+
+/// The entity `top` for a model. The checked form prints `@ TIME ns VALUES`
+/// once before the first cycle and at the end of each time with an event,
+/// logic values as codes.
+pub fn translate(m: &Model, form: Form) -> String {
+    let mut t = String::new();
+    t.push_str("library ieee;\nuse ieee.std_logic_1164.all;\nuse std.textio.all;\n\n");
+    t.push_str("entity top is\nend top;\n\narchitecture model of top is");
+    t.push_str(FUNCTIONS);
+    for n in 0..m.signals.len() {
+        signal(&mut t, m, n, &format!("s{n}"), m.signals[n].start);
+    }
+    let delayed = delays(m);
+    for &(n, k) in &delayed {
+        signal(&mut t, m, n, &format!("s{n}_d{k}"), first_value(m, n));
+    }
+    t.push_str("begin\n");
+    for (n, k) in delayed {
+        let _ = writeln!(t, "  s{n}_d{k} <= transport s{n} after {k} ns;");
+    }
+    for p in 0..m.processes.len() {
+        process(&mut t, m, p, form);
+    }
+    if form == Form::Checked {
+        watch(&mut t, m);
+    }
+    t.push_str("end model;\n");
+    t
+}
+
+/// A value of type 0 integer, 1 logic or 2 boolean.
+fn literal(ty: u8, v: i32) -> String {
+    match ty {
+        0 => format!("integer'({v})"),
+        1 => format!("std_ulogic'('{}')", values::LETTERS[v as usize] as char),
+        _ => if v == 0 { "false" } else { "true" }.to_string(),
+    }
+}
+
+fn type_name(ty: u8) -> &'static str {
+    ["integer", "std_logic", "boolean"][ty as usize]
+}
+
+fn signal(t: &mut String, m: &Model, n: usize, name: &str, start: i32) {
+    let ty = m.signals[n].ty;
+    let _ = writeln!(t, "  signal {name} : {} := {};", type_name(ty), literal(ty, start));
+}
+
+/// The signals and delays above 0 that nodes read.
+fn delays(m: &Model) -> BTreeSet<(usize, i32)> {
+    m.nodes.iter().filter(|n| n.kind == 5 && n.k > 0).map(|n| (n.a as usize, n.k)).collect()
+}
+
+/// A signal's first current value: the resolution of its drivers, each at
+/// the start value.
+fn first_value(m: &Model, n: usize) -> i32 {
+    let start = m.signals[n].start;
+    let drivers = m.drivers.iter().filter(|d| d.signal as usize == n).count();
+    if m.signals[n].ty == INTEGER || drivers == 0 {
+        return start;
+    }
+    values::resolve(&vec![start as u8; drivers]) as i32
+}
+
+fn process(t: &mut String, m: &Model, p: usize, form: Form) {
+    let _ = writeln!(t, "  p{p} : process");
+    let first = m.processes[p].first as usize;
+    let end = first + m.processes[p].count as usize;
+    let _ = writeln!(t, "    variable pc : integer := {first};");
+    if form == Form::Checked {
+        t.push_str("    variable steps : integer := 0;\n");
+    }
+    for (n, v) in m.variables.iter().enumerate().filter(|(_, v)| v.process as usize == p) {
+        let _ = writeln!(t, "    variable v{n} : {} := {};", type_name(v.ty), literal(v.ty, v.start));
+    }
+    t.push_str("  begin\n");
+    if form == Form::Checked {
+        t.push_str("    steps := steps + 1;\n");
+        let _ = writeln!(t, "    assert steps < {STEPS} report \"no wait\" severity failure;");
+    }
+    t.push_str("    case pc is\n");
+    for n in first..end {
+        let next = if n + 1 == end { first } else { n + 1 };
+        let text = Text { m, form }.statement(&m.statements[n], next);
+        let _ = writeln!(t, "      when {n} => {text}");
+    }
+    t.push_str("      when others =>\n        null;\n");
+    for d in m.drivers.iter().filter(|d| d.process as usize == p) {
+        let _ = writeln!(t, "        s{0} <= s{0};", d.signal);
+    }
+    t.push_str("    end case;\n  end process;\n");
+}
+
+/// Writes statements and expressions.
+#[derive(Clone, Copy)]
+struct Text<'m> {
+    m: &'m Model,
+    form: Form,
+}
+
+impl Text<'_> {
+    /// One statement, with the move of the place.
+    fn statement(self, s: &StatementRecord, next: usize) -> String {
+        let StatementRecord { kind, a, b, c, .. } = *s;
+        match kind {
+            0 => format!("pc := {next};"),
+            1 => format!("v{a} := {}; pc := {next};", self.expr(b)),
+            2 => {
+                let (value, delay) = (self.expr(b), self.delay(c));
+                format!("s{a} <= transport {value} after {delay}; pc := {next};")
+            }
+            3 => format!("if {} then pc := {next}; else pc := {a}; end if;", self.expr(b)),
+            4 => format!("pc := {a};"),
+            _ => {
+                let rest = if self.form == Form::Checked { " steps := 0;" } else { "" };
+                format!("{}; pc := {next};{rest}", self.wait(s))
+            }
+        }
+    }
+
+    fn wait(self, s: &StatementRecord) -> String {
+        let mut t = String::from("wait");
+        let set: Vec<String> =
+            (0..32).filter(|n| s.set >> n & 1 == 1).map(|n| format!("s{n}")).collect();
+        if !set.is_empty() {
+            let _ = write!(t, " on {}", set.join(", "));
+            if s.b != ABSENT {
+                let _ = write!(t, " until {}", self.expr(s.b));
+            }
+        }
+        if s.c != ABSENT {
+            let _ = write!(t, " for {}", self.delay(s.c));
+        }
+        t
+    }
+
+    /// A delay: a constant as a literal, any other through `span`.
+    fn delay(self, n: u16) -> String {
+        let node = &self.m.nodes[n as usize];
+        if node.kind == 1 && node.k >= 0 {
+            format!("{} ns", node.k)
+        } else {
+            format!("span ({})", self.expr(n))
+        }
+    }
+
+    fn expr(self, n: u16) -> String {
+        let NodeRecord { kind, a, b, k } = self.m.nodes[n as usize];
+        let pair = |op: &str| format!("({} {op} {})", self.expr(a), self.expr(b));
+        let sum = |op: &str| match self.form {
+            Form::Bare => pair(op),
+            Form::Checked => format!("ranged {}", pair(op)),
+        };
+        match kind {
+            1 => literal(0, k),
+            2 => literal(1, k),
+            3 => format!("v{a}"),
+            5 if k > 0 => format!("s{a}_d{k}"),
+            4 | 5 => format!("s{a}"),
+            6 => format!("(not {})", self.expr(a)),
+            7 => pair("and"),
+            8 => pair("or"),
+            9 => pair("xor"),
+            10 => format!("(- {})", self.expr(a)),
+            11 => sum("+"),
+            12 => sum("-"),
+            13 => pair("="),
+            _ => pair("<"),
+        }
+    }
+}
+
+/// The process that prints settled values: postponed, so that it runs in
+/// the last delta of a time.
+fn watch(t: &mut String, m: &Model) {
+    t.push_str("  watch : postponed process\n    variable l : line;\n  begin\n");
+    t.push_str("    write (l, string'(\"@ \"));\n    write (l, now, right, 0, 1 ns);\n");
+    for (n, s) in m.signals.iter().enumerate() {
+        let value = if s.ty == INTEGER { format!("s{n}") } else { format!("std_ulogic'pos (s{n})") };
+        let _ = writeln!(t, "    write (l, ' ');\n    write (l, {value});");
+    }
+    t.push_str("    writeline (output, l);\n");
+    let names: Vec<String> = (0..m.signals.len()).map(|n| format!("s{n}")).collect();
+    match names.is_empty() {
+        true => t.push_str("    wait;\n"),
+        false => {
+            let _ = writeln!(t, "    wait on {};", names.join(", "));
+        }
+    }
+    t.push_str("  end process;\n");
+}
