@@ -109,14 +109,14 @@ impl LimitTally {
 }
 
 /// Judges the limit models and plays the bench cases.
-pub fn limits(other: Option<(Judge, Session)>) -> Result<LimitTally, String> {
+pub fn limits(other: Option<Judge>, session: Option<Session>) -> Result<LimitTally, String> {
     let mut t = LimitTally::default();
     for (name, bytes, expected) in damage::limits() {
         let number = judge(&bytes);
         if number != expected {
             return Err(format!("limits: `{name}` is {number}, not {expected}"));
         }
-        if let Some((other, _)) = other {
+        if let Some(other) = other {
             let theirs = other(&bytes);
             if theirs != number {
                 return Err(format!(
@@ -127,14 +127,8 @@ pub fn limits(other: Option<(Judge, Session)>) -> Result<LimitTally, String> {
         t.models[number as usize] += 1;
     }
     for case in cases::sessions() {
-        let (number, _) = play(
-            &case.model,
-            &case.orders,
-            case.room,
-            0xA5,
-            other.map(|o| o.1),
-        )
-        .map_err(|found| format!("limits: first difference at `{}`: {found}", case.name))?;
+        let (number, _) = play(&case.model, &case.orders, case.room, 0xA5, session)
+            .map_err(|found| format!("limits: first difference at `{}`: {found}", case.name))?;
         t.sessions[number as usize] += 1;
     }
     Ok(t)
@@ -376,7 +370,7 @@ mod tests {
     fn agreement() {
         assert!(models(2_000, 5, Some(&judge)).is_ok());
         assert!(sessions(1_000, 5, Some(&own)).is_ok());
-        assert!(limits(Some((&judge, &own))).is_ok());
+        assert!(limits(Some(&judge), Some(&own)).is_ok());
     }
 
     #[test]
@@ -387,7 +381,7 @@ mod tests {
             message.contains("second kernel 8, proved kernel 0"),
             "{message}"
         );
-        assert!(limits(Some((&wrong, &own))).is_err());
+        assert!(limits(Some(&wrong), Some(&own)).is_err());
     }
 
     #[test]
@@ -397,7 +391,7 @@ mod tests {
             n => n,
         };
         assert!(sessions(1_000, 5, Some(&number)).is_err());
-        assert!(limits(Some((&judge, &number))).is_err());
+        assert!(limits(Some(&judge), Some(&number)).is_err());
         let answer = |m: &[u8], o: &[u8], a: &mut [u8], d: &mut [u8]| {
             let n = own(m, o, a, d);
             for x in a.chunks_exact_mut(16).filter(|x| n == 0 && x[0] == 18) {

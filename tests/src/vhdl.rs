@@ -93,12 +93,21 @@ fn type_name(ty: u8) -> &'static str {
 
 fn signal(t: &mut String, m: &Model, n: usize, name: &str, start: i32) {
     let ty = m.signals[n].ty;
-    let _ = writeln!(t, "  signal {name} : {} := {};", type_name(ty), literal(ty, start));
+    let _ = writeln!(
+        t,
+        "  signal {name} : {} := {};",
+        type_name(ty),
+        literal(ty, start)
+    );
 }
 
 /// The signals and delays above 0 that nodes read.
 fn delays(m: &Model) -> BTreeSet<(usize, i32)> {
-    m.nodes.iter().filter(|n| n.kind == 5 && n.k > 0).map(|n| (n.a as usize, n.k)).collect()
+    m.nodes
+        .iter()
+        .filter(|n| n.kind == 5 && n.k > 0)
+        .map(|n| (n.a as usize, n.k))
+        .collect()
 }
 
 /// A signal's first current value: the resolution of its drivers, each at
@@ -120,13 +129,26 @@ fn process(t: &mut String, m: &Model, p: usize, form: Form) {
     if form == Form::Checked {
         t.push_str("    variable steps : integer := 0;\n");
     }
-    for (n, v) in m.variables.iter().enumerate().filter(|(_, v)| v.process as usize == p) {
-        let _ = writeln!(t, "    variable v{n} : {} := {};", type_name(v.ty), literal(v.ty, v.start));
+    for (n, v) in m
+        .variables
+        .iter()
+        .enumerate()
+        .filter(|(_, v)| v.process as usize == p)
+    {
+        let _ = writeln!(
+            t,
+            "    variable v{n} : {} := {};",
+            type_name(v.ty),
+            literal(v.ty, v.start)
+        );
     }
     t.push_str("  begin\n");
     if form == Form::Checked {
         t.push_str("    steps := steps + 1;\n");
-        let _ = writeln!(t, "    assert steps < {STEPS} report \"no wait\" severity failure;");
+        let _ = writeln!(
+            t,
+            "    assert steps < {STEPS} report \"no wait\" severity failure;"
+        );
     }
     t.push_str("    case pc is\n");
     for n in first..end {
@@ -159,10 +181,17 @@ impl Text<'_> {
                 let (value, delay) = (self.expr(b), self.delay(c));
                 format!("s{a} <= transport {value} after {delay}; pc := {next};")
             }
-            3 => format!("if {} then pc := {next}; else pc := {a}; end if;", self.expr(b)),
+            3 => format!(
+                "if {} then pc := {next}; else pc := {a}; end if;",
+                self.expr(b)
+            ),
             4 => format!("pc := {a};"),
             _ => {
-                let rest = if self.form == Form::Checked { " steps := 0;" } else { "" };
+                let rest = if self.form == Form::Checked {
+                    " steps := 0;"
+                } else {
+                    ""
+                };
                 format!("{}; pc := {next};{rest}", self.wait(s))
             }
         }
@@ -170,8 +199,10 @@ impl Text<'_> {
 
     fn wait(self, s: &StatementRecord) -> String {
         let mut t = String::from("wait");
-        let set: Vec<String> =
-            (0..32).filter(|n| s.set >> n & 1 == 1).map(|n| format!("s{n}")).collect();
+        let set: Vec<String> = (0..32)
+            .filter(|n| s.set >> n & 1 == 1)
+            .map(|n| format!("s{n}"))
+            .collect();
         if !set.is_empty() {
             let _ = write!(t, " on {}", set.join(", "));
             if s.b != ABSENT {
@@ -226,16 +257,91 @@ fn watch(t: &mut String, m: &Model) {
     t.push_str("  watch : postponed process\n    variable l : line;\n  begin\n");
     t.push_str("    write (l, string'(\"@ \"));\n    write (l, now, right, 0, 1 ns);\n");
     for (n, s) in m.signals.iter().enumerate() {
-        let value = if s.ty == INTEGER { format!("s{n}") } else { format!("std_ulogic'pos (s{n})") };
+        let value = if s.ty == INTEGER {
+            format!("s{n}")
+        } else {
+            format!("std_ulogic'pos (s{n})")
+        };
         let _ = writeln!(t, "    write (l, ' ');\n    write (l, {value});");
     }
     t.push_str("    writeline (output, l);\n");
     let names: Vec<String> = (0..m.signals.len()).map(|n| format!("s{n}")).collect();
-    match names.is_empty() {
-        true => t.push_str("    wait;\n"),
-        false => {
-            let _ = writeln!(t, "    wait on {};", names.join(", "));
+    let on = if names.is_empty() { "" } else { " on " };
+    let _ = writeln!(t, "    wait{on}{};", names.join(", "));
+    t.push_str("  end process;\n");
+}
+
+#[cfg(test)]
+mod tests {
+    use super::*;
+    use crate::builder::Builder;
+    use crate::model::LOGIC;
+
+    fn has(text: &str, lines: &[&str]) {
+        for line in lines {
+            assert!(
+                text.lines().any(|l| l.trim() == *line),
+                "no line {line} in\n{text}"
+            );
         }
     }
-    t.push_str("  end process;\n");
+
+    /// The paper's inverter.
+    #[test]
+    fn inverter() {
+        let mut b = Builder::new();
+        let (i, o) = (b.signal(LOGIC, 2), b.signal(LOGIC, 2));
+        let (zero, one, high) = (b.integer(0), b.integer(1), b.logic(3));
+        let read = b.read_signal(i);
+        let not = b.unary(6, read);
+        b.process();
+        b.driver(0, o);
+        b.schedule(o, not, zero);
+        b.wait(1 << i, ABSENT, ABSENT);
+        b.process();
+        b.driver(1, i);
+        b.schedule(i, high, one);
+        b.wait(0, ABSENT, ABSENT);
+        has(
+            &translate(&b.m, Form::Bare),
+            &[
+                "signal s1 : std_logic := std_ulogic'('0');",
+                "when 0 => s1 <= transport (not s0) after 0 ns; pc := 1;",
+                "when 1 => wait on s0; pc := 0;",
+                "when 2 => s0 <= transport std_ulogic'('1') after 1 ns; pc := 3;",
+                "when 3 => wait; pc := 2;",
+            ],
+        );
+    }
+
+    #[test]
+    fn waits_and_delays() {
+        let mut b = Builder::new();
+        let s = b.signal(LOGIC, 8);
+        let n = b.signal(INTEGER, -4);
+        let (now, past) = (b.delayed(s, 0), b.delayed(s, 31));
+        let same = b.binary(13, now, past);
+        let (minus, read) = (b.integer(-1), b.delayed(n, 2));
+        let sum = b.binary(11, read, minus);
+        for p in 0..2 {
+            b.process();
+            b.driver(p, s);
+            b.wait(3, same, sum);
+            b.wait(0, same, minus);
+        }
+        has(
+            &translate(&b.m, Form::Checked),
+            &[
+                // Two drivers at '-' give X from the first.
+                "signal s0 : std_logic := std_ulogic'('-');",
+                "signal s0_d31 : std_logic := std_ulogic'('X');",
+                "s0_d31 <= transport s0 after 31 ns;",
+                "s1_d2 <= transport s1 after 2 ns;",
+                "when 0 => wait on s0, s1 until (s0 = s0_d31) \
+                 for span (ranged (s1_d2 + integer'(-1))); pc := 1; steps := 0;",
+                "when 1 => wait for span (integer'(-1)); pc := 0; steps := 0;",
+                "s0 <= s0;",
+            ],
+        );
+    }
 }

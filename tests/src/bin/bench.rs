@@ -1,5 +1,5 @@
 //! Picks per second and nanoseconds per advance of the second kernel, of GHDL
-//! on the translated model and, with the feature `proved`, of the proved
+//! on the translated model and, with the feature `session`, of the proved
 //! kernel, all in one run. `bench/run` builds and starts it.
 //!
 //! Kernels play sessions of at most 4,096 orders, again and again, loading
@@ -117,7 +117,11 @@ struct List {
 /// or until an advance would be refused.
 fn list(b: &Builder, most: usize) -> List {
     let mut c = Config::first(&b.m);
-    let mut l = List { orders: Vec::new(), picks: 0, advances: 0 };
+    let mut l = List {
+        orders: Vec::new(),
+        picks: 0,
+        advances: 0,
+    };
     while l.orders.len() < 4 * most {
         if c.processes.iter().any(|p| p.standing == READY) {
             l.picks += c.settle(&b.m, 65_535).0 as u64;
@@ -140,7 +144,7 @@ fn second(model: &[u8], orders: &[u8], answers: &mut [u8]) {
     assert_eq!(session::session(model, orders, answers).0, 0);
 }
 
-#[cfg(feature = "proved")]
+#[cfg(feature = "session")]
 fn proved(model: &[u8], orders: &[u8], answers: &mut [u8]) {
     unsafe extern "C" {
         fn gontrafiby_session(
@@ -171,9 +175,9 @@ fn proved(model: &[u8], orders: &[u8], answers: &mut [u8]) {
     assert_eq!(number, 0);
 }
 
-#[cfg(feature = "proved")]
+#[cfg(feature = "session")]
 const PROVED: Option<Play> = Some(proved);
-#[cfg(not(feature = "proved"))]
+#[cfg(not(feature = "session"))]
 const PROVED: Option<Play> = None;
 
 /// Seconds of one session, from a round of many.
@@ -241,9 +245,27 @@ struct Design {
 }
 
 const DESIGNS: [Design; 3] = [
-    Design { name: "loop", build: |n| busy(n as i32), stop: |_| 0, orders: 32, long: 10_000_000 },
-    Design { name: "fan", build: |_| fan(), stop: |n| n, orders: 4_096, long: 500_000 },
-    Design { name: "chain", build: |_| chain(), stop: |n| n, orders: 4_096, long: 250_000 },
+    Design {
+        name: "loop",
+        build: |n| busy(n as i32),
+        stop: |_| 0,
+        orders: 32,
+        long: 10_000_000,
+    },
+    Design {
+        name: "fan",
+        build: |_| fan(),
+        stop: |n| n,
+        orders: 4_096,
+        long: 500_000,
+    },
+    Design {
+        name: "chain",
+        build: |_| chain(),
+        stop: |n| n,
+        orders: 4_096,
+        long: 250_000,
+    },
 ];
 
 /// Picks and advances of a design's length, counted on the second kernel.
@@ -275,7 +297,12 @@ fn measure(d: &Design) -> Row {
     let b = (d.build)(i32::MAX as u64);
     let (model, l) = (b.encode(), list(&b, d.orders));
     let short = d.long / 10;
-    let lengths = [d.long, short].map(|n| (vhdl::translate(&(d.build)(n).m, vhdl::Form::Bare), (d.stop)(n)));
+    let lengths = [d.long, short].map(|n| {
+        (
+            vhdl::translate(&(d.build)(n).m, vhdl::Form::Bare),
+            (d.stop)(n),
+        )
+    });
     let mut best = [f64::MAX; 4];
     for _ in 0..ROUNDS {
         best[0] = best[0].min(time(second, &model, &l));
@@ -293,7 +320,11 @@ fn measure(d: &Design) -> Row {
     let theirs = PROVED.map(|_| best[3]);
     Row {
         name: d.name,
-        rates: [Some(rate(best[0])), Some(picks / turn / 1e6), theirs.map(rate)],
+        rates: [
+            Some(rate(best[0])),
+            Some(picks / turn / 1e6),
+            theirs.map(rate),
+        ],
         advances: [
             step(best[0]),
             (advances > 0.0).then(|| turn / advances * 1e9),
@@ -331,10 +362,21 @@ fn main() {
         let steps = r.advances.map(|x| cell(x, 0));
         println!(
             "{:7} {:>8} {:>8} {:>8}  {:>8} {:>7} {:>8} {:>8} {:>8}",
-            r.name, rates[0], rates[1], rates[2], ratio(0), ratio(1), steps[0], steps[1], steps[2]
+            r.name,
+            rates[0],
+            rates[1],
+            rates[2],
+            ratio(0),
+            ratio(1),
+            steps[0],
+            steps[1],
+            steps[2]
         );
     }
     let steps = [own, None, theirs].map(|x| cell(x, 0));
-    println!("{:52} {:>8} {:>8} {:>8}", "quiet", steps[0], steps[1], steps[2]);
+    println!(
+        "{:52} {:>8} {:>8} {:>8}",
+        "quiet", steps[0], steps[1], steps[2]
+    );
     println!("fan, chain: an advance with the picks after it; quiet: an advance alone");
 }

@@ -1,12 +1,14 @@
 //! Holds this kernel against the proved one:
 //! `compare models N SEED`, `compare sessions N SEED`, `compare limits`.
 //! Case i has the seed SEED + i, so `compare sessions 1 S` repeats seed S.
+//! Sessions are compared with the feature `session`, which asks for a library that has them.
 
 use second_kernel::tally;
 use std::process::ExitCode;
 
 extern "C" {
     fn gontrafiby_judge(model: *const u8, len: usize) -> u32;
+    #[cfg(feature = "session")]
     fn gontrafiby_session(
         model: *const u8,
         mlen: usize,
@@ -24,6 +26,7 @@ fn judge(model: &[u8]) -> u32 {
     unsafe { gontrafiby_judge(model.as_ptr(), model.len()) }
 }
 
+#[cfg(feature = "session")]
 fn session(model: &[u8], orders: &[u8], answers: &mut [u8], dump: &mut [u8]) -> u32 {
     // SAFETY: each pointer and length are those of one slice; the mutable
     // ones do not overlap any other.
@@ -40,6 +43,11 @@ fn session(model: &[u8], orders: &[u8], answers: &mut [u8], dump: &mut [u8]) -> 
         )
     }
 }
+
+#[cfg(feature = "session")]
+const SESSION: Option<tally::Session> = Some(&session);
+#[cfg(not(feature = "session"))]
+const SESSION: Option<tally::Session> = None;
 
 fn number(argument: Option<&String>, name: &str) -> Result<u64, String> {
     let text = argument.ok_or_else(|| format!("{name} is missing"))?;
@@ -62,11 +70,14 @@ fn run(arguments: &[String]) -> Result<(), String> {
                 number(arguments.get(1), "N")?,
                 number(arguments.get(2), "SEED")?,
             );
-            tally::sessions(n, seed, Some(&session))?.print();
+            if SESSION.is_none() {
+                return Err("this build has no sessions to compare".into());
+            }
+            tally::sessions(n, seed, SESSION)?.print();
             println!("no difference in {n} sessions from seed {seed} on");
         }
         Some("limits") => {
-            let counts = tally::limits(Some((&judge, &session)))?;
+            let counts = tally::limits(Some(&judge), SESSION)?;
             counts.print();
             let cases = counts.models.iter().chain(&counts.sessions).sum::<u64>();
             println!("no difference in {cases} limit cases");

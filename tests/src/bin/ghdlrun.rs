@@ -1,7 +1,9 @@
 //! Plays random models on the second kernel and, translated, on GHDL, and
 //! compares every signal's settled value at every time.
 //!
-//!     ghdlrun N [SEED]             N models from SEED on (default 200 from 1)
+//!     ghdlrun N [SEED]             N lively models from SEED on (default 200
+//!                                  from 1), in which a signal changes, all
+//!                                  others between them, and the delta limit
 //!     ghdlrun N SEED FROM TO       the same with FROM replaced by TO in each
 //!                                  translation: differences are expected
 //!     ghdlrun show SEED            one model's translation and its run
@@ -11,11 +13,12 @@
 //! that never waits. GHDL must show the same changes of settled values and the
 //! same end: a failure at that time, or a stop by `--stop-delta`. Fault 3 is
 //! foreign to VHDL: such a run is compared up to the time before, and left out
-//! if it faults at time 0. The exit code is 1 on any difference.
+//! if no signal changes before. The exit code is 1 on any difference.
 
+use second_kernel::builder::Builder;
 use second_kernel::cycle::{Config, Step, DELTA_LIMIT, NINTH, TIME_LIMIT};
 use second_kernel::gen;
-use second_kernel::model::{self, Model};
+use second_kernel::model::{self, Model, ABSENT, INTEGER, LOGIC};
 use second_kernel::vhdl::{self, Form};
 use std::collections::BTreeMap;
 use std::path::{Path, PathBuf};
@@ -135,8 +138,13 @@ enum Outcome {
 
 /// What GHDL says where the model faults or never waits: the translation's own
 /// words, and GHDL's for an overflow at run time and in a constant expression.
-const FAILURES: [&str; 5] =
-    ["fault 1", "fault 2", "no wait", "overflow detected", "bound check failure"];
+const FAILURES: [&str; 5] = [
+    "fault 1",
+    "fault 2",
+    "no wait",
+    "overflow detected",
+    "bound check failure",
+];
 
 /// Runs GHDL on a text up to a time, that time included.
 fn ghdl(text: &str, stop: u64, dir: &Path, name: &str) -> Result<(Vec<Row>, Outcome), String> {
@@ -156,15 +164,20 @@ fn ghdl(text: &str, stop: u64, dir: &Path, name: &str) -> Result<(Vec<Row>, Outc
     let errors = String::from_utf8_lossy(&out.stderr).to_string();
     let heard = |words: &str| said.contains(words) || errors.contains(words);
     let outcome = if out.status.success() {
-        if heard("by --stop-delta") { Outcome::StopDelta } else { Outcome::Done }
+        if heard("by --stop-delta") {
+            Outcome::StopDelta
+        } else {
+            Outcome::Done
+        }
     } else if FAILURES.into_iter().any(heard) {
         Outcome::Failure
     } else {
         return Err(format!("GHDL ended with {}: {}", out.status, errors.trim()));
     };
     let lines = said.lines().filter(|l| l.starts_with('@'));
-    let rows: Result<_, _> =
-        lines.map(|l| parse(l).ok_or(format!("cannot read GHDL's line: {l}"))).collect();
+    let rows: Result<_, _> = lines
+        .map(|l| parse(l).ok_or(format!("cannot read GHDL's line: {l}")))
+        .collect();
     Ok((rows?, outcome))
 }
 
@@ -172,7 +185,11 @@ fn ghdl(text: &str, stop: u64, dir: &Path, name: &str) -> Result<(Vec<Row>, Outc
 fn compare(case: &Case, theirs: &[Row], outcome: Outcome) -> Result<(), String> {
     // A failure in the first settling comes before GHDL's first line.
     let early = outcome == Outcome::Failure && case.stop == 0 && theirs.is_empty();
-    let ours = if early { &case.changes[1..] } else { &case.changes[..] };
+    let ours = if early {
+        &case.changes[1..]
+    } else {
+        &case.changes[..]
+    };
     let show = |r: Option<&Row>| match r {
         Some((time, row)) => format!("time {time}, values {row:?}"),
         None => "no further change".to_string(),
@@ -189,14 +206,17 @@ fn compare(case: &Case, theirs: &[Row], outcome: Outcome) -> Result<(), String> 
         End::NoWait | End::Fault => Outcome::Failure,
     };
     if outcome != expected {
-        return Err(format!("kernel: end {:?} up to time {}\n  GHDL:   {outcome:?}", case.end, case.stop));
+        return Err(format!(
+            "kernel: end {:?} up to time {}\n  GHDL:   {outcome:?}",
+            case.end, case.stop
+        ));
     }
     Ok(())
 }
 
 /// A model with its run on the second kernel.
 struct Case {
-    seed: u64,
+    name: String,
     model: Model,
     stop: u64,
     changes: Vec<Row>,
@@ -204,17 +224,54 @@ struct Case {
 }
 
 impl Case {
-    /// The model of `session_case`'s seed, if it is accepted.
-    fn new(seed: u64) -> Option<Case> {
-        let model = model::load(&gen::session_case(seed).model).ok()?;
+    fn new(name: String, model: Model) -> Case {
         let Run { rows, end, stop } = run(&model);
-        Some(Case { seed, model, stop, changes: changes(rows), end })
+        Case {
+            name,
+            model,
+            stop,
+            changes: changes(rows),
+            end,
+        }
+    }
+
+    /// The model of `session_case`'s seed, if it is accepted.
+    fn of_seed(seed: u64) -> Option<Case> {
+        let model = model::load(&gen::session_case(seed).model).ok()?;
+        Some(Case::new(format!("seed {seed}"), model))
     }
 
     /// A signal changes.
     fn lively(&self) -> bool {
         self.changes.len() > 1
     }
+}
+
+/// From time `start` on, `steps` waits for 0 and then one change of a signal:
+/// as many delta steps, one more if start is not 0.
+fn counted(start: i32, steps: i32) -> Case {
+    let mut b = Builder::new();
+    let s = b.signal(LOGIC, 2);
+    let v = b.variable(INTEGER, 0, 0);
+    let (zero, one) = (b.integer(0), b.integer(1));
+    let (first, many) = (b.integer(start), b.integer(steps));
+    let (read_v, read_s) = (b.read_variable(v), b.read_signal(s));
+    let (more, next) = (b.binary(14, read_v, many), b.binary(11, read_v, one));
+    let turned = b.unary(6, read_s);
+    b.driver(0, s);
+    b.process();
+    if start == 0 {
+        b.null();
+    } else {
+        b.wait(0, ABSENT, first);
+    }
+    b.unless(more, 5);
+    b.assign(v, next);
+    b.wait(0, ABSENT, zero);
+    b.go(1);
+    b.schedule(s, turned, one);
+    b.wait(0, ABSENT, ABSENT);
+    Case::new(format!("{steps} delta steps from time {start}"), b.m)
 }
 
 /// The models from the seed on until n are lively.
@@ -225,7 +282,7 @@ fn choose(n: usize, first: u64) -> Vec<Case> {
         if left == 0 {
             break;
         }
-        if let Some(case) = Case::new(seed) {
+        if let Some(case) = Case::of_seed(seed) {
             left -= case.lively() as usize;
             cases.push(case);
         }
@@ -234,9 +291,15 @@ fn choose(n: usize, first: u64) -> Vec<Case> {
 }
 
 /// Compares all cases, one GHDL run each, on all processors.
-fn compare_all(cases: &[Case], alter: &dyn Fn(String) -> String, dir: &Path) -> Vec<(u64, String)> {
-    let texts: Vec<String> =
-        cases.iter().map(|c| alter(vhdl::translate(&c.model, Form::Checked))).collect();
+fn compare_all(
+    cases: &[Case],
+    alter: &dyn Fn(String) -> String,
+    dir: &Path,
+) -> Vec<(String, String)> {
+    let texts: Vec<String> = cases
+        .iter()
+        .map(|c| alter(vhdl::translate(&c.model, Form::Checked)))
+        .collect();
     let next = AtomicUsize::new(0);
     let bad = Mutex::new(Vec::new());
     let workers = std::thread::available_parallelism().map_or(2, |n| n.get());
@@ -245,10 +308,10 @@ fn compare_all(cases: &[Case], alter: &dyn Fn(String) -> String, dir: &Path) -> 
             s.spawn(|| loop {
                 let n = next.fetch_add(1, Ordering::Relaxed);
                 let Some(case) = cases.get(n) else { return };
-                let result = ghdl(&texts[n], case.stop, dir, &format!("model{}.vhd", case.seed))
+                let result = ghdl(&texts[n], case.stop, dir, &format!("model{n}.vhd"))
                     .and_then(|(rows, outcome)| compare(case, &changes(rows), outcome));
                 if let Err(e) = result {
-                    bad.lock().unwrap().push((case.seed, e));
+                    bad.lock().unwrap().push((case.name.clone(), e));
                 }
             });
         }
@@ -265,7 +328,14 @@ fn scratch() -> PathBuf {
 }
 
 fn show(seed: u64) {
-    let Some(Case { model, stop, changes, end, .. }) = Case::new(seed) else {
+    let Some(Case {
+        model,
+        stop,
+        changes,
+        end,
+        ..
+    }) = Case::of_seed(seed)
+    else {
         return println!("-- the model is refused");
     };
     println!("{}", vhdl::translate(&model, Form::Checked));
@@ -298,6 +368,11 @@ fn main() {
         usage()
     }
     let mut cases = choose(n, seed);
+    cases.extend(
+        [0, 3]
+            .into_iter()
+            .flat_map(|at| (998..1_003).map(move |k| counted(at, k))),
+    );
     let mut counts: BTreeMap<End, [usize; 2]> = BTreeMap::new();
     for c in &cases {
         counts.entry(c.end).or_default()[c.lively() as usize] += 1;
@@ -308,13 +383,16 @@ fn main() {
     }
     let all = cases.len();
     cases.retain(|c| c.end != End::Ninth || c.lively());
-    println!("{} models left out: fault 3 before any change", all - cases.len());
+    println!(
+        "{} models left out: fault 3 before any change",
+        all - cases.len()
+    );
     let dir = scratch();
     let bad = compare_all(&cases, &alter, &dir);
-    for (seed, e) in bad.iter().take(10) {
-        println!("model {seed}:\n  {e}");
+    for (name, e) in bad.iter().take(10) {
+        println!("{name}:\n  {e}");
     }
-    let rows: usize = cases.iter().map(|c| c.changes.len()).sum();
+    let rows: usize = cases.iter().map(|c| c.changes.len() - 1).sum();
     println!(
         "ghdlrun: {} models, {} changes of settled values, {} models differ",
         cases.len(),

@@ -127,9 +127,17 @@ fn main() {
     });
     match compare(&text, &kernel) {
         Ok(counts) => {
-            let parts: Vec<String> =
-                KINDS.iter().zip(counts).map(|(k, n)| format!("{} {n}", k.0)).collect();
-            println!("tables {}: {} lines agree ({})", args[0], counts.iter().sum::<usize>(), parts.join(", "));
+            let parts: Vec<String> = KINDS
+                .iter()
+                .zip(counts)
+                .map(|(k, n)| format!("{} {n}", k.0))
+                .collect();
+            println!(
+                "tables {}: {} lines agree ({})",
+                args[0],
+                counts.iter().sum::<usize>(),
+                parts.join(", ")
+            );
         }
         Err(e) => {
             println!("tables {}: {e}", args[0]);

@@ -26,7 +26,7 @@ fn run(arguments: &[String]) -> Result<(), String> {
             );
             tally::sessions(n, seed, None)?.print();
         }
-        Some("limits") => tally::limits(None)?.print(),
+        Some("limits") => tally::limits(None, None)?.print(),
         _ => return Err("use: tally models N SEED | sessions N SEED | limits".into()),
     }
     Ok(())

@@ -1,0 +1,107 @@
+//! Lists a model and orders as the texts that `text.rs` reads.
+
+use second_kernel::model::*;
+use std::collections::BTreeSet;
+use std::fmt::Write;
+
+const CODES: &[u8] = b"UX01ZWLH-";
+
+fn value(ty: u8, v: i32) -> String {
+    match ty {
+        LOGIC => format!("'{}'", CODES[v as usize] as char),
+        BOOLEAN => (v == 1).to_string(),
+        _ => v.to_string(),
+    }
+}
+
+fn type_name(ty: u8) -> &'static str {
+    ["integer", "logic", "boolean"][ty as usize]
+}
+
+fn expression(m: &Model, n: u16) -> String {
+    let d = &m.nodes[n as usize];
+    let two = |op: &str| format!("({} {op} {})", expression(m, d.a), expression(m, d.b));
+    match d.kind {
+        1 if d.k < 0 => format!("(- {})", d.k.unsigned_abs()),
+        1 => d.k.to_string(),
+        2 => value(LOGIC, d.k),
+        3 => format!("v{}", d.a),
+        4 => format!("s{}", d.a),
+        5 => format!("(s{} delayed {})", d.a, d.k),
+        6 => format!("(not {})", expression(m, d.a)),
+        7 => two("and"),
+        8 => two("or"),
+        9 => two("xor"),
+        10 => format!("(- {})", expression(m, d.a)),
+        11 => two("+"),
+        12 => two("-"),
+        13 => two("="),
+        _ => two("<"),
+    }
+}
+
+fn wait(m: &Model, s: &StatementRecord) -> String {
+    let names: Vec<String> = (0..32).filter(|n| s.set >> n & 1 == 1).map(|n| format!("s{n}")).collect();
+    let mut out = "wait".to_string();
+    if !names.is_empty() {
+        let _ = write!(out, " on {}", names.join(", "));
+    }
+    if s.b != ABSENT {
+        let _ = write!(out, " until {}", expression(m, s.b));
+    }
+    if s.c != ABSENT {
+        let _ = write!(out, " for {}", expression(m, s.c));
+    }
+    out
+}
+
+fn statement(m: &Model, s: &StatementRecord) -> String {
+    match s.kind {
+        0 => "null".to_string(),
+        1 => format!("v{} := {}", s.a, expression(m, s.b)),
+        2 => format!("s{} <= {} after {}", s.a, expression(m, s.b), expression(m, s.c)),
+        3 => format!("unless {} goto l{}", expression(m, s.b), s.a),
+        4 => format!("goto l{}", s.a),
+        _ => wait(m, s),
+    }
+}
+
+/// An accepted model as text. Names are s0, v0, p0 and, for labels, l and the statement's number.
+pub fn model(m: &Model) -> String {
+    let mut out = String::new();
+    for (n, s) in m.signals.iter().enumerate() {
+        let _ = writeln!(out, "signal s{n} {} {}", type_name(s.ty), value(s.ty, s.start));
+    }
+    let targets: BTreeSet<u16> = m.statements.iter().filter(|s| s.kind == 3 || s.kind == 4).map(|s| s.a).collect();
+    for (p, q) in m.processes.iter().enumerate() {
+        let _ = writeln!(out, "process p{p}");
+        for (n, v) in m.variables.iter().enumerate().filter(|v| v.1.process as usize == p) {
+            let _ = writeln!(out, "  variable v{n} {} {}", type_name(v.ty), value(v.ty, v.start));
+        }
+        for d in m.drivers.iter().filter(|d| d.process as usize == p) {
+            let _ = writeln!(out, "  -- drives s{}", d.signal);
+        }
+        for n in q.first..q.first + q.count {
+            if targets.contains(&n) {
+                let _ = writeln!(out, "  l{n}:");
+            }
+            let _ = writeln!(out, "  {}", statement(m, &m.statements[n as usize]));
+        }
+    }
+    out
+}
+
+/// Orders as text; one that is none of the four is listed as a comment.
+pub fn orders(bytes: &[u8]) -> String {
+    let mut out = String::new();
+    for o in bytes.chunks(4) {
+        let _ = match o {
+            [1, p, 0, 0] => writeln!(out, "pick {p}"),
+            [2, 0, 0, 0] => writeln!(out, "advance"),
+            [3, 0, lo, hi] => writeln!(out, "settle {}", u16::from_le_bytes([*lo, *hi])),
+            [4, s, 0, 0] => writeln!(out, "read {s}"),
+            other => writeln!(out, "-- bytes {other:?}"),
+        };
+    }
+    out
+}
