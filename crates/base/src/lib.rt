@@ -27,3 +27,11 @@ pub fn long(m: &[u8], at: usize) -> usize
 {
     word(m, at) + 65536 * word(m, at + 2)
 }
+
+// The same 32 bits, as a word of 32 bits.
+pub fn long32(m: &[u8], at: usize) -> u32
+    requires { ⌜ at + 3 < length (now m) ⌝ }
+    ensures { λ r. ⌜ LongIs (now (m .entry)) at r ⌝ }
+{
+    long(m, at) as u32
+}

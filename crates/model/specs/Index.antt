@@ -1,0 +1,50 @@
+-- The index that a loaded model is used by: for each record where it begins, for each node its type, for each signal
+-- assignment its driver.
+use mathlib.Core.Path.{_≡_}
+use mathlib.Core.Bool.{true}
+use mathlib.Core.List.{List}
+use Prim.Native.Nat.{ℕ, _+_, _<_}
+use lib.ListN.{length, getD}
+use Rattle.base.specs.Cases.{pick, _∣_, _is_⇒_}
+use Rattle.model.specs.Blocks.{headsOk, startsOf, totalOf}
+use Rattle.model.specs.Records.{Model, modelOf, statementAt}
+use Rattle.model.specs.Fields.{ownerOf, totalsOk}
+use Rattle.model.specs.Trees.{typeOf}
+use Rattle.model.specs.Owners.{Accepted, driverFor, refusalOf}
+use Rattle.model.specs.declared.index.Totals.{Totals}
+use Rattle.model.specs.declared.index.Loaded.{Loaded}
+
+-- where the index keeps the starts of the records of kind k: 32 signals, 64 variables, 16 processes, 64 drivers, 400 nodes
+-- and 200 statements
+unfoldable pub sectionOf : ℕ → ℕ
+sectionOf k = k is 1 ⇒ 0 ∣ k is 2 ⇒ 32 ∣ k is 3 ⇒ 96 ∣ k is 4 ⇒ 112 ∣ k is 5 ⇒ 176 ∣ 576
+
+-- the blocks are sound, their totals within the limits, and the index says where each record begins
+pub record Starts (m index : List ℕ) : Type 0 where
+  pub heads : headsOk m ≡ true
+  pub totals : totalsOk (modelOf m) ≡ true
+  pub start : (k n : ℕ) → n < totalOf k m → getD index (sectionOf k + n) 0 ≡ getD (startsOf k m) n 0
+
+-- the totals of a model
+pub record TotalsOf (M : Model) (t : Totals) : Type 0 where
+  pub signals : t .signals ≡ length (M .signals)
+  pub variables : t .variables ≡ length (M .variables)
+  pub processes : t .processes ≡ length (M .processes)
+  pub drivers : t .drivers ≡ length (M .drivers)
+  pub nodes : t .nodes ≡ length (M .nodes)
+  pub statements : t .statements ≡ length (M .statements)
+
+-- an accepted model with its index: entry 776 + n is the type of node n, entry 1176 + n the driver of statement n, a signal
+-- assignment
+pub record Usable (m index : List ℕ) : Type 0 where
+  pub starts : Starts m index
+  pub accepted : Accepted (modelOf m)
+  pub type : (n : ℕ) → n < length (modelOf m .nodes) → getD index (776 + n) 0 ≡ typeOf (modelOf m) n
+  pub driver : (n : ℕ) → n < length (modelOf m .statements) → statementAt (modelOf m) n .kind ≡ 2
+      → getD index (1176 + n) 0 ≡ driverFor (modelOf m) (ownerOf (modelOf m) n) (statementAt (modelOf m) n .a)
+
+-- what loading gives: the number of the refusal, and with 0 the totals and the index
+pub record LoadedIs (m : List ℕ) (r : Loaded) : Type 0 where
+  pub refusal : r .refusal ≡ refusalOf m
+  pub totals : r .refusal ≡ 0 → TotalsOf (modelOf m) (r .totals)
+  pub usable : r .refusal ≡ 0 → Usable m (r .index)

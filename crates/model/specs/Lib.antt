@@ -1,0 +1,6 @@
+pub mod Blocks
+pub mod Records
+pub mod Fields
+pub mod Trees
+pub mod Owners
+pub mod Index
