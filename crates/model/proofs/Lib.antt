@@ -1,3 +1,4 @@
+pub mod Places
 pub mod Starts
 pub mod Lookup
-pub mod Places
+pub mod Sections
