@@ -1,2 +1,3 @@
+pub mod FieldLaws
 pub mod Starts
 pub mod Lookup
