@@ -1,3 +1,4 @@
 pub mod FieldLaws
 pub mod Starts
 pub mod Lookup
+pub mod TreeLaws

@@ -2,3 +2,4 @@
 pub mod fields;
 pub mod index;
 pub mod records;
+pub mod trees;
