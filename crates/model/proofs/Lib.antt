@@ -1,2 +1,10 @@
 pub mod Starts
 pub mod Lookup
+pub mod Spans
+pub mod Operands
+pub mod NodeTypes
+pub mod Own
+pub mod Drivers
+pub mod NodeFields
+pub mod StatementFacts
+pub mod Facts

@@ -103,7 +103,7 @@ passed : (t : Bool) (x : ℕ) → pick t x mistyped ≤ 2 → t ≡ true
 passed true x h = refl
 passed false x h = absurd (omega arith)
 
-or-cases : (a b : Bool) → (a || b) ≡ true → (a ≡ true) ⊎ (b ≡ true)
+pub or-cases : (a b : Bool) → (a || b) ≡ true → (a ≡ true) ⊎ (b ≡ true)
 or-cases true b h = inl refl
 or-cases false b h = inr h
 
@@ -112,20 +112,20 @@ module _ (p q t : ℕ) (known : t ≤ 2) where
   logical-known e =
       let g = passed (eqb p q && (eqb p logic || eqb p boolean)) p (rw e at known) in
       let f : t ≡ p = rw g at e in
-      let h : p ≡ q = eqb-true p q (and-left _ _ g) in
-      (sym f, (omega arith, ⊎-elim (λ u. omega (arith, eqb-true p logic u)) (λ u. omega (arith, eqb-true p boolean u)) (or-cases _ _ (and-right _ _ g))))
+      let h : p ≡ q = eqb-true p q (and-left (eqb p q) _ g) in
+      (sym f, (omega arith, ⊎-elim (λ u. omega (arith, eqb-true p logic u)) (λ u. omega (arith, eqb-true p boolean u)) (or-cases (eqb p logic) _ (and-right (eqb p q) _ g))))
 
   pub arithmetic-known : t ≡ arithmeticType p q → (t ≡ integer) × ((p ≡ integer) × (q ≡ integer))
   arithmetic-known e =
       let g = passed (eqb p integer && eqb q integer) integer (rw e at known) in
-      (rw g at e, (eqb-true p integer (and-left _ _ g), eqb-true q integer (and-right _ _ g)))
+      (rw g at e, (eqb-true p integer (and-left (eqb p integer) _ g), eqb-true q integer (and-right (eqb p integer) _ g)))
 
   pub equal-known : t ≡ equalType p q → (t ≡ boolean) × ((q ≡ p) × (p ≤ 1))
   equal-known e =
       let g = passed (eqb p q && (eqb p integer || eqb p logic)) boolean (rw e at known) in
-      (rw g at e, (sym (eqb-true p q (and-left _ _ g)), ⊎-elim (λ u. omega (arith, eqb-true p integer u)) (λ u. omega (arith, eqb-true p logic u)) (or-cases _ _ (and-right _ _ g))))
+      (rw g at e, (sym (eqb-true p q (and-left (eqb p q) _ g)), ⊎-elim (λ u. omega (arith, eqb-true p integer u)) (λ u. omega (arith, eqb-true p logic u)) (or-cases (eqb p integer) _ (and-right (eqb p q) _ g))))
 
   pub less-known : t ≡ lessType p q → (t ≡ boolean) × ((p ≡ integer) × (q ≡ integer))
   less-known e =
       let g = passed (eqb p integer && eqb q integer) boolean (rw e at known) in
-      (rw g at e, (eqb-true p integer (and-left _ _ g), eqb-true q integer (and-right _ _ g)))
+      (rw g at e, (eqb-true p integer (and-left (eqb p integer) _ g), eqb-true q integer (and-right (eqb p integer) _ g)))
