@@ -1,5 +1,6 @@
 pub mod Starts
 pub mod Lookup
+pub mod Places
 pub mod Spans
 pub mod Operands
 pub mod NodeTypes
