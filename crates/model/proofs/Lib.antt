@@ -1,6 +1,7 @@
+pub mod Places
 pub mod Starts
 pub mod Lookup
-pub mod Places
+pub mod Sections
 pub mod Spans
 pub mod Operands
 pub mod NodeTypes

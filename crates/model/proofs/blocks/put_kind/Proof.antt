@@ -1,5 +1,5 @@
 use mathlib.Core.Path.{_≡_, refl, sym, ap, _∙_}
-use Prim.Native.Nat.{_+_, _*_, _-_, _≤_}
+use Prim.Native.Nat.{_+_, _-_, _/_, _≤_, _<_}
 use native.Mathlib.Nat.{le-antisymm}
 use native.Mathlib.Omega.{arith}
 use lib.ListN.{length}
@@ -7,8 +7,8 @@ use Rattle.base.specs.Below.{sumBelow, joinBelow, listBelow}
 use Rattle.base.proofs.Below.{sum-none, sum-more, join-none, join-more}
 use Rattle.model.specs.Blocks.{countIn, startAt, startsIn, startsOf}
 use Rattle.model.specs.Index.{placed}
-use Rattle.model.proofs.Starts.{total-upto, starts-upto}
-use Rattle.model.proofs.Places.{placed-none, placed-more}
+use Rattle.model.proofs.Starts.{total-upto, placed-block}
+use Rattle.model.proofs.Places.{placed-none}
 use borrow.Author.Needs.{needs}
 use Rattle.model.proofs.blocks.put_kind.Statement.{statement}
 use Rattle.model.proofs.blocks.put_kind.Tie as tie
@@ -25,11 +25,19 @@ loop-holds c = (search needs, rw sum-none (omega arith), rw (join-none, placed-n
 count-in-requires : tie.Need-count-in-requires Inv-loop μ-loop
 count-in-requires c κs = search needs
 
+-- the block's starts fit behind those that are there
+room : (c : tie.After-count-in Inv-loop μ-loop) → c .before .before .loop .n + c .count-in .result ≤ length (c .before .before .loop .out)
+room c =
+    let at = c .before .before in
+    let a = at .before .before .before in
+    let t : at .loop .b < length (a .args .m .now) / 512 = omega arith in
+    omega (arith, total-upto (a .args .m .now) (a .args .kind) (at .loop .b) t, c .count-in .ensures .value)
+
 put-starts-requires : tie.Need-put-starts-requires Inv-loop μ-loop
-put-starts-requires c κs = ?
+put-starts-requires c κs = (search needs, search needs, omega (arith, room (c .before)))
 
 add-n : tie.Need-add-n Inv-loop μ-loop
-add-n c = ?
+add-n c = omega (arith, room (c .before .before .before .before))
 
 add-b : tie.Need-add-b Inv-loop μ-loop
 add-b c = search needs
@@ -38,7 +46,18 @@ loop-less : tie.Need-loop-less Inv-loop μ-loop
 loop-less c = search needs
 
 loop-again : tie.Need-loop-again Inv-loop μ-loop
-loop-again c = ?
+loop-again c =
+    let st = c .before .before in
+    let cnt = st .before .before in
+    let at = cnt .before .before in
+    let inv = at .loop .inv in
+    let a = at .before .before .before in
+    let t : at .loop .b < length (a .args .m .now) / 512 = omega arith in (
+      search needs,
+      rw sum-more (omega (arith, cnt .count-in .ensures .value)),
+      st .put-starts .ensures ∙ placed-block (a .args .m .now) (a .args .kind) (a .args .out .now) _ _ _ _ _ t (a .pre .1) (inv .1) (inv .2) (cnt .count-in .ensures .value),
+      search needs,
+    )
 
 same-length : tie.Need-same-length Inv-loop μ-loop
 same-length c = c .before .loop .inv .3

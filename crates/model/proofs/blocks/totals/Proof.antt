@@ -23,7 +23,7 @@ total-requires-6 : tie.Need-total-requires-6
 total-requires-6 c κs = search needs
 
 returns : tie.Need-returns
-returns c = 
+returns c =
     let c5 = c .before in
     let c4 = c5 .before in
     let c3 = c4 .before in
