@@ -12,7 +12,7 @@ use lib.ListN.{length}
 use Rattle.base.specs.Below.{allBelow}
 use Rattle.base.proofs.Below.{every-at, all-at, and-left, and-right, split}
 use Rattle.model.specs.Records.{Model, signalAt, driverAt, nodeAt, statementAt}
-use Rattle.model.specs.Fields.{ownerOf, valueOk, nodeOk, statementOk, fieldsOk}
+use Rattle.model.specs.Fields.{ownerOf, valueOk, nodeOk, fieldsOk}
 use Rattle.model.specs.Trees.{integer, logic, boolean, lowerOk, typeOf, statementTyped, typesOk}
 use Rattle.model.specs.Owners.{Accepted, statementOwned, ownersOk}
 use Rattle.model.specs.Facts.{TotalsFit, DriverFits, NodeFits, NodeTyped, StatementOf, Facts}
@@ -23,6 +23,7 @@ use Rattle.model.proofs.NodeTypes.{type-integer, type-logic, type-varia
 use Rattle.model.proofs.NodeFields.{signal-fits, variable-fits, node-ok, kind-least, kind-most, constant-integer, constant-logic, names-variable, names-signal, delay-most}
 use Rattle.model.proofs.Own.{reads}
 use Rattle.model.proofs.Drivers.{drives, rise, found, single, driver-process, driver-signal}
+use Rattle.model.proofs.StatementFields.{statement-ok}
 use Rattle.model.proofs.StatementFacts.{statement-fits}
 
 -- a node that is not mistyped
@@ -143,7 +144,7 @@ module _ (M : Model) (h : Accepted M) where
   types-known n l = leb-true _ 2 (all-at (λ i. leb (typeOf M i) 2) _ n l (and-left (allBelow (λ i. leb (typeOf M i) 2) (length (M .nodes))) _ (h .types)))
 
   statement : (n : ℕ) → n < length (M .statements) → StatementOf M n
-  unfolding fieldsOk typesOk ownersOk
+  unfolding typesOk ownersOk
   statement n l =
       let o = owner-below M (h .fields) n l (processes-some M (h .totals)) in
       record {
@@ -151,7 +152,7 @@ module _ (M : Model) (h : Accepted M) where
         spans = owner-spans M (h .fields) n o;
         fits =
             statement-fits M n (statementAt M n)
-            (all-at (λ i. statementOk M i (statementAt M i)) _ n l (every-at _ 6 (h .fields)))
+            (statement-ok M n (h .fields) l)
             (all-at (λ i. statementTyped M (statementAt M i)) _ n l (and-right (allBelow (λ i. leb (typeOf M i) 2) (length (M .nodes))) _ (h .types)))
             (all-at (λ i. statementOwned M (ownerOf M i) (statementAt M i)) _ n l (every-at _ 2 (h .owners)));
       }

@@ -2,11 +2,13 @@ pub mod Places
 pub mod Starts
 pub mod Lookup
 pub mod Sections
+pub mod Entries
 pub mod Spans
 pub mod Operands
-pub mod NodeTypes
 pub mod Own
 pub mod Drivers
 pub mod NodeFields
+pub mod NodeTypes
+pub mod StatementFields
 pub mod StatementFacts
 pub mod Facts

@@ -1,19 +1,22 @@
 -- The laws of node types: what `typeOf` says of a node of each kind, its operands being lower. Assumes nothing.
 use mathlib.Core.Path.{_≡_, refl, sym, ap, _∙_}
 use mathlib.Core.Bool.{Bool, true, false, _&&_, _||_}
+use mathlib.Core.List.{List}
 use mathlib.Core.Logic.{⊎-elim, _⊎_, inl, inr}
 use Prim.Native.Nat.{ℕ, zero, suc, _+_, _≤_, _<_}
 use native.Mathlib.Omega.{arith}
-use borrow.Author.Tests.{eqb-true, eq-eqb}
-use lib.Dec.{eqb}
-use lib.ListN.{length, getD}
+use borrow.Author.Tests.{eqb-true, eq-eqb, lt-ltb, le-ltb}
+use lib.Dec.{eqb, ltb}
+use lib.ListN.{length, getD, List·getD-eq-default}
 use Rattle.base.specs.Cases.{pick}
 use Rattle.base.specs.Course.{course, upTo}
-use Rattle.base.proofs.Below.{among, and-left, and-right}
-use Rattle.base.proofs.Course.{earlier}
+use Rattle.base.proofs.Below.{among, and-left, and-right, split}
+use Rattle.base.proofs.Course.{earlier, entries}
 use Rattle.model.specs.Records.{Model, signalAt, variableAt, nodeAt}
+use Rattle.model.specs.Fields.{nodeOk, fieldsOk}
 use Rattle.model.specs.Trees.{integer, logic, boolean, mistyped, typeBy, nextType, typeOf}
 use Rattle.model.specs.declared.records.NodeRecord.{NodeRecord}
+use Rattle.model.proofs.NodeFields.{variable-fits, signal-fits, kind-least, kind-most, names-variable, names-signal}
 
 -- what a node's type is, given those of its operands
 abbrev pub logicalType : ℕ → ℕ → ℕ
@@ -45,9 +48,23 @@ module _ (M : Model) (n : ℕ) where
   unfolding typeOf course nextType
   type-next = refl
 
+  -- the entries of an index for the nodes below n say the same
+  type-entry : (index : List ℕ) → ((k : ℕ) → k < n → getD index (776 + k) 0 ≡ typeOf M k) → (a : ℕ) → pick (ltb a n) (getD index (776 + a) 0) mistyped ≡ below a
+  type-entry index h a =
+      ⊎-elim (λ (l : a < n). rw (lt-ltb a n l) (h a l ∙ sym (below-is a l)))
+      (λ (l : n ≤ a). rw (le-ltb a n l) (sym (List·getD-eq-default (upTo (nextType M) n) mistyped (rw entries l))))
+      (split a n)
+
   module _ (d : NodeRecord) (is : d ≡ nodeAt M n) where
     next : typeOf M n ≡ typeBy M d (below (d .a)) (below (d .b))
     next = rw is type-next
+
+    -- the type from the operands' entries
+    pub type-read : (index : List ℕ) → ((k : ℕ) → k < n → getD index (776 + k) 0 ≡ typeOf M k) → (p q : ℕ) → p ≡ pick (ltb (d .a) n) (getD index (776 + d .a) 0) mistyped → q ≡ pick (ltb (d .b) n) (getD index (776 + d .b) 0) mistyped → typeBy M d p q ≡ typeOf M n
+    type-read index h p q e f =
+        let p-is : p ≡ below (d .a) = e ∙ type-entry index h (d .a) in
+        let q-is : q ≡ below (d .b) = f ∙ type-entry index h (d .b) in
+        cc next
 
     pub type-integer : d .kind ≡ 1 → typeOf M n ≡ integer
     unfolding typeBy
@@ -129,3 +146,61 @@ module _ (p q t : ℕ) (known : t ≤ 2) where
   less-known e =
       let g = passed (eqb p integer && eqb q integer) boolean (rw e at known) in
       (rw g at e, (eqb-true p integer (and-left (eqb p integer) _ g), eqb-true q integer (and-right (eqb p integer) _ g)))
+
+-- a type is at most that of a mistyped node
+pick-small : (t : Bool) (x : ℕ) → (t ≡ true → x ≤ 2) → pick t x mistyped ≤ 3
+pick-small true x h = omega (arith, h refl)
+pick-small false x h = omega arith
+
+either-small : (p a b : ℕ) → a ≤ 2 → b ≤ 2 → (eqb p a || eqb p b) ≡ true → p ≤ 2
+either-small p a b h g t =
+    ⊎-elim (λ (u : eqb p a ≡ true). omega (arith, eqb-true p a u)) (λ (u : eqb p b ≡ true). omega (arith, eqb-true p b u)) (or-cases (eqb p a) _ t)
+
+pub type-small : (M : Model) (d : NodeRecord) (p q : ℕ) → fieldsOk M ≡ true → nodeOk M d ≡ true → typeBy M d p q ≤ 3
+unfolding typeBy
+type-small M d p q f h =
+    let two : (eqb p logic || eqb p boolean) ≡ true → p ≤ 2 = either-small p 1 2 (omega arith) (omega arith) in
+    among (λ k. d .kind ≡ k → typeBy M d p q ≤ 3) 1 14 (d .kind) (
+      (λ e. rw e (omega arith)),
+      (
+        (λ e. rw e (omega arith)),
+        (
+          (λ e. rw e (omega (arith, variable-fits M f (d .a) (names-variable M d h e) .ty))),
+          (
+            (λ e. rw e (omega (arith, signal-fits M f (d .a) (names-signal M d h (omega arith) (omega arith)) .ty))),
+            (
+              (λ e. rw e (omega (arith, signal-fits M f (d .a) (names-signal M d h (omega arith) (omega arith)) .ty))),
+              (
+                (λ e. rw e (pick-small (eqb p logic || eqb p boolean) p two)),
+                (
+                  (λ e. rw e (pick-small (eqb p q && (eqb p logic || eqb p boolean)) p (λ t. two (and-right (eqb p q) _ t)))),
+                  (
+                    (λ e. rw e (pick-small (eqb p q && (eqb p logic || eqb p boolean)) p (λ t. two (and-right (eqb p q) _ t)))),
+                    (
+                      (λ e. rw e (pick-small (eqb p q && (eqb p logic || eqb p boolean)) p (λ t. two (and-right (eqb p q) _ t)))),
+                      (
+                        (λ e. rw e (pick-small (eqb p integer) integer (λ t. omega arith))),
+                        (
+                          (λ e. rw e (pick-small (eqb p integer && eqb q integer) integer (λ t. omega arith))),
+                          (
+                            (λ e. rw e (pick-small (eqb p integer && eqb q integer) integer (λ t. omega arith))),
+                            (
+                              (λ e. rw e (pick-small (eqb p q && (eqb p integer || eqb p logic)) boolean (λ t. omega arith))),
+                              (
+                                (λ e. rw e (pick-small (eqb p integer && eqb q integer) boolean (λ t. omega arith))),
+                                tt,
+                              ),
+                            ),
+                          ),
+                        ),
+                      ),
+                    ),
+                  ),
+                ),
+              ),
+            ),
+          ),
+        ),
+      ),
+    )
+    (kind-least M d h) (omega (arith, kind-most M d h)) refl

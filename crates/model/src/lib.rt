@@ -2,3 +2,4 @@
 pub mod blocks;
 pub mod index;
 pub mod records;
+pub mod types;
