@@ -38,6 +38,26 @@ pub record TotalsOf (M : Model) (t : Totals) : Type 0 where
   pub nodes : t .nodes ≡ length (M .nodes)
   pub statements : t .statements ≡ length (M .statements)
 
+-- entry 776 + k is the type of node k, for each k below n
+abbrev pub TypesBelow : List ℕ → List ℕ → ℕ → Type 0
+TypesBelow m index n = (k : ℕ) → k < n → getD index (776 + k) 0 ≡ typeOf (modelOf m) k
+
+-- entry 1176 + k is the driver of statement k, a signal assignment, for each k below n
+abbrev pub DriversBelow : List ℕ → List ℕ → ℕ → Type 0
+DriversBelow m index n = (k : ℕ) → k < n → statementAt (modelOf m) k .kind ≡ 2
+    → getD index (1176 + k) 0 ≡ driverFor (modelOf m) (ownerOf (modelOf m) k) (statementAt (modelOf m) k .a)
+
+-- an index with the starts, and with the types of the nodes
+pub record TypesIn (m index : List ℕ) : Type 0 where
+  pub size : length index ≡ 1376
+  pub starts : Starts m index
+  pub type : TypesBelow m index (length (modelOf m .nodes))
+
+-- and with the drivers of the statements
+pub record DriversIn (m index : List ℕ) : Type 0 where
+  pub types : TypesIn m index
+  pub driver : DriversBelow m index (length (modelOf m .statements))
+
 -- an accepted model with its index: entry 776 + n is the type of node n, entry 1176 + n the driver of statement n, a signal
 -- assignment
 pub record Usable (m index : List ℕ) : Type 0 where

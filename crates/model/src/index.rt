@@ -40,6 +40,14 @@ fn wide(x: u16) -> usize
     x as usize
 }
 
+// Entry n of the index.
+pub(crate) fn entry(index: &[u16; 1376], n: usize) -> usize
+    requires { ⌜ n < 1376 ⌝ }
+    ensures { λ r. ⌜ r ≡ getD (now (index .entry)) n 0 ⌝ }
+{
+    wide(index[n])
+}
+
 pub fn signal_at<'a>(m: &'a [u8], index: &'a [u16; 1376], n: usize) -> SignalRecord
     requires { ⌜ Starts (now m) (now index) ⌝ }
     requires { ⌜ n < length (modelOf (now m) .signals) ⌝ }

@@ -5,3 +5,4 @@ pub mod index;
 pub mod load;
 pub mod records;
 pub mod trees;
+pub mod types;
