@@ -3,6 +3,8 @@ pub mod Starts
 pub mod Lookup
 pub mod Sections
 pub mod Entries
+pub mod FieldLaws
+pub mod TreeLaws
 pub mod Spans
 pub mod Operands
 pub mod Own

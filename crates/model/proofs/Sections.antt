@@ -80,3 +80,14 @@ module _ (m : List ℕ) (heads : headsOk m ≡ true) (totals : totalsOk (modelOf
         totals = totals;
         start = λ k n h. f k n (omega (arith, total-kind m k n heads h .1)) h;
       }
+
+-- an index with the same sections says the same: writing from entry 776 on changes no start
+pub starts-kept : (m index after : List ℕ) → Starts m index → ((i : ℕ) → i < 776 → getD after i 0 ≡ getD index i 0) → Starts m after
+starts-kept m index after s h =
+    record {
+      heads = s .heads;
+      totals = s .totals;
+      start = λ k n l.
+          let g = total-kind m k n (s .heads) l in
+          h (sectionOf k + n) (omega (arith, section-room m (s .heads) (s .totals) k (g .0) (g .1))) ∙ s .start k n l;
+    }
