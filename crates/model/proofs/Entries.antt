@@ -10,22 +10,12 @@ use Rattle.model.specs.Records.{modelOf, statementAt}
 use Rattle.model.specs.Fields.{ownerOf}
 use Rattle.model.specs.Trees.{typeOf}
 use Rattle.model.specs.Owners.{driverFor}
-use Rattle.model.specs.Index.{sectionOf, Starts, TypesBelow, DriversBelow}
-use Rattle.model.proofs.Starts.{total-kind}
-use Rattle.model.proofs.Sections.{section-room}
+use Rattle.model.specs.Index.{Starts, TypesBelow, DriversBelow}
+use Rattle.model.proofs.Sections.{starts-kept}
 
 module _ (m index : List ℕ) (i v : ℕ) where
-  pub starts-kept : 776 ≤ i → Starts m index → Starts m (set index i v)
-  starts-kept h s =
-      record {
-        heads = s .heads;
-        totals = s .totals;
-        start =
-            λ k n l.
-            let g = total-kind m k n (s .heads) l in
-            getD-set-other index i (sectionOf k + n) v 0 (λ e. omega (arith, section-room m (s .heads) (s .totals) k (g .0) (g .1)))
-            ∙ s .start k n l;
-      }
+  pub starts-set : 776 ≤ i → Starts m index → Starts m (set index i v)
+  starts-set h s = starts-kept m index (set index i v) s (λ j l. getD-set-other index i j v 0 (λ e. omega arith))
 
   pub types-kept : (n : ℕ) → 776 + n ≤ i → TypesBelow m index n → TypesBelow m (set index i v) n
   types-kept n h t k l = getD-set-other index i (776 + k) v 0 (λ e. omega arith) ∙ t k l

@@ -17,6 +17,7 @@ use crate::index::signal_at;
 use crate::index::statement_at;
 use crate::index::variable_at;
 use crate::records::NodeRecord;
+use base::choose;
 
 const INTEGER: usize = 0;
 
@@ -28,13 +29,6 @@ const MISTYPED: usize = 3;
 
 const ABSENT: usize = 65535;
 
-// The first where the test holds, else the second.
-fn choose(test: bool, x: usize, y: usize) -> usize
-    ensures { λ r. ⌜ r ≡ pick test x y ⌝ }
-{
-    if test { x } else { y }
-}
-
 fn variable_type<'a>(m: &'a [u8], index: &'a [u16; 1376], n: usize) -> usize
     requires { ⌜ Starts (now m) (now index) ⌝ }
     requires { ⌜ n < length (modelOf (now m) .variables) ⌝ }
@@ -44,7 +38,7 @@ fn variable_type<'a>(m: &'a [u8], index: &'a [u16; 1376], n: usize) -> usize
     d.ty
 }
 
-fn signal_type<'a>(m: &'a [u8], index: &'a [u16; 1376], n: usize) -> usize
+pub(crate) fn signal_type<'a>(m: &'a [u8], index: &'a [u16; 1376], n: usize) -> usize
     requires { ⌜ Starts (now m) (now index) ⌝ }
     requires { ⌜ n < length (modelOf (now m) .signals) ⌝ }
     ensures { λ r. ⌜ r ≡ signalAt (modelOf (now (m .entry))) n .ty ⌝ }

@@ -14,7 +14,7 @@ use Rattle.model.specs.Records.{modelOf}
 use Rattle.model.specs.Trees.{typeOf}
 use Rattle.model.specs.Index.{Starts, TypesBelow}
 use Rattle.model.proofs.Lookup.{nodes-most}
-use Rattle.model.proofs.Entries.{starts-kept, types-next}
+use Rattle.model.proofs.Entries.{starts-set, types-next}
 use Rattle.model.proofs.types.fill_types.Statement.{statement}
 use Rattle.model.proofs.types.fill_types.Tie as tie
 use Rattle.model.proofs.types.fill_types.Reads as reads
@@ -69,7 +69,7 @@ loop-again c =
     let e = c .next-type .ensures .0 in (
       search needs,
       simp length-set (h .inv .1),
-      starts-kept _ (h .index) (776 + h .n) (c .next-type .result) (omega arith) (h .inv .2),
+      starts-set _ (h .index) (776 + h .n) (c .next-type .result) (omega arith) (h .inv .2),
       types-next _ (h .index) (h .n) (c .next-type .result) (omega (arith, h .inv .1, small (c .before .before))) e (h .inv .3),
       rw (all-next, ← h .inv .4, ← e),
     )

@@ -11,6 +11,7 @@ use Rattle.base.proofs.Below.{among}
 use denote.Ref.{now}
 use Rattle.model.specs.Records.{modelOf}
 use Rattle.model.specs.Trees.{typeBy}
+use Rattle.model.proofs.FieldLaws.{at-least-seven}
 use Rattle.model.proofs.NodeFields.{kind-least, kind-most, names-variable, names-signal}
 use Rattle.model.proofs.types.type_by.Statement.{statement}
 use Rattle.model.proofs.types.type_by.Tie as tie
@@ -69,10 +70,6 @@ returns-7 : tie.Need-returns-7
 unfolding typeBy
 returns-7 c = rw (c .before .match .keys7) (c .choose2 .ensures)
 
--- the tests before the ranges leave more inequalities than `omega` splits on
-seven : (x : ℕ) → 1 ≤ x → (x ≡ 1 → ⊥) → (x ≡ 2 → ⊥) → (x ≡ 3 → ⊥) → (x ≡ 4 → ⊥) → (x ≡ 5 → ⊥) → (x ≡ 6 → ⊥) → 7 ≤ x
-seven x h a b c d e f = omega arith
-
 returns-8 : tie.Need-returns-8
 unfolding typeBy
 returns-8 c =
@@ -80,7 +77,7 @@ returns-8 c =
     let r = c .before .before .before .match .rest .0 in
     among (λ (k : ℕ). a .d .kind ≡ k → c .choose3 .result ≡ typeBy (modelOf (now (a .m))) (a .d) (a .p) (a .q)) 7 3 (a .d .kind)
     ((λ e. rw e (c .choose3 .ensures)), ((λ e. rw e (c .choose3 .ensures)), ((λ e. rw e (c .choose3 .ensures)), tt)))
-    (seven (a .d .kind) (c .before .before .if1 .left) (r .0 .0 .0 .0 .0 .1) (r .0 .0 .0 .0 .1) (r .0 .0 .0 .1) (r .0 .0 .1) (r .0 .1) (r .1)) (c .before .if2 .taken) refl
+    (at-least-seven (a .d .kind) (c .before .before .if1 .left) (r .0 .0 .0 .0 .0 .1) (r .0 .0 .0 .0 .1) (r .0 .0 .0 .1) (r .0 .0 .1) (r .0 .1) (r .1)) (c .before .if2 .taken) refl
 
 and-true : (t : Bool) → (t && true) ≡ t
 and-true true = refl
