@@ -13,7 +13,7 @@ use Rattle.base.specs.Below.{allBelow, sumBelow}
 use Rattle.base.specs.Cases.{pick}
 use Rattle.base.specs.Course.{firstWith}
 use Rattle.base.proofs.Below.{every-at, all-at, and-left, and-right, split, sum-below}
-use Rattle.base.proofs.Course.{first-found, first-at}
+use Rattle.base.proofs.Course.{first-found, first-at, first-within}
 use Rattle.model.specs.Records.{Model, signalAt, driverAt}
 use Rattle.model.specs.Fields.{driverOk, fieldsOk}
 use Rattle.model.specs.Trees.{integer}
@@ -41,6 +41,10 @@ module _ (M : Model) where
         process = eqb-true _ p (and-left (eqb (driverAt M k .process) p) _ t);
         signal = eqb-true _ s (and-right (eqb (driverAt M k .process) p) _ t);
       }
+
+  pub driver-most : (p s : ℕ) → driverFor M p s ≤ length (M .drivers)
+  unfolding driverFor
+  driver-most p s = first-within (isFor p s) (length (M .drivers))
 
   module _ (ok : ownersOk M ≡ true) where
     pair-rises : (i : ℕ) → i + 1 < length (M .drivers) → pairBelow (driverAt M i) (driverAt M (i + 1)) ≡ true

@@ -10,7 +10,7 @@ use lib.Dec.{ltb}
 use lib.ListN.{length}
 use Rattle.base.proofs.Below.{all-at, and-left, and-right}
 use Rattle.model.specs.Records.{Model, nodeAt}
-use Rattle.model.specs.Trees.{operandsOf, lowerOk, sizeOf, treeOk, treesOk}
+use Rattle.model.specs.Trees.{operandsOf, lowerOk, sizeOf, treeOk, Measurable, treesOk}
 use Rattle.model.specs.declared.records.NodeRecord.{NodeRecord}
 
 module _ (kind : ℕ) where
@@ -61,3 +61,7 @@ module _ (M : Model) (ok : treesOk M ≡ true) (n : ℕ) (h : n < length (M .nod
   pub size-most : sizeOf M n ≤ 64
   unfolding treeOk
   size-most = leb-true _ 64 (and-right (lowerOk (nodeAt M n) n) _ tree-ok)
+
+  pub measurable : Measurable M n
+  unfolding treesOk
+  measurable = record { there = h; lower = lower-ok; below = λ k l. all-at (treeOk M) _ k (omega arith) ok }

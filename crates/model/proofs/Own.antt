@@ -14,7 +14,7 @@ use Rattle.model.specs.Trees.{operandsOf, lowerOk}
 use Rattle.model.specs.Owners.{readsBy, nextReads, readsOwn}
 use Rattle.model.specs.Facts.{Reads}
 use Rattle.model.specs.declared.records.NodeRecord.{NodeRecord}
-use Rattle.model.proofs.Operands.{operands-none, operands-two, operands-some, lower-a, lower-b}
+use Rattle.model.proofs.Operands.{operands-two, operands-some, lower-a, lower-b}
 
 module _ (M : Model) (p n : ℕ) where
   -- what is said of node m where those below n are known
@@ -37,28 +37,45 @@ module _ (M : Model) (p n : ℕ) where
     unfolding readsBy
     reads-variable e = rw e at next
 
-    pub reads-none : d .kind ≤ 5 → (d .kind ≡ 3 → ⊥) → readsOwn M p n ≡ true
-    unfolding readsBy
-    reads-none h f = rw (ne-eqb (d .kind) 3 f, operands-none (d .kind) h) at next
+    -- o being how many operands it has
+    module _ {o : ℕ} (k : o ≡ operandsOf (d .kind)) (other : d .kind ≡ 3 → ⊥) where
+      pub reads-none : o ≡ 0 → readsOwn M p n ≡ true
+      unfolding readsBy
+      reads-none q = let w = sym k ∙ q in rw (ne-eqb (d .kind) 3 other, w) at next
 
-    pub reads-one : operandsOf (d .kind) ≡ 1 → 6 ≤ d .kind → d .a < n → readsOwn M p n ≡ readsOwn M p (d .a)
-    unfolding readsBy
-    reads-one e h l = rw (ne-eqb (d .kind) 3 (omega arith), e, below-is (d .a) l) at next
+      pub reads-one : o ≡ 1 → d .a < n → readsOwn M p n ≡ readsOwn M p (d .a)
+      unfolding readsBy
+      reads-one q l = let w = sym k ∙ q in rw (ne-eqb (d .kind) 3 other, w, below-is (d .a) l) at next
 
-    pub reads-two : 7 ≤ d .kind → (d .kind ≡ 10 → ⊥) → d .a < n → d .b < n → readsOwn M p n ≡ (readsOwn M p (d .a) && readsOwn M p (d .b))
-    unfolding readsBy
-    reads-two h f l k =
-        rw (ne-eqb (d .kind) 3 (omega arith), operands-two (d .kind) h f, below-is (d .a) l, below-is (d .b) k) at next
+      pub reads-two : (o ≡ 0 → ⊥) → (o ≡ 1 → ⊥) → d .a < n → d .b < n → readsOwn M p n ≡ (readsOwn M p (d .a) && readsOwn M p (d .b))
+      unfolding readsBy
+      reads-two u v l g =
+          rw (
+            ne-eqb (d .kind) 3 other,
+            ne-eqb (operandsOf (d .kind)) 0 (λ x. u (k ∙ x)),
+            ne-eqb (operandsOf (d .kind)) 1 (λ x. v (k ∙ x)),
+            below-is (d .a) l,
+            below-is (d .b) g,
+          ) at next
 
   -- what it says where it holds
   pub reads : lowerOk (nodeAt M n) n ≡ true → readsOwn M p n ≡ true → Reads M p n
   reads ok own =
       let d = nodeAt M n in
+      let both : 7 ≤ d .kind → (d .kind ≡ 10 → ⊥) → (readsOwn M p (d .a) && readsOwn M p (d .b)) ≡ true =
+        λ l f.
+        let e = operands-two (d .kind) l f in
+        sym (reads-two d refl refl (λ q. omega arith) (λ q. omega arith) (λ q. omega arith) (lower-a d n ok (omega arith)) (lower-b d n ok l f)) ∙ own in
       record {
         variable = λ e. eqb-true _ p (sym (reads-variable d refl e) ∙ own);
         ownA =
-            λ h.
-            operands-some (d .kind) (readsOwn M p (d .a) ≡ true) h (λ e. sym (reads-one d refl e h (lower-a d n ok h)) ∙ own)
-            (λ l f. and-left (readsOwn M p (d .a)) _ (sym (reads-two d refl l f (lower-a d n ok h) (lower-b d n ok l f)) ∙ own));
-        ownB = λ l f. and-right (readsOwn M p (d .a)) _ (sym (reads-two d refl l f (lower-a d n ok (omega arith)) (lower-b d n ok l f)) ∙ own);
+          λ h.
+          operands-some (d .kind) (readsOwn M p (d .a) ≡ true) h
+          (λ e. sym (reads-one d refl refl (λ q. omega arith) e (lower-a d n ok h)) ∙ own)
+          (λ l f. and-left (readsOwn M p (d .a)) _ (both l f));
+        ownB = λ l f. and-right (readsOwn M p (d .a)) _ (both l f);
       }
+
+-- what a call on a lower node asks, from what the function is given
+pub recur : {S F T : Type 0} {n t k N : ℕ} → (n ≡ t) × (S × (F × (T × (n < N)))) → k < n → (k < t) × (S × (F × (T × (k < N))))
+recur h l = (rw (h .0) at l, (h .1 .0, (h .1 .1 .0, (h .1 .1 .1 .0, omega (arith, h .1 .1 .1 .1)))))

@@ -3,6 +3,7 @@ pub mod blocks;
 pub mod fields;
 pub mod index;
 pub mod load;
+pub mod owners;
 pub mod records;
 pub mod trees;
 pub mod types;

@@ -40,7 +40,7 @@ returns c =
     let s = c .before .before .before .before .before in
     let d = c .before .before .before .node-at in
     let M = modelOf (now (s .args .m)) in (
-      rw (c .type-by .ensures) (type-read M (s .args .n) (d .result) (d .ensures) (now (s .args .index)) (s .pre .1 .1 .1) _ _ (c .before .before .operand-type .ensures) (c .before .operand-type2 .ensures),
+      rw (c .type-by .ensures) (type-read M (s .args .n) (d .result) (d .ensures) (now (s .args .index)) (s .pre .1 .1 .1) _ _ (c .before .before .operand-type .ensures) (c .before .operand-type2 .ensures)),
       rw (c .type-by .ensures) (type-small M (d .result) _ _ (s .pre .1 .0) (ok (c .before .before .before))),
     )
 
