@@ -8,9 +8,11 @@ use native.Mathlib.Omega.{arith}
 use lib.ListN.{length, getD, take, drop, take-append-drop}
 use Rattle.base.specs.Below.{firstFailing}
 use Rattle.model.specs.Blocks.{lengthOk, headsOk}
-use Rattle.model.specs.Records.{modelOf}
-use Rattle.model.specs.Fields.{totalsOk}
-use Rattle.model.specs.Owners.{rulesOf, refusalOf}
+use Rattle.model.specs.Records.{Model, modelOf}
+use Rattle.model.specs.Fields.{totalsOk, fieldsOk}
+use Rattle.model.specs.Trees.{treesOk, typesOk}
+use Rattle.model.specs.Owners.{ownersOk, rulesOf, refusalOf}
+use Rattle.model.specs.Index.{DriversIn, Judged}
 
 -- none of the first rules fails: the later ones decide
 first-none : (n : ℕ) (us vs : List Bool) → firstFailing (suc n) us ≡ 0 → firstFailing (suc n) (us ++ vs) ≡ firstFailing (suc n + length us) vs
@@ -69,3 +71,41 @@ module _ (m : List ℕ) where
   pub refusal-most : refusalOf m ≤ 9
   unfolding refusalOf rulesOf
   refusal-most = first-most 1 (rulesOf m)
+
+-- what the rules 5 to 8 give, by the first of them that fails
+module _ (m index : List ℕ) where
+  abbrev M : Model
+  M = modelOf m
+
+  pub fields-fail : fieldsOk M ≡ false → Judged m index 5
+  unfolding rulesOf firstFailing
+  fields-fail a = record { refusal = rw a; usable = λ z. absurd (omega arith) }
+
+  module _ (a : fieldsOk M ≡ true) where
+    pub trees-fail : treesOk M ≡ false → Judged m index 6
+    unfolding rulesOf firstFailing
+    trees-fail b = record { refusal = rw (a, b); usable = λ z. absurd (omega arith) }
+
+    module _ (b : treesOk M ≡ true) where
+      pub types-fail : typesOk M ≡ false → Judged m index 7
+      unfolding rulesOf firstFailing
+      types-fail c = record { refusal = rw (a, b, c); usable = λ z. absurd (omega arith) }
+
+      module _ (c : typesOk M ≡ true) where
+        pub owners-fail : ownersOk M ≡ false → Judged m index 8
+        unfolding rulesOf firstFailing
+        owners-fail d = record { refusal = rw (a, b, c, d); usable = λ z. absurd (omega arith) }
+
+        pub none-fails : ownersOk M ≡ true → DriversIn m index → Judged m index 0
+        unfolding rulesOf firstFailing
+        none-fails d i =
+            let s = i .types .starts in
+            record {
+              refusal = rw (a, b, c, d);
+              usable = λ z. record {
+                starts = s;
+                accepted = record { totals = s .totals; fields = a; trees = b; types = c; owners = d };
+                type = i .types .type;
+                driver = i .driver;
+              };
+            }

@@ -189,7 +189,9 @@ fn statement_owned<'a>(m: &'a [u8], index: &'a [u16; 1376], t: Totals, n: usize)
     let kind = s.kind;
     match kind {
         1 => (variable_process(m, index, s.a) == p) & reads_own(m, index, s.b, p),
-        2 => (entry(index, 1176 + n) < t.drivers) & reads_own(m, index, s.b, p) & reads_own(m, index, s.c, p),
+        2 => (entry(index, 1176 + n) < t.drivers)
+            & reads_own(m, index, s.b, p)
+            & reads_own(m, index, s.c, p),
         3 => reads_own(m, index, s.b, p),
         5 => own_or_absent(m, index, s.b, p) & own_or_absent(m, index, s.c, p),
         _ => true,
