@@ -1,0 +1,17 @@
+pub mod Drivers
+pub mod Entries
+pub mod Facts
+pub mod FieldLaws
+pub mod Lookup
+pub mod NodeFields
+pub mod NodeTypes
+pub mod Operands
+pub mod Own
+pub mod Places
+pub mod Rules
+pub mod Sections
+pub mod Spans
+pub mod Starts
+pub mod StatementFacts
+pub mod StatementFields
+pub mod TreeLaws

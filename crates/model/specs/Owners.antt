@@ -1,0 +1,95 @@
+-- Refusal 8: drivers and the owners of variables; and the number of a refused model.
+use mathlib.Core.Path.{_≡_}
+use Prim.Native.Nat.{ℕ, _+_, _-_}
+use mathlib.Core.Bool.{Bool, true, false, not, _&&_, _||_}
+use mathlib.Core.List.{List, [], _∷_}
+use lib.Dec.{eqb, leb, ltb}
+use lib.ListN.{length, getD}
+use Rattle.base.specs.Below.{allBelow, sumBelow, every, firstFailing}
+use Rattle.base.specs.Cases.{pick, _∣_, _is_⇒_}
+use Rattle.base.specs.Course.{course, firstWith}
+use Rattle.model.specs.Blocks.{lengthOk, sumsOk, headsOk}
+use Rattle.model.specs.Records.{Model, modelOf, signalAt, variableAt, driverAt, nodeAt, statementAt}
+use Rattle.model.specs.Fields.{absent, ownerOf, totalsOk, fieldsOk}
+use Rattle.model.specs.Trees.{operandsOf, treesOk, typesOk}
+use Rattle.model.specs.declared.records.DriverRecord.{DriverRecord}
+use Rattle.model.specs.declared.records.NodeRecord.{NodeRecord}
+use Rattle.model.specs.declared.records.StatementRecord.{StatementRecord}
+
+-- by process, then by signal
+unfoldable pub pairBelow : DriverRecord → DriverRecord → Bool
+pairBelow d e = ltb (d .process) (e .process) || (eqb (d .process) (e .process) && ltb (d .signal) (e .signal))
+
+-- "Driver pairs do not strictly rise by process then signal"
+unfoldable pub driversRise : Model → Bool
+driversRise M = allBelow (λ i. pairBelow (driverAt M i) (driverAt M (i + 1))) (length (M .drivers) - 1)
+
+-- how many drivers signal s has
+unfoldable pub driversOf : Model → ℕ → ℕ
+driversOf M s = sumBelow (λ i. pick (eqb (driverAt M i .signal) s) 1 0) (length (M .drivers))
+
+-- "an integer signal has more than one"
+unfoldable pub singleOk : Model → ℕ → Bool
+singleOk M s = eqb (signalAt M s .ty) 1 || leb (driversOf M s) 1
+
+-- the driver of process p for signal s: the number of its record, or how many there are where it has none
+unfoldable pub driverFor : Model → ℕ → ℕ → ℕ
+driverFor M p s = firstWith (λ i. eqb (driverAt M i .process) p && eqb (driverAt M i .signal) s) (length (M .drivers))
+
+-- node n's tree reads no variable outside process p: given what is so of the nodes below
+unfoldable pub readsBy : Model → ℕ → NodeRecord → Bool → Bool → Bool
+readsBy M p d x y =
+    d .kind is 3 ⇒ eqb (variableAt M (d .a) .process) p
+    ∣ operandsOf (d .kind) is 0 ⇒ true
+    ∣ operandsOf (d .kind) is 1 ⇒ x
+    ∣ (x && y)
+
+unfoldable pub nextReads : Model → ℕ → ℕ → List Bool → Bool
+nextReads M p n before = readsBy M p (nodeAt M n) (getD before (nodeAt M n .a) false) (getD before (nodeAt M n .b) false)
+
+unfoldable pub readsOwn : Model → ℕ → ℕ → Bool
+readsOwn M p n = course (nextReads M p) n
+
+-- "kind 2 lacks its driver, or a variable is assigned, or read in a statement's tree, outside its process": p is the
+-- statement's process
+unfoldable pub statementOwned : Model → ℕ → StatementRecord → Bool
+statementOwned M p s =
+    s .kind is 1 ⇒ (eqb (variableAt M (s .a) .process) p && readsOwn M p (s .b))
+    ∣ s .kind is 2 ⇒ every (ltb (driverFor M p (s .a)) (length (M .drivers)) ∷ readsOwn M p (s .b) ∷ readsOwn M p (s .c) ∷ [])
+    ∣ s .kind is 3 ⇒ readsOwn M p (s .b)
+    ∣ s .kind is 5 ⇒ ((eqb (s .b) absent || readsOwn M p (s .b)) && (eqb (s .c) absent || readsOwn M p (s .c)))
+    ∣ true
+
+-- 8.
+unfoldable pub ownersOk : Model → Bool
+ownersOk M =
+    every
+    (driversRise M
+    ∷ allBelow (singleOk M) (length (M .signals))
+    ∷ allBelow (λ n. statementOwned M (ownerOf M n) (statementAt M n)) (length (M .statements))
+    ∷ [])
+
+-- the rules in checking order, from 1 on
+unfoldable pub rulesOf : List ℕ → List Bool
+rulesOf m =
+    lengthOk m
+    ∷ sumsOk m
+    ∷ headsOk m
+    ∷ totalsOk (modelOf m)
+    ∷ fieldsOk (modelOf m)
+    ∷ treesOk (modelOf m)
+    ∷ typesOk (modelOf m)
+    ∷ ownersOk (modelOf m)
+    ∷ []
+
+-- "1 to 10: each over the whole input before the next": the first of 1 to 8 that applies, or 0
+unfoldable pub refusalOf : List ℕ → ℕ
+refusalOf m = firstFailing 1 (rulesOf m)
+
+-- what the rules 4 to 8 together say: "A model is accepted when no refusal that concerns the model alone applies."
+pub record Accepted (M : Model) : Type 0 where
+  pub totals : totalsOk M ≡ true
+  pub fields : fieldsOk M ≡ true
+  pub trees : treesOk M ≡ true
+  pub types : typesOk M ≡ true
+  pub owners : ownersOk M ≡ true
