@@ -17,10 +17,14 @@ test: setup
 	sh tests/ghdl/tables.sh target/tests/tables
 	$(CARGO) run $(PEER) --bin tables second target/tests/tables
 	$(PROVED) tables proved target/tests/tables
+	$(PROVED) compare models 200000 1
+	$(PROVED) compare limits
+	sh tests/ghdl/run.sh 200 1
 
 bench: setup
 	rt staticlib exports
 	bench/run
+	$(PROVED) judgebench
 
 setup:
 	@sh tools/setup
