@@ -13,13 +13,9 @@ test: setup
 	rt fmt --check
 	$(CARGO) test $(PEER)
 	rt staticlib exports
-	mkdir -p target/tests
-	sh tests/ghdl/tables.sh target/tests/tables
-	$(CARGO) run $(PEER) --bin tables second target/tests/tables
-	$(PROVED) tables proved target/tests/tables
 	$(PROVED) compare models 200000 1
 	$(PROVED) compare limits
-	sh tests/ghdl/run.sh 200 1
+	KERNEL_LIB_DIR=$(LIB) sh tests/ghdl/run.sh 200 1
 
 bench: setup
 	rt staticlib exports
