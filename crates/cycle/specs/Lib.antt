@@ -1,0 +1,5 @@
+pub mod Configuration
+pub mod Evaluation
+pub mod Statements
+pub mod Steps
+pub mod Orders
