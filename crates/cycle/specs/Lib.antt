@@ -3,3 +3,4 @@ pub mod Evaluation
 pub mod Statements
 pub mod Steps
 pub mod Orders
+pub mod Invariant

@@ -128,8 +128,8 @@ applied M p e c =
       signals = c .signals;
       drivers = driversAfter e (c .time) (c .drivers);
       processes =
-        set (c .processes) p
-        (processAfter e (fullAfter e (c .time) (c .drivers)) (c .time) (nextPlace M p (processIn (c .processes) p .place)) (processIn (c .processes) p));
+          set (c .processes) p
+          (processAfter e (fullAfter e (c .time) (c .drivers)) (c .time) (nextPlace M p (processIn (c .processes) p .place)) (processIn (c .processes) p));
       variables = variablesAfter e (c .variables);
     }
 

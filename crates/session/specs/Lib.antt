@@ -1,0 +1,3 @@
+pub mod Lists
+pub mod Sessions
+pub mod Demand3

@@ -1,0 +1,1 @@
+// The session layer: orders, answers, lists of orders and sessions; determinacy over whole lists.
