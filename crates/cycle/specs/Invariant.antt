@@ -9,9 +9,9 @@ use Rattle.model.specs.Records.{Model, signalAt, variableAt, driverAt, processA
 use Rattle.model.specs.Fields.{endOf, valueOk}
 use Rattle.cycle.specs.Configuration.{Transaction, DriverState, ProcessState, Configuration, driverIn, processIn, pastOf, ready, waiting}
 
--- 32 bits that are a value of the type
+-- a value of the type
 abbrev pub ValueOf : ℕ → ℕ → Type 0
-ValueOf ty v = (valueOk ty v ≡ true) × (v < 4294967296)
+ValueOf ty v = valueOk ty v ≡ true
 
 -- the latest time that a session reaches, and the latest that a transaction or a deadline can have: a delay more
 abbrev pub lastTime : ℕ
