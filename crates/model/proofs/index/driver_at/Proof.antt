@@ -1,50 +1,56 @@
+use mathlib.Core.Path.{refl, _∙_}
+use Prim.Native.Nat.{_+_, _≤_}
+use native.Mathlib.Omega.{arith}
+use lib.ListN.{length}
+use Rattle.model.specs.Records.{modelOf, driverOf}
+use Rattle.model.specs.Index.{sectionOf}
+use Rattle.model.proofs.Lookup.{drivers-length, drivers-most, inside, recorded}
 use borrow.Author.Needs.{needs}
 use Rattle.model.proofs.index.driver_at.Statement.{statement}
 use Rattle.model.proofs.index.driver_at.Tie as tie
-use Rattle.model.proofs.index.driver_at.Reads as reads
-use Rattle.model.proofs.index.driver_at.Lts as lts
-use Rattle.model.proofs.index.wide.Reads as wide-reads
-use Rattle.model.proofs.records.read_driver.Reads as read-driver-reads
 
--- src/index.rt:75:28
 add-wide : tie.Need-add-wide
-add-wide c = search needs
+add-wide c = omega (arith, drivers-most _ (c .before .pre .0 .totals))
 
--- src/index.rt:75:22
 mul-wide : tie.Need-mul-wide
-mul-wide c = search needs
+mul-wide c = omega (arith, drivers-most _ (c .before .pre .0 .totals))
 
--- src/index.rt:75:22
 element-copy-out-wide : tie.Need-element-copy-out-wide
-element-copy-out-wide c = search needs
+element-copy-out-wide c = omega (arith, drivers-most _ (c .before .pre .0 .totals))
 
--- src/index.rt:75:9
 wide-requires : tie.Need-wide-requires
 wide-requires c κs = search needs
 
--- src/index.rt:76:27
-add-read-driver : tie.Need-add-read-driver
-add-read-driver c = search needs
+-- the record lies within the model
+within : (c : tie.After-wide) → c .wide .result + 12 ≤ length (c .before .before .before .args .m .now)
+unfolding sectionOf
+within c =
+    let a = c .before .before .before in
+    let h = rw drivers-length at (a .pre .1) in
+    rw (c .wide .ensures) (inside 4 _ (a .args .index .now) (a .args .n) _ refl (a .pre .0) h)
 
--- src/index.rt:76:17
+add-read-driver : tie.Need-add-read-driver
+add-read-driver c = omega (arith, within c)
+
 sub-read-driver : tie.Need-sub-read-driver
 sub-read-driver c = search needs
 
--- src/index.rt:76:17
 part-read-driver-start : tie.Need-part-read-driver-start
 part-read-driver-start c = search needs
 
--- src/index.rt:76:17
 part-read-driver-end : tie.Need-part-read-driver-end
-part-read-driver-end c = search needs
+part-read-driver-end c = within c
 
--- src/index.rt:76:5
 read-driver-requires : tie.Need-read-driver-requires
 read-driver-requires c κs = search needs
 
--- src/index.rt:70:1
 returns : tie.Need-returns
-returns c = search needs
+unfolding modelOf sectionOf
+returns c =
+    let a = c .before .before .before .before .before in
+    let w = c .before .before in
+    let h = rw drivers-length at (a .pre .1) in
+    c .read-driver .ensures ∙ rw (w .wide .ensures) (recorded 4 _ (a .args .index .now) (a .args .n) _ refl (a .pre .0) h driverOf _)
 
 pub driver-at-spec : {M : Type 1} → statement M
 driver-at-spec =

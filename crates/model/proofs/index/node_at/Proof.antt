@@ -1,50 +1,56 @@
+use mathlib.Core.Path.{refl, _∙_}
+use Prim.Native.Nat.{_+_, _≤_}
+use native.Mathlib.Omega.{arith}
+use lib.ListN.{length}
+use Rattle.model.specs.Records.{modelOf, nodeOf}
+use Rattle.model.specs.Index.{sectionOf}
+use Rattle.model.proofs.Lookup.{nodes-length, nodes-most, inside, recorded}
 use borrow.Author.Needs.{needs}
 use Rattle.model.proofs.index.node_at.Statement.{statement}
 use Rattle.model.proofs.index.node_at.Tie as tie
-use Rattle.model.proofs.index.node_at.Reads as reads
-use Rattle.model.proofs.index.node_at.Lts as lts
-use Rattle.model.proofs.index.wide.Reads as wide-reads
-use Rattle.model.proofs.records.read_node.Reads as read-node-reads
 
--- src/index.rt:84:28
 add-wide : tie.Need-add-wide
-add-wide c = search needs
+add-wide c = omega (arith, nodes-most _ (c .before .pre .0 .totals))
 
--- src/index.rt:84:22
 mul-wide : tie.Need-mul-wide
-mul-wide c = search needs
+mul-wide c = omega (arith, nodes-most _ (c .before .pre .0 .totals))
 
--- src/index.rt:84:22
 element-copy-out-wide : tie.Need-element-copy-out-wide
-element-copy-out-wide c = search needs
+element-copy-out-wide c = omega (arith, nodes-most _ (c .before .pre .0 .totals))
 
--- src/index.rt:84:9
 wide-requires : tie.Need-wide-requires
 wide-requires c κs = search needs
 
--- src/index.rt:85:25
-add-read-node : tie.Need-add-read-node
-add-read-node c = search needs
+-- the record lies within the model
+within : (c : tie.After-wide) → c .wide .result + 12 ≤ length (c .before .before .before .args .m .now)
+unfolding sectionOf
+within c =
+    let a = c .before .before .before in
+    let h = rw nodes-length at (a .pre .1) in
+    rw (c .wide .ensures) (inside 5 _ (a .args .index .now) (a .args .n) _ refl (a .pre .0) h)
 
--- src/index.rt:85:15
+add-read-node : tie.Need-add-read-node
+add-read-node c = omega (arith, within c)
+
 sub-read-node : tie.Need-sub-read-node
 sub-read-node c = search needs
 
--- src/index.rt:85:15
 part-read-node-start : tie.Need-part-read-node-start
 part-read-node-start c = search needs
 
--- src/index.rt:85:15
 part-read-node-end : tie.Need-part-read-node-end
-part-read-node-end c = search needs
+part-read-node-end c = within c
 
--- src/index.rt:85:5
 read-node-requires : tie.Need-read-node-requires
 read-node-requires c κs = search needs
 
--- src/index.rt:79:1
 returns : tie.Need-returns
-returns c = search needs
+unfolding modelOf sectionOf
+returns c =
+    let a = c .before .before .before .before .before in
+    let w = c .before .before in
+    let h = rw nodes-length at (a .pre .1) in
+    c .read-node .ensures ∙ rw (w .wide .ensures) (recorded 5 _ (a .args .index .now) (a .args .n) _ refl (a .pre .0) h nodeOf _)
 
 pub node-at-spec : {M : Type 1} → statement M
 node-at-spec =

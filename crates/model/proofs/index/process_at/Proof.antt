@@ -1,50 +1,56 @@
+use mathlib.Core.Path.{refl, _∙_}
+use Prim.Native.Nat.{_+_, _≤_}
+use native.Mathlib.Omega.{arith}
+use lib.ListN.{length}
+use Rattle.model.specs.Records.{modelOf, processOf}
+use Rattle.model.specs.Index.{sectionOf}
+use Rattle.model.proofs.Lookup.{processes-length, processes-most, inside, recorded}
 use borrow.Author.Needs.{needs}
 use Rattle.model.proofs.index.process_at.Statement.{statement}
 use Rattle.model.proofs.index.process_at.Tie as tie
-use Rattle.model.proofs.index.process_at.Reads as reads
-use Rattle.model.proofs.index.process_at.Lts as lts
-use Rattle.model.proofs.index.wide.Reads as wide-reads
-use Rattle.model.proofs.records.read_process.Reads as read-process-reads
 
--- src/index.rt:66:28
 add-wide : tie.Need-add-wide
-add-wide c = search needs
+add-wide c = omega (arith, processes-most _ (c .before .pre .0 .totals))
 
--- src/index.rt:66:22
 mul-wide : tie.Need-mul-wide
-mul-wide c = search needs
+mul-wide c = omega (arith, processes-most _ (c .before .pre .0 .totals))
 
--- src/index.rt:66:22
 element-copy-out-wide : tie.Need-element-copy-out-wide
-element-copy-out-wide c = search needs
+element-copy-out-wide c = omega (arith, processes-most _ (c .before .pre .0 .totals))
 
--- src/index.rt:66:9
 wide-requires : tie.Need-wide-requires
 wide-requires c κs = search needs
 
--- src/index.rt:67:28
-add-read-process : tie.Need-add-read-process
-add-read-process c = search needs
+-- the record lies within the model
+within : (c : tie.After-wide) → c .wide .result + 12 ≤ length (c .before .before .before .args .m .now)
+unfolding sectionOf
+within c =
+    let a = c .before .before .before in
+    let h = rw processes-length at (a .pre .1) in
+    rw (c .wide .ensures) (inside 3 _ (a .args .index .now) (a .args .n) _ refl (a .pre .0) h)
 
--- src/index.rt:67:18
+add-read-process : tie.Need-add-read-process
+add-read-process c = omega (arith, within c)
+
 sub-read-process : tie.Need-sub-read-process
 sub-read-process c = search needs
 
--- src/index.rt:67:18
 part-read-process-start : tie.Need-part-read-process-start
 part-read-process-start c = search needs
 
--- src/index.rt:67:18
 part-read-process-end : tie.Need-part-read-process-end
-part-read-process-end c = search needs
+part-read-process-end c = within c
 
--- src/index.rt:67:5
 read-process-requires : tie.Need-read-process-requires
 read-process-requires c κs = search needs
 
--- src/index.rt:61:1
 returns : tie.Need-returns
-returns c = search needs
+unfolding modelOf sectionOf
+returns c =
+    let a = c .before .before .before .before .before in
+    let w = c .before .before in
+    let h = rw processes-length at (a .pre .1) in
+    c .read-process .ensures ∙ rw (w .wide .ensures) (recorded 3 _ (a .args .index .now) (a .args .n) _ refl (a .pre .0) h processOf _)
 
 pub process-at-spec : {M : Type 1} → statement M
 process-at-spec =

@@ -1,50 +1,56 @@
+use mathlib.Core.Path.{refl, _∙_}
+use Prim.Native.Nat.{_+_, _≤_}
+use native.Mathlib.Omega.{arith}
+use lib.ListN.{length}
+use Rattle.model.specs.Records.{modelOf, statementOf}
+use Rattle.model.specs.Index.{sectionOf}
+use Rattle.model.proofs.Lookup.{statements-length, statements-most, inside, recorded}
 use borrow.Author.Needs.{needs}
 use Rattle.model.proofs.index.statement_at.Statement.{statement}
 use Rattle.model.proofs.index.statement_at.Tie as tie
-use Rattle.model.proofs.index.statement_at.Reads as reads
-use Rattle.model.proofs.index.statement_at.Lts as lts
-use Rattle.model.proofs.index.wide.Reads as wide-reads
-use Rattle.model.proofs.records.read_statement.Reads as read-statement-reads
 
--- src/index.rt:93:28
 add-wide : tie.Need-add-wide
-add-wide c = search needs
+add-wide c = omega (arith, statements-most _ (c .before .pre .0 .totals))
 
--- src/index.rt:93:22
 mul-wide : tie.Need-mul-wide
-mul-wide c = search needs
+mul-wide c = omega (arith, statements-most _ (c .before .pre .0 .totals))
 
--- src/index.rt:93:22
 element-copy-out-wide : tie.Need-element-copy-out-wide
-element-copy-out-wide c = search needs
+element-copy-out-wide c = omega (arith, statements-most _ (c .before .pre .0 .totals))
 
--- src/index.rt:93:9
 wide-requires : tie.Need-wide-requires
 wide-requires c κs = search needs
 
--- src/index.rt:94:30
-add-read-statement : tie.Need-add-read-statement
-add-read-statement c = search needs
+-- the record lies within the model
+within : (c : tie.After-wide) → c .wide .result + 12 ≤ length (c .before .before .before .args .m .now)
+unfolding sectionOf
+within c =
+    let a = c .before .before .before in
+    let h = rw statements-length at (a .pre .1) in
+    rw (c .wide .ensures) (inside 6 _ (a .args .index .now) (a .args .n) _ refl (a .pre .0) h)
 
--- src/index.rt:94:20
+add-read-statement : tie.Need-add-read-statement
+add-read-statement c = omega (arith, within c)
+
 sub-read-statement : tie.Need-sub-read-statement
 sub-read-statement c = search needs
 
--- src/index.rt:94:20
 part-read-statement-start : tie.Need-part-read-statement-start
 part-read-statement-start c = search needs
 
--- src/index.rt:94:20
 part-read-statement-end : tie.Need-part-read-statement-end
-part-read-statement-end c = search needs
+part-read-statement-end c = within c
 
--- src/index.rt:94:5
 read-statement-requires : tie.Need-read-statement-requires
 read-statement-requires c κs = search needs
 
--- src/index.rt:88:1
 returns : tie.Need-returns
-returns c = search needs
+unfolding modelOf sectionOf
+returns c =
+    let a = c .before .before .before .before .before in
+    let w = c .before .before in
+    let h = rw statements-length at (a .pre .1) in
+    c .read-statement .ensures ∙ rw (w .wide .ensures) (recorded 6 _ (a .args .index .now) (a .args .n) _ refl (a .pre .0) h statementOf _)
 
 pub statement-at-spec : {M : Type 1} → statement M
 statement-at-spec =

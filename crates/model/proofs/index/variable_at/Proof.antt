@@ -1,50 +1,56 @@
+use mathlib.Core.Path.{refl, _∙_}
+use Prim.Native.Nat.{_+_, _≤_}
+use native.Mathlib.Omega.{arith}
+use lib.ListN.{length}
+use Rattle.model.specs.Records.{modelOf, variableOf}
+use Rattle.model.specs.Index.{sectionOf}
+use Rattle.model.proofs.Lookup.{variables-length, variables-most, inside, recorded}
 use borrow.Author.Needs.{needs}
 use Rattle.model.proofs.index.variable_at.Statement.{statement}
 use Rattle.model.proofs.index.variable_at.Tie as tie
-use Rattle.model.proofs.index.variable_at.Reads as reads
-use Rattle.model.proofs.index.variable_at.Lts as lts
-use Rattle.model.proofs.index.wide.Reads as wide-reads
-use Rattle.model.proofs.records.read_variable.Reads as read-variable-reads
 
--- src/index.rt:57:28
 add-wide : tie.Need-add-wide
-add-wide c = search needs
+add-wide c = omega (arith, variables-most _ (c .before .pre .0 .totals))
 
--- src/index.rt:57:22
 mul-wide : tie.Need-mul-wide
-mul-wide c = search needs
+mul-wide c = omega (arith, variables-most _ (c .before .pre .0 .totals))
 
--- src/index.rt:57:22
 element-copy-out-wide : tie.Need-element-copy-out-wide
-element-copy-out-wide c = search needs
+element-copy-out-wide c = omega (arith, variables-most _ (c .before .pre .0 .totals))
 
--- src/index.rt:57:9
 wide-requires : tie.Need-wide-requires
 wide-requires c κs = search needs
 
--- src/index.rt:58:29
-add-read-variable : tie.Need-add-read-variable
-add-read-variable c = search needs
+-- the record lies within the model
+within : (c : tie.After-wide) → c .wide .result + 12 ≤ length (c .before .before .before .args .m .now)
+unfolding sectionOf
+within c =
+    let a = c .before .before .before in
+    let h = rw variables-length at (a .pre .1) in
+    rw (c .wide .ensures) (inside 2 _ (a .args .index .now) (a .args .n) _ refl (a .pre .0) h)
 
--- src/index.rt:58:19
+add-read-variable : tie.Need-add-read-variable
+add-read-variable c = omega (arith, within c)
+
 sub-read-variable : tie.Need-sub-read-variable
 sub-read-variable c = search needs
 
--- src/index.rt:58:19
 part-read-variable-start : tie.Need-part-read-variable-start
 part-read-variable-start c = search needs
 
--- src/index.rt:58:19
 part-read-variable-end : tie.Need-part-read-variable-end
-part-read-variable-end c = search needs
+part-read-variable-end c = within c
 
--- src/index.rt:58:5
 read-variable-requires : tie.Need-read-variable-requires
 read-variable-requires c κs = search needs
 
--- src/index.rt:52:1
 returns : tie.Need-returns
-returns c = search needs
+unfolding modelOf sectionOf
+returns c =
+    let a = c .before .before .before .before .before in
+    let w = c .before .before in
+    let h = rw variables-length at (a .pre .1) in
+    c .read-variable .ensures ∙ rw (w .wide .ensures) (recorded 2 _ (a .args .index .now) (a .args .n) _ refl (a .pre .0) h variableOf _)
 
 pub variable-at-spec : {M : Type 1} → statement M
 variable-at-spec =

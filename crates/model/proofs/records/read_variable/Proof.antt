@@ -2,33 +2,22 @@ use borrow.Author.Needs.{needs}
 use Rattle.model.specs.Records.{variableOf}
 use Rattle.model.proofs.records.read_variable.Statement.{statement}
 use Rattle.model.proofs.records.read_variable.Tie as tie
-use Rattle.model.proofs.records.read_variable.Reads as reads
-use Rattle.model.proofs.records.read_variable.Lts as lts
-use Rattle.base.proofs.byte.Reads as byte-reads
-use Rattle.base.proofs.long32.Reads as long32-reads
-use Rattle.model.proofs.records.zeros.Reads as zeros-reads
 
--- src/records.rt:84:13
 byte-requires : tie.Need-byte-requires
 byte-requires c κs = search needs
 
--- src/records.rt:85:18
 byte-requires-2 : tie.Need-byte-requires-2
 byte-requires-2 c κs = search needs
 
--- src/records.rt:86:16
 long32-requires : tie.Need-long32-requires
 long32-requires c κs = search needs
 
--- src/records.rt:87:16
 zeros-requires : tie.Need-zeros-requires
 zeros-requires c κs = search needs
 
--- src/records.rt:87:33
 zeros-requires-2 : tie.Need-zeros-requires-2
 zeros-requires-2 c κs = search needs
 
--- src/records.rt:79:1
 returns : tie.Need-returns
 unfolding variableOf
 returns c = cc

@@ -6,9 +6,6 @@ use Rattle.model.specs.Records.{zerosAt}
 use borrow.Author.Needs.{needs}
 use Rattle.model.proofs.records.zeros.Statement.{statement}
 use Rattle.model.proofs.records.zeros.Tie as tie
-use Rattle.model.proofs.records.zeros.Reads as reads
-use Rattle.model.proofs.records.zeros.Lts as lts
-use Rattle.base.proofs.byte.Reads as byte-reads
 
 abbrev Inv-loop : tie.InvT-loop
 Inv-loop r i n ok₀ j₀ ok j = (j ≤ n) × (ok ≡ zerosAt r i j)
@@ -16,33 +13,26 @@ Inv-loop r i n ok₀ j₀ ok j = (j ≤ n) × (ok ≡ zerosAt r i j)
 abbrev μ-loop : tie.MeasureT-loop
 μ-loop r i n ok₀ j₀ ok j = n - j
 
--- src/records.rt:60:5
 loop-holds : tie.Need-loop-holds Inv-loop μ-loop
 unfolding zerosAt
 loop-holds c = (search needs, sym (all-none _))
 
--- src/records.rt:61:28
 add-byte : tie.Need-add-byte Inv-loop μ-loop
 add-byte c = search needs
 
--- src/records.rt:61:20
 byte-requires : tie.Need-byte-requires Inv-loop μ-loop
 byte-requires c κs = search needs
 
--- src/records.rt:62:9
 add-j : tie.Need-add-j Inv-loop μ-loop
 add-j c = search needs
 
--- src/records.rt:60:5
 loop-less : tie.Need-loop-less Inv-loop μ-loop
 loop-less c = search needs
 
--- src/records.rt:60:5
 loop-again : tie.Need-loop-again Inv-loop μ-loop
 unfolding zerosAt
 loop-again c = (search needs, rw all-next (cc))
 
--- src/records.rt:54:1
 returns : tie.Need-returns Inv-loop μ-loop
 returns c = c .before .loop .inv .1 ∙ ap (zerosAt _ _) (le-antisymm (c .before .loop .inv .0) (c .loop-test .left))
 
