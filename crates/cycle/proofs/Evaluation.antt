@@ -94,13 +94,13 @@ module _ (M : Model) (e : Environment) (n : ℕ) (f : NodeFits M n) where
     pub leaf : ((p q : Value) → v ≡ valueBy e d ty p q) → v ≡ evalOf M e n
     leaf w = unary (evalOf M e (d .a)) refl (λ q. w (evalOf M e (d .a)) q)
 
-module _ (M : Model) (fs : Facts M) (e e' : Environment) where
-  -- e and e' are the same on the signals that M has
-  abbrev pub SameSignals : Type 0
-  SameSignals = (s k : ℕ) → s < length (M .signals) → k ≤ 31 → e .signal s k ≡ e' .signal s k
+-- two environments are the same on the signals that M has
+abbrev pub SameSignals : Model → Environment → Environment → Type 0
+SameSignals M e e' = (s k : ℕ) → s < length (M .signals) → k ≤ 31 → e .signal s k ≡ e' .signal s k
 
+module _ (M : Model) (fs : Facts M) (e e' : Environment) where
   -- what is read is the same, so the value is the same, if it is so of the operands
-  next-same : SameSignals → (n : ℕ) → n < length (M .nodes)
+  next-same : SameSignals M e e' → (n : ℕ) → n < length (M .nodes)
       → (nodeAt M n .kind ≡ 3 → e .variable (nodeAt M n .a) ≡ e' .variable (nodeAt M n .a))
       → (6 ≤ nodeAt M n .kind → evalOf M e (nodeAt M n .a) ≡ evalOf M e' (nodeAt M n .a))
       → (7 ≤ nodeAt M n .kind → (nodeAt M n .kind ≡ 10 → ⊥) → evalOf M e (nodeAt M n .b) ≡ evalOf M e' (nodeAt M n .b))
@@ -124,7 +124,7 @@ module _ (M : Model) (fs : Facts M) (e e' : Environment) where
           }
 
   -- two environments give a node the same value if they give each variable of its tree the same: P marks the nodes of such trees
-  module _ (P : ℕ → Type 0) (same : SameSignals)
+  module _ (P : ℕ → Type 0) (same : SameSignals M e e')
       (variables : (n : ℕ) → n < length (M .nodes) → P n → nodeAt M n .kind ≡ 3 → e .variable (nodeAt M n .a) ≡ e' .variable (nodeAt M n .a))
       (first : (n : ℕ) → n < length (M .nodes) → P n → 6 ≤ nodeAt M n .kind → P (nodeAt M n .a))
       (second : (n : ℕ) → n < length (M .nodes) → P n → 7 ≤ nodeAt M n .kind → (nodeAt M n .kind ≡ 10 → ⊥) → P (nodeAt M n .b))
@@ -140,7 +140,7 @@ module _ (M : Model) (fs : Facts M) (e e' : Environment) where
       agree-on n h r = agree-below (suc n) n (omega arith) h r
 
   -- a tree that reads variables of process p alone has the same value where those are the same
-  pub agree : (p : ℕ) → SameSignals → ((a : ℕ) → a < length (M .variables) → variableAt M a .process ≡ p → e .variable a ≡ e' .variable a)
+  pub agree : (p : ℕ) → SameSignals M e e' → ((a : ℕ) → a < length (M .variables) → variableAt M a .process ≡ p → e .variable a ≡ e' .variable a)
       → (n : ℕ) → n < length (M .nodes) → readsOwn M p n ≡ true → evalOf M e n ≡ evalOf M e' n
   agree p same vs =
       agree-on (λ n. readsOwn M p n ≡ true) same
@@ -149,7 +149,7 @@ module _ (M : Model) (fs : Facts M) (e e' : Environment) where
       (λ n h r k t. fs .reads p n h r .ownB k t)
 
   -- any tree has the same value where all variables are the same
-  pub agree-all : SameSignals → ((a : ℕ) → a < length (M .variables) → e .variable a ≡ e' .variable a)
+  pub agree-all : SameSignals M e e' → ((a : ℕ) → a < length (M .variables) → e .variable a ≡ e' .variable a)
       → (n : ℕ) → n < length (M .nodes) → evalOf M e n ≡ evalOf M e' n
   agree-all same vs n h = agree-on (λ n. Unit {0}) same (λ n h r k. vs (nodeAt M n .a) (fs .node n h .variable k)) (λ n h r k. tt) (λ n h r k t. tt) n h tt
 

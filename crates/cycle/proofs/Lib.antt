@@ -1,1 +1,2 @@
 pub mod Evaluation
+pub mod Effects
