@@ -1,2 +1,4 @@
 pub mod Evaluation
 pub mod Effects
+pub mod Earliest
+pub mod Waves
