@@ -1,3 +1,4 @@
+pub mod Lists
 pub mod Evaluation
 pub mod Effects
 pub mod Earliest
