@@ -3,3 +3,4 @@ pub mod Evaluation
 pub mod Effects
 pub mod Earliest
 pub mod Waves
+pub mod Driving
