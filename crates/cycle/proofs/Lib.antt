@@ -4,3 +4,4 @@ pub mod Effects
 pub mod Earliest
 pub mod Waves
 pub mod Driving
+pub mod FirstReachable
