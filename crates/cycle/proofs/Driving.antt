@@ -79,28 +79,28 @@ resolved-code other [] h a = h
 resolved-code other (v ∷ vs) h a = standard-resolution .code (v ∷ vs) (λ k l. all-at (λ v. v < 9) 0 (v ∷ vs) a k l)
 
 module _ (M : Model) (fs : Facts M) (ds : List DriverState) (s other : ℕ) (here : s < length (M .signals))
-  (each : (k : ℕ) → k < length (M .drivers) → driverAt M k .signal ≡ s → ValueOf (signalAt M s .ty) (driverIn ds k .current))
-  (else : ValueOf (signalAt M s .ty) other)
+    (each : (k : ℕ) → k < length (M .drivers) → driverAt M k .signal ≡ s → ValueOf (signalAt M s .ty) (driverIn ds k .current))
+    (else : ValueOf (signalAt M s .ty) other)
   where
-  -- an integer signal has the value of its driver
-  of-integer : signalAt M s .ty ≡ integer → ValueOf (signalAt M s .ty) (resolvedOr other (drivingOf M ds s))
-  unfolding drivingOf resolutionOf
-  of-integer e = by-drivers (one-driver M ds s single (length (M .drivers)) (omega arith))
-    where
-      single : (i j : ℕ) → i < length (M .drivers) → j < length (M .drivers) → driverAt M i .signal ≡ s → driverAt M j .signal ≡ s → i ≡ j
-      single i j h l p q = fs .single i j h l (p ∙ sym q) (rw p e)
+    -- an integer signal has the value of its driver
+    of-integer : signalAt M s .ty ≡ integer → ValueOf (signalAt M s .ty) (resolvedOr other (drivingOf M ds s))
+    unfolding drivingOf resolutionOf
+    of-integer e = by-drivers (one-driver M ds s single (length (M .drivers)) (omega arith))
+      where
+        single : (i j : ℕ) → i < length (M .drivers) → j < length (M .drivers) → driverAt M i .signal ≡ s → driverAt M j .signal ≡ s → i ≡ j
+        single i j h l p q = fs .single i j h l (p ∙ sym q) (rw p e)
 
-      by-drivers : Driven M ds s (length (M .drivers)) → ValueOf (signalAt M s .ty) (resolvedOr other (drivingOf M ds s))
-      by-drivers (undriven q) = rw q else
-      by-drivers (driven k l t q) = rw (q, standard-resolution .one (driverIn ds k .current)) (each k l t)
+        by-drivers : Driven M ds s (length (M .drivers)) → ValueOf (signalAt M s .ty) (resolvedOr other (drivingOf M ds s))
+        by-drivers (undriven q) = rw q else
+        by-drivers (driven k l t q) = rw (q, standard-resolution .one (driverIn ds k .current)) (each k l t)
 
-  of-logic : signalAt M s .ty ≡ logic → ValueOf (signalAt M s .ty) (resolvedOr other (drivingOf M ds s))
-  of-logic e =
-      let l : ValueOf logic other = rw e at else in
-      rw e
-      (of-code (resolvedOr other (drivingOf M ds s))
-      (resolved-code other (drivingOf M ds s) (code other l) (driving-all M ds s (λ v. v < 9) (λ k l t. code (driverIn ds k .current) (rw e at (each k l t))))))
+    of-logic : signalAt M s .ty ≡ logic → ValueOf (signalAt M s .ty) (resolvedOr other (drivingOf M ds s))
+    of-logic e =
+        let l : ValueOf logic other = rw e at else in
+        rw e
+        (of-code (resolvedOr other (drivingOf M ds s))
+        (resolved-code other (drivingOf M ds s) (code other l) (driving-all M ds s (λ v. v < 9) (λ k l t. code (driverIn ds k .current) (rw e at (each k l t))))))
 
-  -- the resolution of values of the signal's type is of that type
-  pub resolved-typed : ValueOf (signalAt M s .ty) (resolvedOr other (drivingOf M ds s))
-  resolved-typed = among (λ t. signalAt M s .ty ≡ t → ValueOf (signalAt M s .ty) (resolvedOr other (drivingOf M ds s))) 0 2 (signalAt M s .ty) (of-integer and of-logic and tt) (omega arith) (omega (arith, fs .signal s here .ty)) refl
+    -- the resolution of values of the signal's type is of that type
+    pub resolved-typed : ValueOf (signalAt M s .ty) (resolvedOr other (drivingOf M ds s))
+    resolved-typed = among (λ t. signalAt M s .ty ≡ t → ValueOf (signalAt M s .ty) (resolvedOr other (drivingOf M ds s))) 0 2 (signalAt M s .ty) (of-integer and of-logic and tt) (omega arith) (omega (arith, fs .signal s here .ty)) refl

@@ -5,3 +5,4 @@ pub mod Earliest
 pub mod Waves
 pub mod Driving
 pub mod FirstReachable
+pub mod StepReachable
