@@ -6,3 +6,4 @@ pub mod Waves
 pub mod Driving
 pub mod FirstReachable
 pub mod StepReachable
+pub mod AdvanceReachable

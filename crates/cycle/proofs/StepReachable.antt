@@ -34,7 +34,7 @@ next-place M fs p h i s =
 
 -- a ready process, and what an effect makes of it
 module _ (M : Model) (p t : ℕ) (q : ProcessState) (f : ProcessFine M p t q) where
-  stopped-fine : (n : ℕ) → n ≤ 3 → ProcessFine M p t (stops q n)
+  pub stopped-fine : (n : ℕ) → n ≤ 3 → ProcessFine M p t (stops q n)
   stopped-fine n h =
       record {
         from = f .from;
