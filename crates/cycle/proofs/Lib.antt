@@ -7,3 +7,4 @@ pub mod Driving
 pub mod FirstReachable
 pub mod StepReachable
 pub mod AdvanceReachable
+pub mod Invariant
