@@ -8,3 +8,4 @@ pub mod FirstReachable
 pub mod StepReachable
 pub mod AdvanceReachable
 pub mod Invariant
+pub mod Plays
