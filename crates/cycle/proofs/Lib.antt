@@ -7,5 +7,6 @@ pub mod Driving
 pub mod FirstReachable
 pub mod StepReachable
 pub mod AdvanceReachable
+pub mod Due
 pub mod Invariant
 pub mod Plays
