@@ -1,0 +1,3 @@
+pub mod Answers
+pub mod Runs
+pub mod Demand3
