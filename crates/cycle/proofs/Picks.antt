@@ -12,11 +12,11 @@ use lib.Dec.{eqb, leb}
 use lib.ListN.{length, getD, set}
 use lib.Seq.{getD-set-other, set-comm}
 use Rattle.base.specs.Cases.{pick, _∣_, _is_⇒_}
-use Rattle.base.proofs.Below.{Each, among}
+use Rattle.base.proofs.Below.{Each, _and_, among}
 use Rattle.model.specs.Records.{Model, variableAt, driverAt, statementAt}
 use Rattle.model.specs.Fields.{absent}
 use Rattle.model.specs.Owners.{readsOwn}
-use Rattle.model.specs.Facts.{Expression, StatementFits}
+use Rattle.model.specs.Facts.{Expression, StatementFits, Facts}
 use Rattle.model.specs.declared.records.StatementRecord.{StatementRecord}
 use Rattle.cycle.specs.declared.effect.Effect.{Effect}
 use Rattle.cycle.specs.declared.effect.Effect.the-variants.{Skip, Store, Schedule, Jump, Wait, WaitFor, Stop}
@@ -24,6 +24,9 @@ use Rattle.cycle.specs.Configuration.{DriverState, ProcessState, Configu
 use Rattle.cycle.specs.Evaluation.{Environment, environmentOf, evalOf}
 use Rattle.cycle.specs.Statements.{withDelay, effectBy, effectOf, processAfter, variablesAfter, fullAfter, driverAfter, driversAfter, nextPlace, applied, stepped}
 use Rattle.cycle.specs.Orders.{isReady}
+use Rattle.cycle.specs.Invariant.{Reachable}
+use Rattle.cycle.proofs.Evaluation.{agree}
+use Rattle.cycle.proofs.Effects.{own-statement, placed, effect-fits}
 
 -- what an effect of process p writes is p's own
 pub record Owns (M : Model) (p : ℕ) (x : Effect) : Type 0 where
@@ -63,6 +66,12 @@ schedules Wait = leaves Wait (λ t ds. refl) (λ t ds. refl)
 schedules (WaitFor d) = leaves (WaitFor d) (λ t ds. refl) (λ t ds. refl)
 schedules (Stop f) = leaves (Stop f) (λ t ds. refl) (λ t ds. refl)
 
+-- an effect x of p leaves the process q
+pub process-stays : (M : Model) (p q : ℕ) (x : Effect) → p ≢ q → (c : Configuration)
+    → processIn (applied M p x c .processes) q ≡ processIn (c .processes) q
+unfolding applied
+process-stays M p q x other c = getD-set-other (c .processes) p q _ _ (λ e. other (sym e))
+
 -- what q owns is the same after an effect x of p
 module _ (M : Model) (p q : ℕ) (x : Effect) (other : p ≢ q) (ox : Owns M p x) where
   pub variable-stays : (vs : List ℕ) (a : ℕ) → variableAt M a .process ≡ q → getD (variablesAfter x vs) a 0 ≡ getD vs a 0
@@ -86,10 +95,6 @@ module _ (M : Model) (p q : ℕ) (x : Effect) (other : p ≢ q) (ox : Owns M p x
       (λ (s : Schedules y). rw (s .3, driver-stays t ds (s .0) (oy .driver (s .0) (s .1) (s .2) (s .3))))
       (λ (l : Leaves y). rw (l .full t ds, l .full t (driversAfter x t ds)))
       (schedules y)
-
-  pub process-stays : (c : Configuration) → processIn (applied M p x c .processes) q ≡ processIn (c .processes) q
-  unfolding applied
-  process-stays c = getD-set-other (c .processes) p q _ _ (λ e. other (sym e))
 
 -- effects of two processes commute: x of p, y of q
 module _ (M : Model) (p q : ℕ) (x y : Effect) (other : p ≢ q) (ox : Owns M p x) (oy : Owns M q y) where
@@ -126,8 +131,8 @@ module _ (M : Model) (p q : ℕ) (x y : Effect) (other : p ≢ q) (ox : Owns M p
   swap c =
       let back : q ≢ p = λ e. other (sym e) in
       rw (
-        process-stays M p q x other ox c,
-        process-stays M q p y back oy c,
+        process-stays M p q x other c,
+        process-stays M q p y back c,
         full-stays M p q x other ox y oy (c .time) (c .drivers),
         full-stays M q p y back oy x ox (c .time) (c .drivers),
         variables-swap (c .variables),
@@ -151,19 +156,44 @@ module _ (M : Model) (p : ℕ) (e e' : Environment) (same : (n : ℕ) → n < le
       ]
 
       cases : Each (λ k. s .kind ≡ k → effectBy M e p s ≡ effectBy M e' p s) 0 6
-      cases = (
-        λ k. rw k,
-        (
-          λ k. rw (k, value-same (f .variableAssignment k .value)),
-          (
-            λ k. rw (k, value-same (f .signalAssignment k .value), value-same (f .signalAssignment k .delay)),
-            (
-              λ k. rw (k, value-same (f .branch k .condition)),
-              (
-                λ k. rw k,
-                (λ k. rw k (wait-same k), tt),
-              ),
-            ),
-          ),
-        ),
+      cases =
+          (λ k. rw k)
+          and (λ k. rw (k, value-same (f .variableAssignment k .value)))
+          and (λ k. rw (k, value-same (f .signalAssignment k .value), value-same (f .signalAssignment k .delay)))
+          and (λ k. rw (k, value-same (f .branch k .condition)))
+          and (λ k. rw k)
+          and (λ k. rw k (wait-same k))
+          and tt
+
+module _ (M : Model) (fs : Facts M) (c : Configuration) (r : Reachable M c) where
+  -- what a process does is its own
+  owns : (p : ℕ) → p < length (M .processes) → Owns M p (effectOf M c p)
+  owns p h =
+      let fits = effect-fits M c r fs p h in
+      record { variable = λ a v e. (rw e at fits) .own; driver = λ k d v e. (rw e at fits) .own }
+
+  -- the effect of q is the same after an effect x of p
+  local : (p q : ℕ) (x : Effect) → p ≢ q → Owns M p x → q < length (M .processes) → effectOf M (applied M p x c) q ≡ effectOf M c q
+  unfolding effectOf applied
+  local p q x other ox h =
+      rw (process-stays M p q x other c)
+      (effect-same M q (environmentOf (variablesAfter x (c .variables)) (c .signals)) (environmentOf (c .variables) (c .signals))
+      (agree M fs _ _ q (λ s k h l. refl) (λ a l own. variable-stays M p q x other ox (c .variables) a own))
+      (statementAt M (processIn (c .processes) q .place))
+      (own-statement M fs q h (processIn (c .processes) q .place) (placed M c r q h)))
+
+  -- picks of two processes commute
+  pub steps-commute : (p q : ℕ) → p ≢ q → p < length (M .processes) → q < length (M .processes)
+      → stepped M q (stepped M p c) ≡ stepped M p (stepped M q c)
+  unfolding stepped
+  steps-commute p q other hp hq =
+      rw (
+        local p q (effectOf M c p) other (owns p hp) hq,
+        local q p (effectOf M c q) (λ e. other (sym e)) (owns q hq) hp,
+        swap M p q (effectOf M c p) (effectOf M c q) other (owns p hp) (owns q hq) c,
       )
+
+-- a pick of p leaves the standing of every other process
+pub standing-stays : (M : Model) (p q : ℕ) (c : Configuration) → p ≢ q → isReady q (stepped M p c) ≡ isReady q c
+unfolding stepped isReady
+standing-stays M p q c other = rw (process-stays M p q (effectOf M c p) other c)

@@ -15,6 +15,7 @@ use Rattle.cycle.specs.Statements.{stepped}
 use Rattle.cycle.specs.Invariant.{Reachable}
 use Rattle.cycle.specs.Orders.{Outcome, isReady, picked, advanced}
 use Rattle.cycle.proofs.Outcomes.{Refusal, Pick, pick-refused, pick-done, pick-is, pick-of-ready, NoneReady, Advance, advance-refused, delta-done, time-done, advance-is}
+use Rattle.cycle.proofs.Picks.{steps-commute, standing-stays}
 use Rattle.determinacy.specs.Kernel.{Kernel, Laws, NormalForm}
 use Rattle.determinacy.specs.Determinacy.{Determinacy}
 use Rattle.determinacy.proofs.Run.{determinate}
@@ -43,3 +44,45 @@ module _ (M : Model) (facts : Facts M) where
 
   normal : (c : Configuration) → NoneReady M c → NormalForm (kernelOf M) c
   normal c quiet p = none-by p c quiet (pick-is M c p)
+
+  -- an advance that is done finds no process ready
+  quiet-by : (c : Configuration) {r : Outcome} → Advance M c r → eqb (r .refusal) 0 ≡ true → NoneReady M c
+  quiet-by c (advance-refused n h) done = absurd (true≢false (sym done ∙ ne-eqb n 0 (λ z. omega arith)))
+  quiet-by c (delta-done quiet due few) done = quiet
+  quiet-by c (time-done t quiet due at low) done = quiet
+
+  -- the diamond
+  stays-ready : (p q : ℕ) (c : Configuration) → p ≢ q → Ready p c → Ready q c → kernelOf M .ready q (kernelOf M .step p c) ≡ true
+  stays-ready p q c other x y =
+      rw (x .step, pick-of-ready M (stepped M p c) q (y .there) (standing-stays M p q c other ∙ y .ready))
+
+  commutes : (p q : ℕ) (c : Configuration) → Reachable M c → p ≢ q → Ready p c → Ready q c
+      → kernelOf M .step q (kernelOf M .step p c) ≡ kernelOf M .step p (kernelOf M .step q c)
+  commutes p q c s other x y =
+      rw (
+        x .step,
+        y .step,
+        pick-of-ready M (stepped M p c) q (y .there) (standing-stays M p q c other ∙ y .ready),
+        pick-of-ready M (stepped M q c) p (x .there) (standing-stays M q p c (λ e. other (sym e)) ∙ x .ready),
+      )
+      (steps-commute M facts c s p q other (x .there) (y .there))
+
+  module _
+      (step-reachable : (p : ℕ) (c : Configuration) → Reachable M c → p < length (M .processes) → isReady p c ≡ true → Reachable M (stepped M p c))
+      (advance-reachable : (c : Configuration) (r : Outcome) → Reachable M c → Advance M c r → Reachable M (r .after))
+      (first-reachable : Reachable M (first M)) where
+    laws : Laws (kernelOf M)
+    laws =
+        record {
+          Sound = Reachable M;
+          step-sound = λ p c s r. let k = ready-of p c r in rw (k .step) (step-reachable p c s (k .there) (k .ready));
+          advanced-sound = λ c s r. advance-reachable c (advanced M c) s (advance-is M c);
+          advances-normal = λ c s r. normal c (quiet-by c (advance-is M c) r);
+          stays-ready = λ p q c s other rp rq. stays-ready p q c other (ready-of p c rp) (ready-of q c rq);
+          commutes = λ p q c s other rp rq. commutes p q c s other (ready-of p c rp) (ready-of q c rq);
+        }
+
+    pub determinate-of : Determinacy (kernelOf M) (tallyOf M)
+    unfolding laws
+    determinate-of =
+        determinate (kernelOf M) laws (tallyOf M) (first M) first-reachable (λ xs. played-run M _ (orders-small xs) (first M))
