@@ -1,3 +1,4 @@
 pub mod Answers
-pub mod Runs
+pub mod Bench
 pub mod Demand3
+pub mod Runs
