@@ -1,6 +1,13 @@
-pub mod Earliest
-pub mod Effects
+pub mod Lists
 pub mod Evaluation
+pub mod Effects
+pub mod Earliest
+pub mod Waves
+pub mod Driving
+pub mod FirstReachable
+pub mod StepReachable
+pub mod AdvanceReachable
+pub mod Invariant
+pub mod Plays
 pub mod Outcomes
 pub mod Picks
-pub mod Waves

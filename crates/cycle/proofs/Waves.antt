@@ -13,7 +13,7 @@ use Rattle.cycle.specs.Statements.{before, scheduled, overflows, withPen
 use Rattle.cycle.specs.Steps.{taken, takenIn}
 use Rattle.cycle.specs.Orders.{timesIn}
 use Rattle.cycle.specs.Invariant.{ValueOf, lastDue, Rising, Values, DriverFine}
-use Rattle.cycle.proofs.Earliest.{All}
+use Rattle.cycle.proofs.Lists.{All}
 
 -- all transactions of the waveform are before the time at
 abbrev pub Before : ℕ → List Transaction → Type 0
