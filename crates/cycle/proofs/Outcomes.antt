@@ -14,35 +14,14 @@ use lib.ListN.{length}
 use Rattle.base.specs.Below.{anyBelow}
 use Rattle.base.specs.Cases.{pick}
 use Rattle.base.specs.Course.{firstWith}
-use Rattle.base.proofs.Course.{first-at}
+use Rattle.base.proofs.Below.{any-none}
+use Rattle.base.proofs.Cases.{by-test}
 use Rattle.model.specs.Records.{Model}
 use Rattle.cycle.specs.Configuration.{Configuration, currentOf}
 use Rattle.cycle.specs.Statements.{stepped}
 use Rattle.cycle.specs.Steps.{deltaStep, timeStep}
 use Rattle.cycle.specs.Invariant.{lastTime}
 use Rattle.cycle.specs.Orders.{Outcome, refused, isReady, isStopped, pickDone, picked, dueTimes, earliest, dueNow, advanceDone, deltaOrder, timeOrder, advanced, lowestReady, Settled, settledFrom, settleDone, settled, readOf}
-
--- what holds of a choice, by what its test gave
-pub by-test : {A : Type 0} (P : A → Type 0) (t : Bool) (a b : A) → (t ≡ true → P a) → (t ≡ false → P b) → P (pick t a b)
-by-test P true a b f g = f refl
-by-test P false a b f g = g refl
-
-or-left : (a b : Bool) → (a || b) ≡ false → a ≡ false
-or-left true b h = h
-or-left false b h = refl
-
-or-right : (a b : Bool) → (a || b) ≡ false → b ≡ false
-or-right true b h = cc
-or-right false b h = h
-
-any-none : (f : ℕ → Bool) (n : ℕ) → anyBelow f n ≡ false → (i : ℕ) → i < n → f i ≡ false
-unfolding anyBelow
-any-none f zero h i l = absurd (not-suc-le-zero l)
-any-none f (suc n) h i l =
-    ⊎-elim
-    (λ (e : i ≡ n). rw e (or-right (anyBelow f n) (f n) h))
-    (λ (k : i < n). any-none f n (or-left (anyBelow f n) (f n) h) i k)
-    (eq-or-lt-of-le (le-of-suc-le-suc l))
 
 -- the number of an order's refusal: 11 to 19
 pub record Refusal (n : ℕ) : Type 0 where
@@ -111,8 +90,3 @@ module _ (M : Model) (c : Configuration) where
       by-test (Read s) (leb (length (M .signals)) s) _ _
       (λ e. read-refused 19 (omega arith))
       (λ there. read-done (leb-false _ _ there))
-
-  -- the process that a settle picks is ready
-  pub lowest-ready : lowestReady M c < length (M .processes) → isReady (lowestReady M c) c ≡ true
-  unfolding lowestReady
-  lowest-ready = first-at (λ p. isReady p c) (length (M .processes))

@@ -15,6 +15,8 @@ use Rattle.cycle.specs.Statements.{stepped}
 use Rattle.cycle.specs.Invariant.{Reachable}
 use Rattle.cycle.specs.Orders.{Outcome, isReady, picked, advanced}
 use Rattle.cycle.proofs.Outcomes.{Refusal, Pick, pick-refused, pick-done, pick-is, pick-of-ready, NoneReady, Advance, advance-refused, delta-done, time-done, advance-is}
+use Rattle.cycle.proofs.FirstReachable.{first-reachable}
+use Rattle.cycle.proofs.Invariant.{picked-reachable, advanced-reachable}
 use Rattle.cycle.proofs.Picks.{steps-commute, standing-stays}
 use Rattle.determinacy.specs.Kernel.{Kernel, Laws, NormalForm}
 use Rattle.determinacy.specs.Determinacy.{Determinacy}
@@ -67,22 +69,18 @@ module _ (M : Model) (facts : Facts M) where
       )
       (steps-commute M facts c s p q other (x .there) (y .there))
 
-  module _
-      (step-reachable : (p : ℕ) (c : Configuration) → Reachable M c → p < length (M .processes) → isReady p c ≡ true → Reachable M (stepped M p c))
-      (advance-reachable : (c : Configuration) (r : Outcome) → Reachable M c → Advance M c r → Reachable M (r .after))
-      (first-reachable : Reachable M (first M)) where
-    laws : Laws (kernelOf M)
-    laws =
-        record {
-          Sound = Reachable M;
-          step-sound = λ p c s r. let k = ready-of p c r in rw (k .step) (step-reachable p c s (k .there) (k .ready));
-          advanced-sound = λ c s r. advance-reachable c (advanced M c) s (advance-is M c);
-          advances-normal = λ c s r. normal c (quiet-by c (advance-is M c) r);
-          stays-ready = λ p q c s other rp rq. stays-ready p q c other (ready-of p c rp) (ready-of q c rq);
-          commutes = λ p q c s other rp rq. commutes p q c s other (ready-of p c rp) (ready-of q c rq);
-        }
+  laws : Laws (kernelOf M)
+  laws =
+      record {
+        Sound = Reachable M;
+        step-sound = λ p c s r. picked-reachable M facts c s p;
+        advanced-sound = λ c s r. advanced-reachable M facts c s;
+        advances-normal = λ c s r. normal c (quiet-by c (advance-is M c) r);
+        stays-ready = λ p q c s other rp rq. stays-ready p q c other (ready-of p c rp) (ready-of q c rq);
+        commutes = λ p q c s other rp rq. commutes p q c s other (ready-of p c rp) (ready-of q c rq);
+      }
 
-    pub determinate-of : Determinacy (kernelOf M) (tallyOf M)
-    unfolding laws
-    determinate-of =
-        determinate (kernelOf M) laws (tallyOf M) (first M) first-reachable (λ xs. played-run M _ (orders-small xs) (first M))
+  pub determinate-of : Determinacy (kernelOf M) (tallyOf M)
+  unfolding laws
+  determinate-of =
+      determinate (kernelOf M) laws (tallyOf M) (first M) (first-reachable M facts) (λ xs. played-run M _ (orders-small xs) (first M))

@@ -12,11 +12,13 @@ use lib.ListN.{length}
 use Rattle.base.specs.Cases.{pick, _∣_, _is_⇒_}
 use Rattle.base.specs.Bytes.{byteAt, wordAt}
 use Rattle.base.proofs.Below.{and-true-false}
+use Rattle.base.proofs.Cases.{by-test}
+use Rattle.base.proofs.Course.{first-at}
 use Rattle.model.specs.Records.{Model}
 use Rattle.cycle.specs.Configuration.{Configuration}
 use Rattle.cycle.specs.Statements.{stepped}
 use Rattle.cycle.specs.Orders.{Outcome, refused, isReady, pickDone, picked, advanced, lowestReady, Settled, settledFrom, settleDone, settled, readOf}
-use Rattle.cycle.proofs.Outcomes.{by-test, Refusal, Pick, pick-refused, pick-done, pick-is, pick-of-ready, Advance, advance-refused, delta-done, time-done, advance-is, Read, read-refused, read-done, read-is, lowest-ready}
+use Rattle.cycle.proofs.Outcomes.{Refusal, Pick, pick-refused, pick-done, pick-is, pick-of-ready, Advance, advance-refused, delta-done, time-done, advance-is, Read, read-refused, read-done, read-is}
 use Rattle.determinacy.specs.Kernel.{Kernel}
 use Rattle.determinacy.proofs.Run.{Run, stay, by-pick, by-advance, join}
 use Rattle.session.specs.Lists.{Order, answerOf, performed, Played, answered, played}
@@ -51,7 +53,7 @@ module _ (M : Model) where
     run : Run (kernelOf M) c 0 more (s .end)
 
   settles : (n k : ℕ) (c : Configuration) → Settles k n c (settledFrom M k n c)
-  unfolding settledFrom
+  unfolding settledFrom lowestReady
   settles zero k c = record { more = 0; picks = sym (add-zero k); most = omega arith; run = stay }
   settles (suc n) k c =
       by-test (Settles k (suc n) c) (ltb (lowestReady M c) (length (M .processes))) _ _
@@ -62,7 +64,7 @@ module _ (M : Model) where
         more = suc (s .more);
         picks = s .picks ∙ suc-add k (s .more) ∙ sym (add-suc k (s .more));
         most = omega arith;
-        run = pick-run (lowestReady M c) c below (lowest-ready M c below) (s .run);
+        run = pick-run (lowestReady M c) c below (first-at (λ p. isReady p c) (length (M .processes)) below) (s .run);
       })
       (λ none. record { more = 0; picks = sym (add-zero k); most = omega arith; run = stay })
 
