@@ -91,9 +91,9 @@ module _ (f : ℕ → Bool) where
   all-at (suc n) i h t = ⊎-elim (λ (e : i ≡ n). rw e (and-right (allBelow f n) (f n) t)) (λ (l : i < n). all-at n i l (and-left (allBelow f n) (f n) t)) (eq-or-lt-of-le (le-of-suc-le-suc h))
 
 module _ (f : ℕ → Bool) where
-  pub any-none : anyBelow f 0 ≡ false
+  pub any-start : anyBelow f 0 ≡ false
   unfolding anyBelow
-  any-none = refl
+  any-start = refl
 
   pub any-next : (i : ℕ) → anyBelow f (i + 1) ≡ (anyBelow f i || f i)
   unfolding anyBelow
@@ -105,11 +105,15 @@ module _ (f : ℕ → Bool) where
   any-found zero i h t = absurd (not-suc-le-zero h)
   any-found (suc n) i h t = ⊎-elim (λ (e : i ≡ n). or-second (anyBelow f n) (f n) (rw e at t)) (λ (l : i < n). rw (any-found n i l t)) (eq-or-lt-of-le (le-of-suc-le-suc h))
 
-  -- where none is found, each fails
-  pub any-fails : (n i : ℕ) → i < n → anyBelow f n ≡ false → f i ≡ false
-  unfolding anyBelow
-  any-fails zero i h t = absurd (not-suc-le-zero h)
-  any-fails (suc n) i h t = ⊎-elim (λ (e : i ≡ n). rw e (or-right (anyBelow f n) (f n) t)) (λ (l : i < n). any-fails n i l (or-left (anyBelow f n) (f n) t)) (eq-or-lt-of-le (le-of-suc-le-suc h))
+-- a test that holds of no number below n
+pub any-none : (f : ℕ → Bool) (n : ℕ) → anyBelow f n ≡ false → (i : ℕ) → i < n → f i ≡ false
+unfolding anyBelow
+any-none f zero h i l = absurd (not-suc-le-zero l)
+any-none f (suc n) h i l =
+    ⊎-elim
+    (λ (e : i ≡ n). rw e (or-right (anyBelow f n) (f n) h))
+    (λ (k : i < n). any-none f n (or-left (anyBelow f n) (f n) h) i k)
+    (eq-or-lt-of-le (le-of-suc-le-suc l))
 
 module _ (f : ℕ → ℕ) where
   pub sum-none : sumBelow f 0 ≡ 0

@@ -9,7 +9,7 @@ use native.Mathlib.Omega.{arith}
 use lib.ListN.{length}
 use borrow.Author.Tests.{eqb-false}
 use Rattle.base.specs.Below.{anyBelow}
-use Rattle.base.proofs.Below.{or-left, or-right, any-fails}
+use Rattle.base.proofs.Below.{or-left, or-right, any-none}
 use Rattle.model.specs.Records.{Model}
 use Rattle.cycle.specs.Configuration.{Transaction, Configuration, driverIn, processIn}
 use Rattle.cycle.specs.Steps.{dueIn, transactionDue, deadlineAt, deadlineDue}
@@ -48,11 +48,11 @@ module _ (M : Model) (c : Configuration) (n : dueNow M c ≡ false) where
 
   pub no-transaction : (k : ℕ) → k < length (M .drivers) → transaction k ≡ false
   unfolding dueNow
-  no-transaction k h = any-fails transaction (length (M .drivers)) k h (or-left (anyBelow transaction (length (M .drivers))) (anyBelow deadline (length (M .processes))) n)
+  no-transaction k h = any-none transaction (length (M .drivers)) (or-left (anyBelow transaction (length (M .drivers))) (anyBelow deadline (length (M .processes))) n) k h
 
   pub no-deadline : (p : ℕ) → p < length (M .processes) → deadline p ≡ false
   unfolding dueNow
-  no-deadline p h = any-fails deadline (length (M .processes)) p h (or-right (anyBelow transaction (length (M .drivers))) (anyBelow deadline (length (M .processes))) n)
+  no-deadline p h = any-none deadline (length (M .processes)) (or-right (anyBelow transaction (length (M .drivers))) (anyBelow deadline (length (M .processes))) n) p h
 
 module _ (M : Model) (c : Configuration) (r : Reachable M c) (t : ℕ) (e : earliest (dueTimes M c) ≡ some t) where
   pub due-within : Within (c .time) t

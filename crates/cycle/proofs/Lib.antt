@@ -10,3 +10,5 @@ pub mod AdvanceReachable
 pub mod Due
 pub mod Invariant
 pub mod Plays
+pub mod Outcomes
+pub mod Picks
