@@ -1,19 +1,14 @@
 -- What each order comes to, a case for each way in which the tests of its definition fall.
 -- Assumes nothing.
-use mathlib.Core.Path.{_≡_, refl, sym, _∙_}
-use mathlib.Core.Bool.{Bool, true, false, not, _||_}
-use mathlib.Core.List.{List}
-use mathlib.Core.Logic.{⊎-elim}
+use mathlib.Core.Path.{_≡_, refl}
+use mathlib.Core.Bool.{true, false, not}
 use mathlib.Core.Option.{Option, none, some}
-use Prim.Native.Nat.{ℕ, zero, suc, _+_, _≤_, _<_}
-use native.Mathlib.Nat.{not-suc-le-zero, eq-or-lt-of-le, le-of-suc-le-suc}
+use Prim.Native.Nat.{ℕ, _≤_, _<_}
 use native.Mathlib.Omega.{arith}
 use borrow.Author.Tests.{ltb-false, leb-false, lt-leb, not-false}
-use lib.Dec.{eqb, ltb, leb}
+use lib.Dec.{ltb, leb}
 use lib.ListN.{length}
 use Rattle.base.specs.Below.{anyBelow}
-use Rattle.base.specs.Cases.{pick}
-use Rattle.base.specs.Course.{firstWith}
 use Rattle.base.proofs.Below.{any-none}
 use Rattle.base.proofs.Cases.{by-test}
 use Rattle.model.specs.Records.{Model}
@@ -21,7 +16,7 @@ use Rattle.cycle.specs.Configuration.{Configuration, currentOf}
 use Rattle.cycle.specs.Statements.{stepped}
 use Rattle.cycle.specs.Steps.{deltaStep, timeStep}
 use Rattle.cycle.specs.Invariant.{lastTime}
-use Rattle.cycle.specs.Orders.{Outcome, refused, isReady, isStopped, pickDone, picked, dueTimes, earliest, dueNow, advanceDone, deltaOrder, timeOrder, advanced, lowestReady, Settled, settledFrom, settleDone, settled, readOf}
+use Rattle.cycle.specs.Orders.{Outcome, refused, isReady, isStopped, pickDone, picked, dueTimes, earliest, dueNow, advanceDone, timeOrder, advanced, readOf}
 
 -- the number of an order's refusal: 11 to 19
 pub record Refusal (n : ℕ) : Type 0 where
@@ -67,7 +62,7 @@ module _ (M : Model) (c : Configuration) where
   pub advance-is : Advance (advanced M c)
   unfolding advanced
   advance-is =
-      by-test Advance (anyBelow (λ p. isReady p c) (length (M .processes))) _ _
+      by-test Advance _ _ _
       (λ e. advance-refused 14 (omega arith))
       (λ quiet. let none-ready = any-none (λ p. isReady p c) (length (M .processes)) quiet in
       by-test Advance (anyBelow (λ p. isStopped p c) (length (M .processes))) _ _

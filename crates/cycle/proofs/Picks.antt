@@ -1,17 +1,17 @@
 -- Picks of two processes do not meet: a statement reads and writes what belongs to its own process alone, so that the effect of
 -- one process is the same after that of another, and the two commute.
 -- Assumes nothing.
-use mathlib.Core.Path.{_≡_, refl, sym, _∙_, ap}
-use mathlib.Core.Bool.{Bool, true, false, not}
-use mathlib.Core.List.{List, [], _∷_}
+use mathlib.Core.Path.{_≡_, refl, sym}
+use mathlib.Core.Bool.{true, false}
+use mathlib.Core.List.{List}
 use mathlib.Core.Logic.{_≢_, _⊎_, inl, inr, ⊎-elim}
-use Prim.Native.Nat.{ℕ, _+_, _<_}
+use Prim.Native.Nat.{ℕ, _<_}
 use native.Mathlib.Decide.{ℕ-discrete}
 use native.Mathlib.Omega.{arith}
-use lib.Dec.{eqb, leb}
-use lib.ListN.{length, getD, set}
+use lib.Dec.{eqb}
+use lib.ListN.{length, getD}
 use lib.Seq.{getD-set-other, set-comm}
-use Rattle.base.specs.Cases.{pick, _∣_, _is_⇒_}
+use Rattle.base.specs.Cases.{pick}
 use Rattle.base.proofs.Below.{Each, _and_, among}
 use Rattle.model.specs.Records.{Model, variableAt, driverAt, statementAt}
 use Rattle.model.specs.Fields.{absent}
@@ -20,9 +20,9 @@ use Rattle.model.specs.Facts.{Expression, StatementFits, Facts}
 use Rattle.model.specs.declared.records.StatementRecord.{StatementRecord}
 use Rattle.cycle.specs.declared.effect.Effect.{Effect}
 use Rattle.cycle.specs.declared.effect.Effect.the-variants.{Skip, Store, Schedule, Jump, Wait, WaitFor, Stop}
-use Rattle.cycle.specs.Configuration.{DriverState, ProcessState, Configuration, driverIn, processIn}
+use Rattle.cycle.specs.Configuration.{DriverState, Configuration, driverIn, processIn}
 use Rattle.cycle.specs.Evaluation.{Environment, environmentOf, evalOf}
-use Rattle.cycle.specs.Statements.{withDelay, effectBy, effectOf, processAfter, variablesAfter, fullAfter, driverAfter, driversAfter, nextPlace, applied, stepped}
+use Rattle.cycle.specs.Statements.{withDelay, effectBy, effectOf, variablesAfter, fullAfter, driversAfter, applied, stepped}
 use Rattle.cycle.specs.Orders.{isReady}
 use Rattle.cycle.specs.Invariant.{Reachable}
 use Rattle.cycle.proofs.Evaluation.{agree}

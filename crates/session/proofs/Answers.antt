@@ -1,13 +1,12 @@
 -- What the bytes of an answer and of an order say: the refusal, the picks made, the count.
 -- Assumes nothing.
-use mathlib.Core.Path.{_≡_, refl, sym, _∙_}
+use mathlib.Core.Path.{_≡_}
 use mathlib.Core.List.{List, [], _∷_, _++_}
-use Prim.Native.Nat.{ℕ, zero, suc, _+_, _*_, _/_, _<_}
+use Prim.Native.Nat.{ℕ, zero, suc, _*_, _<_}
 use native.Mathlib.Omega.{arith}
-use lib.ListN.{length, getD, take, drop}
+use lib.ListN.{take, drop}
 use lib.Seq.{getD-take, getD-drop}
 use Rattle.base.specs.Below.{listBelow}
-use Rattle.base.proofs.Below.{list-at, list-length}
 use Rattle.base.specs.Bytes.{byteAt, wordAt}
 use Rattle.cycle.specs.Orders.{Outcome}
 use Rattle.session.specs.Lists.{Order, orderOf, ordersOf, answerOf}

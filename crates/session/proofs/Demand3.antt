@@ -1,7 +1,7 @@
 -- Demand 3: the rules keep the laws of a kernel, and every list plays a run, so the lists of an accepted model are determinate.
 -- Assumes nothing.
 use mathlib.Core.Path.{_≡_, refl, sym, ap, _∙_}
-use mathlib.Core.Bool.{Bool, true, false, true≢false}
+use mathlib.Core.Bool.{true, false, true≢false}
 use mathlib.Core.Logic.{_≢_}
 use Prim.Native.Nat.{ℕ, _<_}
 use native.Mathlib.Omega.{arith}
@@ -13,12 +13,12 @@ use Rattle.model.specs.Facts.{Facts}
 use Rattle.cycle.specs.Configuration.{Configuration, first}
 use Rattle.cycle.specs.Statements.{stepped}
 use Rattle.cycle.specs.Invariant.{Reachable}
-use Rattle.cycle.specs.Orders.{Outcome, isReady, picked, advanced}
-use Rattle.cycle.proofs.Outcomes.{Refusal, Pick, pick-refused, pick-done, pick-is, pick-of-ready, NoneReady, Advance, advance-refused, delta-done, time-done, advance-is}
+use Rattle.cycle.specs.Orders.{Outcome, isReady, picked}
+use Rattle.cycle.proofs.Outcomes.{Pick, pick-refused, pick-done, pick-is, pick-of-ready, NoneReady, Advance, advance-refused, delta-done, time-done, advance-is}
 use Rattle.cycle.proofs.FirstReachable.{first-reachable}
 use Rattle.cycle.proofs.Invariant.{picked-reachable, advanced-reachable}
 use Rattle.cycle.proofs.Picks.{steps-commute, standing-stays}
-use Rattle.determinacy.specs.Kernel.{Kernel, Laws, NormalForm}
+use Rattle.determinacy.specs.Kernel.{Laws, NormalForm}
 use Rattle.determinacy.specs.Determinacy.{Determinacy}
 use Rattle.determinacy.proofs.Run.{determinate}
 use Rattle.session.specs.Demand3.{kernelOf, tallyOf}

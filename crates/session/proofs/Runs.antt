@@ -1,27 +1,25 @@
 -- Every list of orders plays a run of picks and advances, as many as its answers say.
 -- Assumes nothing.
 use mathlib.Core.Path.{_≡_, refl, sym, _∙_}
-use mathlib.Core.Bool.{Bool, true, false, _&&_}
+use mathlib.Core.Bool.{true, false, _&&_}
 use mathlib.Core.List.{List, [], _∷_}
 use Prim.Native.Nat.{ℕ, zero, suc, _+_, _≤_, _<_}
 use native.Mathlib.Nat.{add-zero, zero-add, add-suc, suc-add}
 use native.Mathlib.Omega.{arith}
-use borrow.Author.Tests.{eqb-true, eq-eqb, ne-eqb, ltb-true}
+use borrow.Author.Tests.{eqb-true, ne-eqb, ltb-true}
 use lib.Dec.{eqb, ltb}
 use lib.ListN.{length}
-use Rattle.base.specs.Cases.{pick, _∣_, _is_⇒_}
-use Rattle.base.specs.Bytes.{byteAt, wordAt}
+use Rattle.base.specs.Cases.{pick}
 use Rattle.base.proofs.Below.{and-true-false}
 use Rattle.base.proofs.Cases.{by-test}
 use Rattle.base.proofs.Course.{first-at}
 use Rattle.model.specs.Records.{Model}
 use Rattle.cycle.specs.Configuration.{Configuration}
 use Rattle.cycle.specs.Statements.{stepped}
-use Rattle.cycle.specs.Orders.{Outcome, refused, isReady, pickDone, picked, advanced, lowestReady, Settled, settledFrom, settleDone, settled, readOf}
+use Rattle.cycle.specs.Orders.{Outcome, refused, isReady, advanced, lowestReady, Settled, settledFrom, settled}
 use Rattle.cycle.proofs.Outcomes.{Refusal, Pick, pick-refused, pick-done, pick-is, pick-of-ready, Advance, advance-refused, delta-done, time-done, advance-is, Read, read-refused, read-done, read-is}
-use Rattle.determinacy.specs.Kernel.{Kernel}
 use Rattle.determinacy.proofs.Run.{Run, stay, by-pick, by-advance, join}
-use Rattle.session.specs.Lists.{Order, answerOf, performed, Played, answered, played}
+use Rattle.session.specs.Lists.{Order, answerOf, performed, played}
 use Rattle.session.specs.Demand3.{picksOf, isAdvance, advancesOf, kernelOf}
 use Rattle.session.proofs.Answers.{Small, refusal-byte, picks-word}
 

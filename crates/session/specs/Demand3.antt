@@ -2,7 +2,7 @@
 -- "Every list in it, the empty one too, starts from the model's first configuration [..] An order is done when byte 0 of its
 -- answer is 0. A list's picks are the sum of bytes 2-3 over its answers."
 use mathlib.Core.Path.{_≡_}
-use mathlib.Core.Bool.{Bool, true, false, _&&_}
+use mathlib.Core.Bool.{Bool, _&&_}
 use mathlib.Core.List.{List, [], _∷_}
 use Prim.Native.Nat.{ℕ, _+_, _<_}
 use lib.Dec.{eqb}

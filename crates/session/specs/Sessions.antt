@@ -1,12 +1,12 @@
 -- A session over bytes: its number, its end configuration and the answer buffer.
-use mathlib.Core.Bool.{Bool, true, false, _&&_}
+use mathlib.Core.Bool.{Bool, _&&_}
 use mathlib.Core.List.{List, [], _∷_, _++_}
 use Prim.Native.Nat.{ℕ, _*_, _%_}
 use lib.Dec.{eqb, leb}
 use lib.ListN.{length}
 use Rattle.base.specs.Below.{firstFailing}
 use Rattle.base.specs.Cases.{pick}
-use Rattle.model.specs.Records.{Model, modelOf}
+use Rattle.model.specs.Records.{modelOf}
 use Rattle.model.specs.Owners.{rulesOf}
 use Rattle.cycle.specs.Configuration.{Configuration, first, empty}
 use Rattle.session.specs.Lists.{Played, ordersOf, played}
