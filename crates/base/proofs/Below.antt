@@ -213,6 +213,14 @@ module _ (n : ℕ) (t : Bool) (rest : List Bool) {r : Bool} where
   unfolding firstFailing
   fails e h = rw (← e, h)
 
+-- where no test fails, each holds
+pub none-fails : (n : ℕ) (ts : List Bool) → 0 < n → firstFailing n ts ≡ 0 → (i : ℕ) → getD ts i true ≡ true
+unfolding firstFailing
+none-fails n [] h e i = refl
+none-fails n (true ∷ ts) h e zero = refl
+none-fails n (true ∷ ts) h e (suc i) = none-fails (suc n) ts (omega arith) e i
+none-fails n (false ∷ ts) h e i = absurd (omega arith)
+
 -- what holds of each of the n numbers from lo on, written out
 abbrev pub Each : (ℕ → Type 0) → ℕ → ℕ → Type 0
 Each P lo zero = Unit {0}
