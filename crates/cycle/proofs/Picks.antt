@@ -12,7 +12,7 @@ use lib.Dec.{eqb}
 use lib.ListN.{length, getD}
 use lib.Seq.{getD-set-other, set-comm}
 use Rattle.base.specs.Cases.{pick}
-use Rattle.base.proofs.Below.{Each, _and_, among}
+use Rattle.base.proofs.Below.{_and_, among}
 use Rattle.model.specs.Records.{Model, variableAt, driverAt, statementAt}
 use Rattle.model.specs.Fields.{absent}
 use Rattle.model.specs.Owners.{readsOwn}
@@ -41,12 +41,8 @@ abbrev Schedules : Effect → Type 0
 Schedules x = (k : ℕ) × (d : ℕ) × (v : ℕ) × (x ≡ Schedule k d v)
 
 -- one that leaves the drivers, and so overflows none
-record Leaves (x : Effect) : Type 0 where
-  drivers : (t : ℕ) (ds : List DriverState) → driversAfter x t ds ≡ ds
-  full : (t : ℕ) (ds : List DriverState) → fullAfter x t ds ≡ false
-
-abbrev leaves : (x : Effect) → ((t : ℕ) (ds : List DriverState) → driversAfter x t ds ≡ ds) → ((t : ℕ) (ds : List DriverState) → fullAfter x t ds ≡ false) → Schedules x ⊎ Leaves x
-leaves x ds f = inr (record { drivers = ds; full = f })
+abbrev Leaves : Effect → Type 0
+Leaves x = ((t : ℕ) (ds : List DriverState) → driversAfter x t ds ≡ ds) × ((t : ℕ) (ds : List DriverState) → fullAfter x t ds ≡ false)
 
 stores : (x : Effect) → Stores x ⊎ ((vs : List ℕ) → variablesAfter x vs ≡ vs)
 stores Skip = inr (λ vs. refl)
@@ -58,13 +54,13 @@ stores (WaitFor d) = inr (λ vs. refl)
 stores (Stop f) = inr (λ vs. refl)
 
 schedules : (x : Effect) → Schedules x ⊎ Leaves x
-schedules Skip = leaves Skip (λ t ds. refl) (λ t ds. refl)
-schedules (Store a v) = leaves (Store a v) (λ t ds. refl) (λ t ds. refl)
+schedules Skip = inr (λ t ds. refl, λ t ds. refl)
+schedules (Store a v) = inr (λ t ds. refl, λ t ds. refl)
 schedules (Schedule k d v) = inl (k, d, v, refl)
-schedules (Jump a) = leaves (Jump a) (λ t ds. refl) (λ t ds. refl)
-schedules Wait = leaves Wait (λ t ds. refl) (λ t ds. refl)
-schedules (WaitFor d) = leaves (WaitFor d) (λ t ds. refl) (λ t ds. refl)
-schedules (Stop f) = leaves (Stop f) (λ t ds. refl) (λ t ds. refl)
+schedules (Jump a) = inr (λ t ds. refl, λ t ds. refl)
+schedules Wait = inr (λ t ds. refl, λ t ds. refl)
+schedules (WaitFor d) = inr (λ t ds. refl, λ t ds. refl)
+schedules (Stop f) = inr (λ t ds. refl, λ t ds. refl)
 
 -- an effect x of p leaves the process q
 pub process-stays : (M : Model) (p q : ℕ) (x : Effect) → p ≢ q → (c : Configuration)
@@ -85,7 +81,7 @@ module _ (M : Model) (p q : ℕ) (x : Effect) (other : p ≢ q) (ox : Owns M p x
   driver-stays t ds k own =
       ⊎-elim
       (λ (s : Schedules x). rw (s .3) (getD-set-other ds (s .0) k _ _ (λ same. other (cc (ox .driver (s .0) (s .1) (s .2) (s .3))))))
-      (λ (l : Leaves x). rw (l .drivers t ds))
+      (λ (l : Leaves x). rw (l .0 t ds))
       (schedules x)
 
   -- a schedule of q overflows after x where it does before
@@ -93,7 +89,7 @@ module _ (M : Model) (p q : ℕ) (x : Effect) (other : p ≢ q) (ox : Owns M p x
   full-stays y oy t ds =
       ⊎-elim
       (λ (s : Schedules y). rw (s .3, driver-stays t ds (s .0) (oy .driver (s .0) (s .1) (s .2) (s .3))))
-      (λ (l : Leaves y). rw (l .full t ds, l .full t (driversAfter x t ds)))
+      (λ (l : Leaves y). rw (l .1 t ds, l .1 t (driversAfter x t ds)))
       (schedules y)
 
 -- effects of two processes commute: x of p, y of q
@@ -121,9 +117,9 @@ module _ (M : Model) (p q : ℕ) (x y : Effect) (other : p ≢ q) (ox : Owns M p
       let apart : s .0 ≢ r .0 = λ same. other (cc (ox .driver (s .0) (s .1) (s .2) (s .3), oy .driver (r .0) (r .1) (r .2) (r .3))) in
       rw (s .3, r .3, getD-set-other ds (s .0) (r .0) _ _ (λ e. apart (sym e)), getD-set-other ds (r .0) (s .0) _ _ apart)
       (set-comm ds (s .0) (r .0) _ _ apart))
-      (λ (l : Leaves y). rw (l .drivers t ds, l .drivers t (driversAfter x t ds)))
+      (λ (l : Leaves y). rw (l .0 t ds, l .0 t (driversAfter x t ds)))
       (schedules y))
-      (λ (l : Leaves x). rw (l .drivers t ds, l .drivers t (driversAfter y t ds)))
+      (λ (l : Leaves x). rw (l .0 t ds, l .0 t (driversAfter y t ds)))
       (schedules x)
 
   pub swap : (c : Configuration) → applied M q y (applied M p x c) ≡ applied M p x (applied M q y c)
@@ -140,30 +136,33 @@ module _ (M : Model) (p q : ℕ) (x y : Effect) (other : p ≢ q) (ox : Owns M p
         set-comm (c .processes) p q _ _ other,
       )
 
--- a statement of process p has the same effect in two environments in which what p reads has the same values
-module _ (M : Model) (p : ℕ) (e e' : Environment) (same : (n : ℕ) → n < length (M .nodes) → readsOwn M p n ≡ true → evalOf M e n ≡ evalOf M e' n) where
+-- two environments in which what process p reads has the same values
+abbrev SameReads : Model → ℕ → Environment → Environment → Type 0
+SameReads M p e e' = (n : ℕ) → n < length (M .nodes) → readsOwn M p n ≡ true → evalOf M e n ≡ evalOf M e' n
+
+-- in them a statement of p has the same effect
+module _ (M : Model) (p : ℕ) (e e' : Environment) (same : SameReads M p e e') (s : StatementRecord) (f : StatementFits M p s) where
   value-same : {ty n : ℕ} → Expression M p ty n → evalOf M e n ≡ evalOf M e' n
   value-same {n = n} x = same n (x .node) (x .own)
 
-  pub effect-same : (s : StatementRecord) → StatementFits M p s → effectBy M e p s ≡ effectBy M e' p s
-  unfolding effectBy
-  effect-same s f = among (λ k. s .kind ≡ k → effectBy M e p s ≡ effectBy M e' p s) 0 6 (s .kind) cases (omega arith) (omega (arith, f .kind)) refl
-    where
-      wait-same : s .kind ≡ 5 → pick (eqb (s .c) absent) Wait (withDelay (evalOf M e (s .c)) WaitFor) ≡ pick (eqb (s .c) absent) Wait (withDelay (evalOf M e' (s .c)) WaitFor)
-      wait-same k = elim (ℕ-discrete (s .c) absent) [
-        | yes h ↦ rw h
-        | no h ↦ rw (value-same (f .wait k .delay h))
-      ]
+  abbrev waitBy : Environment → Effect
+  waitBy e = pick (eqb (s .c) absent) Wait (withDelay (evalOf M e (s .c)) WaitFor)
 
-      cases : Each (λ k. s .kind ≡ k → effectBy M e p s ≡ effectBy M e' p s) 0 6
-      cases =
-          (λ k. rw k)
-          and (λ k. rw (k, value-same (f .variableAssignment k .value)))
-          and (λ k. rw (k, value-same (f .signalAssignment k .value), value-same (f .signalAssignment k .delay)))
-          and (λ k. rw (k, value-same (f .branch k .condition)))
-          and (λ k. rw k)
-          and (λ k. rw k (wait-same k))
-          and tt
+  wait-same : s .kind ≡ 5 → waitBy e ≡ waitBy e'
+  wait-same k = elim (ℕ-discrete (s .c) absent) [ yes h ↦ rw h | no h ↦ rw (value-same (f .wait k .delay h)) ]
+
+  pub effect-same : effectBy M e p s ≡ effectBy M e' p s
+  unfolding effectBy
+  effect-same =
+      among (λ k. s .kind ≡ k → effectBy M e p s ≡ effectBy M e' p s) 0 6 (s .kind)
+      ((λ k. rw k)
+      and (λ k. rw (k, value-same (f .variableAssignment k .value)))
+      and (λ k. rw (k, value-same (f .signalAssignment k .value), value-same (f .signalAssignment k .delay)))
+      and (λ k. rw (k, value-same (f .branch k .condition)))
+      and (λ k. rw k)
+      and (λ k. rw k (wait-same k))
+      and tt)
+      (omega arith) (omega (arith, f .kind)) refl
 
 module _ (M : Model) (fs : Facts M) (c : Configuration) (r : Reachable M c) where
   -- what a process does is its own

@@ -36,12 +36,13 @@ unfolding listBelow
 small-below f h zero = tt
 small-below f h (suc n) = small-append (listBelow f n) (f n ∷ []) (small-below f h n) (h n, tt)
 
+-- byte j of order i
+byte-small : (xs : Bytes) (i j : ℕ) → j < 4 → byteAt (take 4 (drop (4 * i) (xs .bytes))) j < 256
+byte-small xs i j h = rw (getD-take 4 (drop (4 * i) (xs .bytes)) j 0 h, getD-drop) (xs .small _)
+
 count-small : (xs : Bytes) (i : ℕ) → orderOf (take 4 (drop (4 * i) (xs .bytes))) .count < 65536
 unfolding orderOf
-count-small xs i =
-    let low : byteAt (take 4 (drop (4 * i) (xs .bytes))) 2 < 256 = rw (getD-take 4 (drop (4 * i) (xs .bytes)) 2 0 (omega arith), getD-drop) (xs .small _) in
-    let high : byteAt (take 4 (drop (4 * i) (xs .bytes))) 3 < 256 = rw (getD-take 4 (drop (4 * i) (xs .bytes)) 3 0 (omega arith), getD-drop) (xs .small _) in
-    omega arith
+count-small xs i = omega (arith, byte-small xs i 2 (omega arith), byte-small xs i 3 (omega arith))
 
 pub orders-small : (xs : Bytes) → Small (ordersOf (xs .bytes))
 unfolding ordersOf
