@@ -1,19 +1,18 @@
--- Every order hands back a reachable configuration, and a refused one the configuration it took. Assumes nothing.
-use mathlib.Core.Path.{_≡_, refl}
-use mathlib.Core.Bool.{true, not}
-use mathlib.Core.Option.{Option, none, some}
+-- Every order hands back a reachable configuration. Assumes nothing.
+use mathlib.Core.Path.{_≡_}
+use mathlib.Core.Bool.{true}
 use Prim.Native.Nat.{ℕ, zero, suc, _<_}
-use lib.Dec.{ltb, leb}
+use lib.Dec.{ltb}
 use lib.ListN.{length}
-use borrow.Author.Tests.{ltb-true, ltb-false, leb-false, not-false}
-use Rattle.base.specs.Below.{anyBelow}
+use borrow.Author.Tests.{ltb-true}
 use Rattle.base.proofs.Cases.{by-test}
 use Rattle.base.proofs.Course.{first-at}
 use Rattle.model.specs.Records.{Model}
 use Rattle.model.specs.Facts.{Facts}
 use Rattle.cycle.specs.Configuration.{Configuration}
-use Rattle.cycle.specs.Orders.{Outcome, isReady, isStopped, picked, dueTimes, earliest, dueNow, deltaOrder, timeOrder, advanced, lowestReady, Settled, settledFrom, settled, readOf}
+use Rattle.cycle.specs.Orders.{Outcome, isReady, picked, advanced, lowestReady, Settled, settledFrom, settled, readOf}
 use Rattle.cycle.specs.Invariant.{Reachable}
+use Rattle.cycle.proofs.Outcomes.{Pick, pick-refused, pick-done, pick-is, Advance, advance-refused, delta-done, time-done, advance-is, Read, read-refused, read-done, read-is}
 use Rattle.cycle.proofs.StepReachable.{stepped-reachable}
 use Rattle.cycle.proofs.AdvanceReachable.{delta-reachable, time-reachable}
 
@@ -21,30 +20,27 @@ module _ (M : Model) (fs : Facts M) (c : Configuration) (r : Reachable M c) wher
   abbrev Keeps : Outcome → Type 0
   Keeps o = Reachable M (o .after)
 
+  pick-keeps : (p : ℕ) (o : Outcome) → Pick M c p o → Keeps o
+  pick-keeps p o (pick-refused n f) = r
+  pick-keeps p o (pick-done h i) = stepped-reachable M fs c r p h i
+
   pub picked-reachable : (p : ℕ) → Keeps (picked M p c)
-  unfolding picked
-  picked-reachable p =
-      by-test Keeps (leb (length (M .processes)) p) _ _ (λ e. r)
-      (λ e. by-test Keeps (not (isReady p c)) _ _ (λ f. r)
-      (λ f. stepped-reachable M fs c r p (leb-false (length (M .processes)) p e) (not-false (isReady p c) f)))
+  picked-reachable p = pick-keeps p (picked M p c) (pick-is M c p)
 
-  delta-order : Keeps (deltaOrder M c)
-  delta-order = by-test Keeps (leb 1000 (c .deltas)) _ _ (λ e. r) (λ e. delta-reachable M fs c r (leb-false 1000 (c .deltas) e))
-
-  time-order : (o : Option ℕ) → earliest (dueTimes M c) ≡ o → Keeps (timeOrder o c)
-  time-order none e = r
-  time-order (some t) e = by-test Keeps (ltb 1000000000000 t) _ _ (λ f. r) (λ f. time-reachable M c r t e (ltb-false 1000000000000 t f))
+  advance-keeps : (o : Outcome) → Advance M c o → Keeps o
+  advance-keeps o (advance-refused n f) = r
+  advance-keeps o (delta-done quiet due few) = delta-reachable M fs c r few
+  advance-keeps o (time-done t quiet due e low) = time-reachable M c r t e low
 
   pub advanced-reachable : Keeps (advanced M c)
-  unfolding advanced
-  advanced-reachable =
-      by-test Keeps (anyBelow (λ p. isReady p c) (length (M .processes))) _ _ (λ e. r)
-      (λ e. by-test Keeps (anyBelow (λ p. isStopped p c) (length (M .processes))) _ _ (λ f. r)
-      (λ f. by-test Keeps (dueNow M c) _ _ (λ g. delta-order) (λ g. time-order (earliest (dueTimes M c)) refl)))
+  advanced-reachable = advance-keeps (advanced M c) (advance-is M c)
+
+  read-keeps : (s : ℕ) (o : Outcome) → Read M c s o → Keeps o
+  read-keeps s o (read-refused n f) = r
+  read-keeps s o (read-done h) = r
 
   pub read-reachable : (s : ℕ) → Keeps (readOf M s c)
-  unfolding readOf
-  read-reachable s = by-test Keeps (leb (length (M .signals)) s) _ _ (λ e. r) (λ e. r)
+  read-reachable s = read-keeps s (readOf M s c) (read-is M c s)
 
 module _ (M : Model) (fs : Facts M) where
   -- the lowest ready process is ready

@@ -1,53 +1,53 @@
 -- How orders play out: the turns of a settle, and that a refused order hands back the configuration it took. Assumes nothing.
 use mathlib.Core.Path.{_≡_, refl}
-use mathlib.Core.Bool.{true, false, not}
-use mathlib.Core.Option.{Option, none, some}
+use mathlib.Core.Bool.{true, false}
 use Prim.Native.Nat.{ℕ, zero, suc, _+_, _-_, _≤_, _<_}
 use native.Mathlib.Nat.{add-zero, add-suc}
 use native.Mathlib.Numerals.{add-one}
 use native.Mathlib.Omega.{arith}
-use lib.Dec.{ltb, leb}
+use lib.Dec.{ltb}
 use lib.ListN.{length}
 use borrow.Author.Tests.{lt-ltb, le-ltb}
 use Rattle.base.specs.Cases.{pick}
-use Rattle.base.specs.Below.{anyBelow}
 use Rattle.base.proofs.Cases.{by-test}
 use Rattle.model.specs.Records.{Model}
 use Rattle.cycle.specs.Configuration.{Configuration}
 use Rattle.cycle.specs.Statements.{stepped}
-use Rattle.cycle.specs.Orders.{Outcome, isReady, isStopped, picked, dueTimes, earliest, dueNow, deltaOrder, timeOrder, advanced, lowestReady, Settled, settledFrom, settled, readOf}
+use Rattle.cycle.specs.Orders.{Outcome, picked, advanced, lowestReady, Settled, settledFrom, settled, readOf}
+use Rattle.cycle.proofs.Outcomes.{Pick, pick-refused, pick-done, pick-is, Advance, advance-refused, delta-done, time-done, advance-is, Read, read-refused, read-done, read-is}
 
 -- a refused order hands back the configuration it took
 module _ (M : Model) (c : Configuration) where
   abbrev Unmoved : Outcome → Type 0
   Unmoved o = (o .refusal ≡ 0 → ⊥) → o .after ≡ c
 
+  pick-unmoved : (p : ℕ) (o : Outcome) → Pick M c p o → Unmoved o
+  pick-unmoved p o (pick-refused n f) = λ z. refl
+  pick-unmoved p o (pick-done h i) = λ z. absurd (z refl)
+
   pub picked-refused : (p : ℕ) → Unmoved (picked M p c)
-  unfolding picked
-  picked-refused p = by-test Unmoved (leb (length (M .processes)) p) _ _ (λ e n. refl) (λ e. by-test Unmoved (not (isReady p c)) _ _ (λ f n. refl) (λ f n. absurd (n refl)))
+  picked-refused p = pick-unmoved p (picked M p c) (pick-is M c p)
 
-  delta-refused : Unmoved (deltaOrder M c)
-  delta-refused = by-test Unmoved (leb 1000 (c .deltas)) _ _ (λ e n. refl) (λ e n. absurd (n refl))
-
-  time-refused : (o : Option ℕ) → Unmoved (timeOrder o c)
-  time-refused none = λ n. refl
-  time-refused (some t) = by-test Unmoved (ltb 1000000000000 t) _ _ (λ e n. refl) (λ e n. absurd (n refl))
+  advance-unmoved : (o : Outcome) → Advance M c o → Unmoved o
+  advance-unmoved o (advance-refused n f) = λ z. refl
+  advance-unmoved o (delta-done quiet due few) = λ z. absurd (z refl)
+  advance-unmoved o (time-done t quiet due e low) = λ z. absurd (z refl)
 
   pub advanced-refused : Unmoved (advanced M c)
-  unfolding advanced
-  advanced-refused =
-      by-test Unmoved (anyBelow (λ p. isReady p c) (length (M .processes))) _ _ (λ e n. refl)
-      (λ e. by-test Unmoved (anyBelow (λ p. isStopped p c) (length (M .processes))) _ _ (λ f n. refl)
-      (λ f. by-test Unmoved (dueNow M c) _ _ (λ g. delta-refused) (λ g. time-refused (earliest (dueTimes M c)))))
+  advanced-refused = advance-unmoved (advanced M c) (advance-is M c)
 
+  -- a read hands it back in any case
+  read-after : (s : ℕ) (o : Outcome) → Read M c s o → o .after ≡ c
+  read-after s o (read-refused n f) = refl
+  read-after s o (read-done h) = refl
+
+  pub read-unmoved : (s : ℕ) → readOf M s c .after ≡ c
+  read-unmoved s = read-after s (readOf M s c) (read-is M c s)
+
+  -- a settle is never refused
   pub settled-done : (n : ℕ) → settled M n c .refusal ≡ 0
   unfolding settled
   settled-done n = refl
-
-  -- a read hands it back in any case
-  pub read-unmoved : (s : ℕ) → readOf M s c .after ≡ c
-  unfolding readOf
-  read-unmoved s = by-test (λ (o : Outcome). o .after ≡ c) (leb (length (M .signals)) s) _ _ (λ e. refl) (λ e. refl)
 
 -- the turns of a settle that has made k picks and may make n more
 module _ (M : Model) (k : ℕ) (c : Configuration) where
