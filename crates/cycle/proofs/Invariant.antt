@@ -1,4 +1,4 @@
--- Every order hands back a reachable configuration, and a refused one the configuration it took. Assumes nothing.
+-- Every order hands back a reachable configuration. Assumes nothing.
 use mathlib.Core.Path.{_≡_}
 use mathlib.Core.Bool.{true}
 use Prim.Native.Nat.{ℕ, zero, suc, _<_}
@@ -12,35 +12,35 @@ use Rattle.model.specs.Facts.{Facts}
 use Rattle.cycle.specs.Configuration.{Configuration}
 use Rattle.cycle.specs.Orders.{Outcome, isReady, picked, advanced, lowestReady, Settled, settledFrom, settled, readOf}
 use Rattle.cycle.specs.Invariant.{Reachable}
-use Rattle.cycle.proofs.StepReachable.{stepped-reachable}
 use Rattle.cycle.proofs.Outcomes.{Pick, pick-refused, pick-done, pick-is, Advance, advance-refused, delta-done, time-done, advance-is, Read, read-refused, read-done, read-is}
+use Rattle.cycle.proofs.StepReachable.{stepped-reachable}
 use Rattle.cycle.proofs.AdvanceReachable.{delta-reachable, time-reachable}
 
 module _ (M : Model) (fs : Facts M) (c : Configuration) (r : Reachable M c) where
   abbrev Keeps : Outcome → Type 0
   Keeps o = Reachable M (o .after)
 
-  picked-by : {p : ℕ} {o : Outcome} → Pick M c p o → Keeps o
-  picked-by (pick-refused n h) = r
-  picked-by {p} (pick-done there idle) = stepped-reachable M fs c r p there idle
-
-  advanced-by : {o : Outcome} → Advance M c o → Keeps o
-  advanced-by (advance-refused n h) = r
-  advanced-by (delta-done quiet due few) = delta-reachable M fs c r few
-  advanced-by (time-done t quiet due e low) = time-reachable M c r t e low
-
-  read-by : {s : ℕ} {o : Outcome} → Read M c s o → Keeps o
-  read-by (read-refused n h) = r
-  read-by (read-done there) = r
+  pick-keeps : (p : ℕ) (o : Outcome) → Pick M c p o → Keeps o
+  pick-keeps p o (pick-refused n f) = r
+  pick-keeps p o (pick-done h i) = stepped-reachable M fs c r p h i
 
   pub picked-reachable : (p : ℕ) → Keeps (picked M p c)
-  picked-reachable p = picked-by (pick-is M c p)
+  picked-reachable p = pick-keeps p (picked M p c) (pick-is M c p)
+
+  advance-keeps : (o : Outcome) → Advance M c o → Keeps o
+  advance-keeps o (advance-refused n f) = r
+  advance-keeps o (delta-done quiet due few) = delta-reachable M fs c r few
+  advance-keeps o (time-done t quiet due e low) = time-reachable M c r t e low
 
   pub advanced-reachable : Keeps (advanced M c)
-  advanced-reachable = advanced-by (advance-is M c)
+  advanced-reachable = advance-keeps (advanced M c) (advance-is M c)
+
+  read-keeps : (s : ℕ) (o : Outcome) → Read M c s o → Keeps o
+  read-keeps s o (read-refused n f) = r
+  read-keeps s o (read-done h) = r
 
   pub read-reachable : (s : ℕ) → Keeps (readOf M s c)
-  read-reachable s = read-by (read-is M c s)
+  read-reachable s = read-keeps s (readOf M s c) (read-is M c s)
 
 module _ (M : Model) (fs : Facts M) where
   -- the lowest ready process is ready

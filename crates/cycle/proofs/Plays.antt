@@ -21,32 +21,33 @@ module _ (M : Model) (c : Configuration) where
   abbrev Unmoved : Outcome → Type 0
   Unmoved o = (o .refusal ≡ 0 → ⊥) → o .after ≡ c
 
-  picked-by : {p : ℕ} {o : Outcome} → Pick M c p o → Unmoved o
-  picked-by (pick-refused n h) = λ f. refl
-  picked-by (pick-done there idle) = λ f. absurd (f refl)
-
-  advanced-by : {o : Outcome} → Advance M c o → Unmoved o
-  advanced-by (advance-refused n h) = λ f. refl
-  advanced-by (delta-done quiet due few) = λ f. absurd (f refl)
-  advanced-by (time-done t quiet due e low) = λ f. absurd (f refl)
-
-  read-by : {s : ℕ} {o : Outcome} → Read M c s o → o .after ≡ c
-  read-by (read-refused n h) = refl
-  read-by (read-done there) = refl
+  pick-unmoved : (p : ℕ) (o : Outcome) → Pick M c p o → Unmoved o
+  pick-unmoved p o (pick-refused n f) = λ z. refl
+  pick-unmoved p o (pick-done h i) = λ z. absurd (z refl)
 
   pub picked-refused : (p : ℕ) → Unmoved (picked M p c)
-  picked-refused p = picked-by (pick-is M c p)
+  picked-refused p = pick-unmoved p (picked M p c) (pick-is M c p)
+
+  advance-unmoved : (o : Outcome) → Advance M c o → Unmoved o
+  advance-unmoved o (advance-refused n f) = λ z. refl
+  advance-unmoved o (delta-done quiet due few) = λ z. absurd (z refl)
+  advance-unmoved o (time-done t quiet due e low) = λ z. absurd (z refl)
 
   pub advanced-refused : Unmoved (advanced M c)
-  advanced-refused = advanced-by (advance-is M c)
+  advanced-refused = advance-unmoved (advanced M c) (advance-is M c)
 
+  -- a read hands it back in any case
+  read-after : (s : ℕ) (o : Outcome) → Read M c s o → o .after ≡ c
+  read-after s o (read-refused n f) = refl
+  read-after s o (read-done h) = refl
+
+  pub read-unmoved : (s : ℕ) → readOf M s c .after ≡ c
+  read-unmoved s = read-after s (readOf M s c) (read-is M c s)
+
+  -- a settle is never refused
   pub settled-done : (n : ℕ) → settled M n c .refusal ≡ 0
   unfolding settled
   settled-done n = refl
-
-  -- a read hands it back in any case
-  pub read-unmoved : (s : ℕ) → readOf M s c .after ≡ c
-  read-unmoved s = read-by (read-is M c s)
 
 -- the turns of a settle that has made k picks and may make n more
 module _ (M : Model) (k : ℕ) (c : Configuration) where
