@@ -1,0 +1,14 @@
+pub mod Lists
+pub mod Evaluation
+pub mod Effects
+pub mod Earliest
+pub mod Waves
+pub mod Driving
+pub mod Outcomes
+pub mod FirstReachable
+pub mod StepReachable
+pub mod AdvanceReachable
+pub mod Due
+pub mod Invariant
+pub mod Plays
+pub mod Picks

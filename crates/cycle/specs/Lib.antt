@@ -1,0 +1,6 @@
+pub mod Configuration
+pub mod Evaluation
+pub mod Statements
+pub mod Steps
+pub mod Orders
+pub mod Invariant

@@ -1,0 +1,3 @@
+// The cycle layer: configurations, evaluation, statements, pick, advance and settle.
+pub mod effect;
+pub mod eval;

@@ -1,0 +1,65 @@
+-- Orders and answers as bytes, and lists of orders of any length.
+use mathlib.Core.Bool.{_&&_}
+use mathlib.Core.List.{List, [], _∷_}
+use Prim.Native.Nat.{ℕ, _*_, _/_, _%_, _^_}
+use lib.Dec.{eqb}
+use lib.ListN.{length, take, drop}
+use Rattle.base.specs.Below.{listBelow}
+use Rattle.base.specs.Bytes.{byteAt, wordAt}
+use Rattle.base.specs.Cases.{pick, _∣_, _is_⇒_}
+use Rattle.model.specs.Records.{Model}
+use Rattle.cycle.specs.Configuration.{Configuration}
+use Rattle.cycle.specs.Orders.{Outcome, refused, picked, advanced, settled, readOf}
+
+-- "An order is 4 bytes: kind, argument, 16-bit count."
+pub record Order : Type 0 where
+  pub kind : ℕ
+  pub argument : ℕ
+  pub count : ℕ
+
+unfoldable pub orderOf : List ℕ → Order
+orderOf r = record { kind = byteAt r 0; argument = byteAt r 1; count = wordAt r 2 }
+
+-- the orders that some bytes hold
+unfoldable pub ordersOf : List ℕ → List Order
+ordersOf bytes = listBelow (λ i. orderOf (take 4 (drop (4 * i) bytes))) (length bytes / 4)
+
+-- "1 pick the process named; 2 advance; 3 settle [..]; 4 read the signal named. Unused bytes are zero."
+-- 11. "Unknown kind or unused byte set."
+unfoldable pub performed : Model → Order → Configuration → Outcome
+performed M o c =
+    o .kind is 1 ⇒ pick (eqb (o .count) 0) (picked M (o .argument) c) (refused 11 c)
+    ∣ o .kind is 2 ⇒ pick (eqb (o .argument) 0 && eqb (o .count) 0) (advanced M c) (refused 11 c)
+    ∣ o .kind is 3 ⇒ pick (eqb (o .argument) 0) (settled M (o .count) c) (refused 11 c)
+    ∣ o .kind is 4 ⇒ pick (eqb (o .count) 0) (readOf M (o .argument) c) (refused 11 c)
+    ∣ refused 11 c
+
+-- byte i of a number, little endian
+abbrev pub byteOf : ℕ → ℕ → ℕ
+byteOf i x = x / 256 ^ i % 256
+
+-- "Each answer has 16 bytes [..]: 0 refusal or 0; 1 [..]; 2-3 picks made; 4-7 the value read, or a pick's fault; 8-15 the time
+-- after the order."
+unfoldable pub answerOf : Outcome → List ℕ
+answerOf r =
+    byteOf 0 (r .refusal)
+    ∷ byteOf 0 (r .byte)
+    ∷ byteOf 0 (r .picks) ∷ byteOf 1 (r .picks)
+    ∷ byteOf 0 (r .value) ∷ byteOf 1 (r .value) ∷ byteOf 2 (r .value) ∷ byteOf 3 (r .value)
+    ∷ byteOf 0 (r .after .time) ∷ byteOf 1 (r .after .time) ∷ byteOf 2 (r .after .time) ∷ byteOf 3 (r .after .time)
+    ∷ byteOf 4 (r .after .time) ∷ byteOf 5 (r .after .time) ∷ byteOf 6 (r .after .time) ∷ byteOf 7 (r .after .time)
+    ∷ []
+
+-- what a list of orders gives: an answer to each, and the end configuration
+pub record Played : Type 0 where
+  pub answers : List (List ℕ)
+  pub end : Configuration
+
+-- an order before a list
+abbrev pub answered : Outcome → Played → Played
+answered r rest = record { answers = answerOf r ∷ rest .answers; end = rest .end }
+
+-- "each order takes the configuration that the order before it handed back"
+unfoldable pub played : Model → List Order → Configuration → Played
+played M [] c = record { answers = []; end = c }
+played M (o ∷ os) c = answered (performed M o c) (played M os (performed M o c .after))

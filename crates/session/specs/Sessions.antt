@@ -1,0 +1,48 @@
+-- A session over bytes: its number, its end configuration and the answer buffer.
+use mathlib.Core.Bool.{Bool, _&&_}
+use mathlib.Core.List.{List, [], _∷_, _++_}
+use Prim.Native.Nat.{ℕ, _*_, _%_}
+use lib.Dec.{eqb, leb}
+use lib.ListN.{length}
+use Rattle.base.specs.Below.{firstFailing}
+use Rattle.base.specs.Cases.{pick}
+use Rattle.model.specs.Records.{modelOf}
+use Rattle.model.specs.Owners.{rulesOf}
+use Rattle.cycle.specs.Configuration.{Configuration, first, empty}
+use Rattle.session.specs.Lists.{Played, ordersOf, played}
+
+-- 9. "Orders' length is not a multiple of 4 up to 16,384."
+unfoldable pub ordersOk : List ℕ → Bool
+ordersOk orders = eqb (length orders % 4) 0 && leb (length orders) 16384
+
+-- 10. "The answer buffer is not four times as long as the orders."
+unfoldable pub bufferOk : List ℕ → List ℕ → Bool
+bufferOk orders buffer = eqb (length buffer) (4 * length orders)
+
+-- the first of 1 to 10 that applies, or 0
+unfoldable pub numberOf : List ℕ → List ℕ → List ℕ → ℕ
+numberOf model orders buffer = firstFailing 1 (rulesOf model ++ (ordersOk orders ∷ bufferOk orders buffer ∷ []))
+
+pub record Session : Type 0 where
+  pub number : ℕ
+  pub end : Configuration
+  pub buffer : List ℕ
+
+-- the bytes of some answers, one after the other
+abbrev pub bytesOf : List (List ℕ) → List ℕ
+bytesOf [] = []
+bytesOf (a ∷ as') = a ++ bytesOf as'
+
+abbrev pub accepted : Played → Session
+accepted r = record { number = 0; end = r .end; buffer = bytesOf (r .answers) }
+
+-- "a refused one writes no answer and returns the empty configuration"
+abbrev pub refusedWith : ℕ → List ℕ → Session
+refusedWith n buffer = record { number = n; end = empty; buffer = buffer }
+
+-- the session of a model, orders and an answer buffer, all three any bytes
+unfoldable pub sessionOf : List ℕ → List ℕ → List ℕ → Session
+sessionOf model orders buffer =
+    pick (eqb (numberOf model orders buffer) 0)
+    (accepted (played (modelOf model) (ordersOf orders) (first (modelOf model))))
+    (refusedWith (numberOf model orders buffer) buffer)
