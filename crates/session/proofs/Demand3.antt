@@ -3,13 +3,17 @@
 use mathlib.Core.Path.{_≡_, refl, sym, ap, _∙_}
 use mathlib.Core.Bool.{true, false, true≢false}
 use mathlib.Core.Logic.{_≢_}
+use mathlib.Core.List.{List}
 use Prim.Native.Nat.{ℕ, _<_}
 use native.Mathlib.Omega.{arith}
 use borrow.Author.Tests.{ne-eqb}
 use lib.Dec.{eqb}
 use lib.ListN.{length}
-use Rattle.model.specs.Records.{Model}
+use Rattle.base.proofs.Below.{none-fails}
+use Rattle.model.specs.Records.{Model, modelOf}
+use Rattle.model.specs.Owners.{rulesOf, refusalOf, Accepted}
 use Rattle.model.specs.Facts.{Facts}
+use Rattle.model.proofs.Facts.{facts}
 use Rattle.cycle.specs.Configuration.{Configuration, first}
 use Rattle.cycle.specs.Statements.{stepped}
 use Rattle.cycle.specs.Invariant.{Reachable}
@@ -20,8 +24,8 @@ use Rattle.cycle.proofs.Invariant.{picked-reachable, advanced-reachable}
 use Rattle.cycle.proofs.Picks.{steps-commute, standing-stays}
 use Rattle.determinacy.specs.Kernel.{Laws, NormalForm}
 use Rattle.determinacy.specs.Determinacy.{Determinacy}
-use Rattle.determinacy.proofs.Run.{determinate}
-use Rattle.session.specs.Demand3.{kernelOf, tallyOf}
+use Rattle.determinacy.proofs.Run.{determinate as by-runs}
+use Rattle.session.specs.Demand3.{kernelOf, tallyOf, Determinate}
 use Rattle.session.proofs.Answers.{orders-small}
 use Rattle.session.proofs.Runs.{played-run}
 
@@ -83,4 +87,20 @@ module _ (M : Model) (facts : Facts M) where
   pub determinate-of : Determinacy (kernelOf M) (tallyOf M)
   unfolding laws
   determinate-of =
-      determinate (kernelOf M) laws (tallyOf M) (first M) (first-reachable M facts) (λ xs. played-run M _ (orders-small xs) (first M))
+      by-runs (kernelOf M) laws (tallyOf M) (first M) (first-reachable M facts) (λ xs. played-run M _ (orders-small xs) (first M))
+
+-- rules 4 to 8 hold of an accepted model
+accepted : (m : List ℕ) → refusalOf m ≡ 0 → Accepted (modelOf m)
+unfolding refusalOf rulesOf
+accepted m h =
+    record {
+      totals = none-fails 1 (rulesOf m) (omega arith) h 3;
+      fields = none-fails 1 (rulesOf m) (omega arith) h 4;
+      trees = none-fails 1 (rulesOf m) (omega arith) h 5;
+      types = none-fails 1 (rulesOf m) (omega arith) h 6;
+      owners = none-fails 1 (rulesOf m) (omega arith) h 7;
+    }
+
+-- demand 3
+pub determinate : Determinate
+determinate m h = determinate-of (modelOf m) (facts (modelOf m) (accepted m h))
