@@ -1,5 +1,6 @@
-// The nine values' functions under plain names, for programs in other languages. Each has the contract of the function it calls.
+// The kernel's functions under plain names, for programs in other languages. Each has the contract of the function it calls.
 ghost use mathlib.Core.Path.{_≡_};
+ghost use Rattle.model.specs.Owners.{refusalOf};
 ghost use Rattle.values.specs.Resolve.{resolutionOf};
 ghost use Rattle.values.specs.Operators.{notOf, andOf, orOf, xorOf};
 
@@ -36,4 +37,12 @@ pub extern "C" fn gontrafiby_xor(x: u32, y: u32) -> u32
     ensures { λ r. ⌜ r ≡ xorOf x y ⌝ }
 {
     values::xor(x, y)
+}
+
+// The number of the first of the rules 1 to 8 that the model breaks, or 0.
+#[no_mangle]
+pub extern "C" fn gontrafiby_judge(model: &[u8]) -> u32
+    ensures { λ r. ⌜ r ≡ refusalOf (now (model .entry)) ⌝ }
+{
+    model::load::judge(model) as u32
 }

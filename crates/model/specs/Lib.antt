@@ -4,3 +4,4 @@ pub mod Fields
 pub mod Trees
 pub mod Owners
 pub mod Index
+pub mod Facts

@@ -1,5 +1,6 @@
 -- Refusals 6 and 7: operands, trees and types.
-use Prim.Native.Nat.{ℕ, _+_}
+use mathlib.Core.Path.{_≡_}
+use Prim.Native.Nat.{ℕ, _+_, _<_}
 use mathlib.Core.Bool.{Bool, true, false, not, _&&_, _||_}
 use mathlib.Core.List.{List, [], _∷_}
 use lib.Dec.{eqb, leb, ltb}
@@ -43,6 +44,12 @@ treeOk M n = lowerOk (nodeAt M n) n && leb (sizeOf M n) 64
 
 unfoldable pub treesOk : Model → Bool
 treesOk M = allBelow (treeOk M) (length (M .nodes))
+
+-- what the size of node n's tree is worked out under: n is there, its operands are lower, and the nodes below it have passed
+pub record Measurable (M : Model) (n : ℕ) : Type 0 where
+  pub there : n < length (M .nodes)
+  pub lower : lowerOk (nodeAt M n) n ≡ true
+  pub below : (k : ℕ) → k < n → treeOk M k ≡ true
 
 -- types: 0 integer, 1 logic, 2 boolean, and 3 where the operands' types disagree
 abbrev pub integer : ℕ

@@ -1,6 +1,6 @@
 // A loaded model's index, and its records, each read from its own part of the bytes.
 ghost use mathlib.Core.Path.{_≡_};
-ghost use Prim.Native.Nat.{_+_, _≤_, _<_};
+ghost use Prim.Native.Nat.{_+_, _<_};
 ghost use lib.ListN.{length, getD};
 ghost use Rattle.model.specs.Records.{modelOf, signalAt, variableAt, processAt, driverAt, nodeAt, statementAt};
 ghost use Rattle.model.specs.Index.{Starts};
@@ -38,6 +38,14 @@ fn wide(x: u16) -> usize
     ensures { λ r. ⌜ r ≡ x ⌝ }
 {
     x as usize
+}
+
+// Entry n of the index.
+pub(crate) fn entry(index: &[u16; 1376], n: usize) -> usize
+    requires { ⌜ n < 1376 ⌝ }
+    ensures { λ r. ⌜ r ≡ getD (now (index .entry)) n 0 ⌝ }
+{
+    wide(index[n])
 }
 
 pub fn signal_at<'a>(m: &'a [u8], index: &'a [u16; 1376], n: usize) -> SignalRecord

@@ -1,0 +1,83 @@
+-- What acceptance gives of a statement, by its kind, from the rules 5, 7 and 8. Assumes nothing.
+use mathlib.Core.Path.{_≡_}
+use mathlib.Core.Bool.{Bool, true, _||_}
+use Prim.Native.Nat.{ℕ, _≤_, _<_}
+use native.Mathlib.Omega.{arith}
+use borrow.Author.Tests.{ne-eqb, ltb-true, eqb-true}
+use lib.Dec.{eqb}
+use lib.ListN.{length}
+use Rattle.base.proofs.Below.{every-at, and-left, and-right}
+use Rattle.model.specs.Records.{Model, signalAt, variableAt}
+use Rattle.model.specs.Fields.{absent, isNodeOrAbsent, ownerOf, statementOk}
+use Rattle.model.specs.Trees.{integer, boolean, typeOf, statementTyped}
+use Rattle.model.specs.Owners.{readsOwn, statementOwned}
+use Rattle.model.specs.Facts.{Expression, VariableAssignment, SignalAssignment, Branch, Wait, StatementFits}
+use Rattle.model.specs.declared.records.StatementRecord.{StatementRecord}
+use Rattle.model.proofs.StatementFields.{present, kind-most, names-variable, names-signal, value-node, delay-node, target, wait-condition, wait-delay, wait-set}
+
+-- a statement of process p, by the three rules that speak of it
+module _ (M : Model) (n : ℕ) (s : StatementRecord) (ok : statementOk M n s ≡ true) (typed : statementTyped M s ≡ true) (owned : statementOwned M (ownerOf M n) s ≡ true) where
+  abbrev p : ℕ
+  p = ownerOf M n
+
+  variable-assignment : s .kind ≡ 1 → VariableAssignment M p s
+  unfolding statementTyped statementOwned
+  variable-assignment e =
+      let o = rw e at owned in
+      let own : Bool = eqb (variableAt M (s .a) .process) p in
+      record {
+        variable = names-variable M n s ok e;
+        own = eqb-true _ p (and-left own _ o);
+        value = record { node = value-node M n s ok (omega arith) (omega arith); type = eqb-true _ _ (rw e at typed); own = and-right own _ o };
+      }
+
+  signal-assignment : s .kind ≡ 2 → SignalAssignment M p s
+  unfolding statementTyped statementOwned
+  signal-assignment e =
+      let t = rw e at typed in
+      let o = rw e at owned in
+      let same : Bool = eqb (typeOf M (s .b)) (signalAt M (s .a) .ty) in
+      record {
+        signal = names-signal M n s ok e;
+        driver = ltb-true _ _ (every-at _ 0 o);
+        value = record { node = value-node M n s ok (omega arith) (omega arith); type = eqb-true _ _ (and-left same _ t); own = every-at _ 1 o };
+        delay = record { node = delay-node M n s ok e; type = eqb-true _ _ (and-right same _ t); own = every-at _ 2 o };
+      }
+
+  branch : s .kind ≡ 3 → Branch M p s
+  unfolding statementTyped statementOwned
+  branch e =
+      record {
+        target = target M n s ok (omega arith) (omega arith);
+        condition = record { node = value-node M n s ok (omega arith) (omega arith); type = eqb-true _ _ (rw e at typed); own = rw e at owned };
+      }
+
+  -- an operand that may be absent, and is not
+  operand : (x ty : ℕ) → (x ≡ absent → ⊥) → isNodeOrAbsent M x ≡ true → (eqb x absent || eqb (typeOf M x) ty) ≡ true → (eqb x absent || readsOwn M p x) ≡ true → Expression M p ty x
+  operand x ty h f t o =
+      let e = ne-eqb x absent h in
+      record { node = present M x f h; type = eqb-true _ _ (rw e at t); own = rw e at o }
+
+  wait : s .kind ≡ 5 → Wait M p s
+  unfolding statementTyped statementOwned
+  wait e =
+      let t = rw e at typed in
+      let o = rw e at owned in
+      let tb : Bool = eqb (s .b) absent || eqb (typeOf M (s .b)) boolean in
+      let ob : Bool = eqb (s .b) absent || readsOwn M p (s .b) in
+      record {
+        condition = λ h. operand (s .b) boolean h (wait-condition M n s ok e) (and-left tb _ t) (and-left ob _ o);
+        delay = λ h. operand (s .c) integer h (wait-delay M n s ok e) (and-right tb _ t) (and-right ob _ o);
+        set = wait-set M n s ok e;
+      }
+
+  pub statement-fits : StatementFits M p s
+  statement-fits =
+      record {
+        kind = kind-most M n s ok;
+        variableAssignment = variable-assignment;
+        signalAssignment = signal-assignment;
+        branch = branch;
+        jump = λ e. target M n s ok (omega arith) (omega arith);
+        wait = wait;
+      }

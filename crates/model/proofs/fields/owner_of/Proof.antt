@@ -1,0 +1,67 @@
+use mathlib.Core.Path.{_≡_, sym, _∙_}
+use Prim.Native.Nat.{ℕ, _-_, _≤_, _<_}
+use mathlib.Core.Bool.{false}
+use native.Mathlib.Nat.{le-antisymm, not-suc-le-zero}
+use native.Mathlib.Omega.{arith}
+use borrow.Author.Count.{below-more}
+use borrow.Author.Tests.{lt-ltb, le-ltb}
+use lib.Dec.{ltb}
+use Rattle.base.proofs.Course.{first-found, first-none}
+use Rattle.model.specs.Records.{modelOf}
+use Rattle.model.specs.Fields.{endOf, ownerOf}
+use borrow.Author.Needs.{needs}
+use Rattle.model.proofs.fields.owner_of.Statement.{statement}
+use Rattle.model.proofs.fields.owner_of.Tie as tie
+
+abbrev Inv-loop : tie.InvT-loop
+Inv-loop m index t n p₀ p = (p ≤ t .processes) × ((k : ℕ) → k < p → ltb n (endOf (modelOf m) k) ≡ false)
+
+abbrev μ-loop : tie.MeasureT-loop
+μ-loop m index t n p₀ p = t .processes - p
+
+loop-holds : tie.Need-loop-holds Inv-loop μ-loop
+loop-holds c = (search needs, λ k h. absurd (not-suc-le-zero h))
+
+end-of-requires : tie.Need-end-of-requires Inv-loop μ-loop
+end-of-requires c κs = search needs
+
+returns : tie.Need-returns Inv-loop μ-loop
+unfolding ownerOf
+returns c =
+    let head = c .before .before .before .before in
+    let s = head .before .before in
+    sym
+    (first-found _ _ _ (omega (arith, s .pre .1 .processes)) (head .loop .inv .1)
+    (rw (c .before .end-of .ensures) at (lt-ltb _ _ (c .if2 .taken))))
+
+add-p : tie.Need-add-p Inv-loop μ-loop
+add-p c = search needs
+
+loop-less : tie.Need-loop-less Inv-loop μ-loop
+loop-less c = search needs
+
+loop-again : tie.Need-loop-again Inv-loop μ-loop
+loop-again c =
+    let head = c .before .before .before .before in
+    (search needs, below-more _ _ (head .loop .inv .1) (rw (c .before .end-of .ensures) at (le-ltb _ _ (c .if2 .left))))
+
+returns-2 : tie.Need-returns-2 Inv-loop μ-loop
+unfolding ownerOf
+returns-2 c =
+    let head = c .before .before in
+    let e = le-antisymm (head .loop .inv .0) (c .if1 .left) ∙ head .before .before .pre .1 .processes in
+    e ∙ sym (first-none _ _ (rw e at (head .loop .inv .1)))
+
+pub owner-of-spec : {M : Type 1} → statement M
+owner-of-spec =
+    tie.close
+    (tie.spec
+    Inv-loop
+    μ-loop
+    loop-holds
+    end-of-requires
+    returns
+    add-p
+    loop-less
+    loop-again
+    returns-2)

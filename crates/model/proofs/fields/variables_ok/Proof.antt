@@ -1,0 +1,53 @@
+use mathlib.Core.Path.{_≡_, sym, ap, _∙_}
+use Prim.Native.Nat.{_-_, _≤_}
+use native.Mathlib.Nat.{le-antisymm}
+use Rattle.base.specs.Below.{allBelow}
+use Rattle.base.proofs.Below.{all-none, all-next}
+use Rattle.model.specs.Records.{modelOf, variableAt}
+use Rattle.model.specs.Fields.{variableOk}
+use borrow.Author.Needs.{needs}
+use Rattle.model.proofs.fields.variables_ok.Statement.{statement}
+use Rattle.model.proofs.fields.variables_ok.Tie as tie
+
+abbrev Inv-loop : tie.InvT-loop
+Inv-loop m index t ok₀ n₀ ok n = (n ≤ t .variables) × (ok ≡ allBelow (λ i. variableOk (modelOf m) (variableAt (modelOf m) i)) n)
+
+abbrev μ-loop : tie.MeasureT-loop
+μ-loop m index t ok₀ n₀ ok n = t .variables - n
+
+loop-holds : tie.Need-loop-holds Inv-loop μ-loop
+loop-holds c = (search needs, sym (all-none _))
+
+variable-at-requires : tie.Need-variable-at-requires Inv-loop μ-loop
+variable-at-requires c κs = search needs
+
+variable-ok-requires : tie.Need-variable-ok-requires Inv-loop μ-loop
+variable-ok-requires c κs = search needs
+
+add-n : tie.Need-add-n Inv-loop μ-loop
+add-n c = search needs
+
+loop-less : tie.Need-loop-less Inv-loop μ-loop
+loop-less c = search needs
+
+loop-again : tie.Need-loop-again Inv-loop μ-loop
+loop-again c = (search needs, rw all-next (cc (c .variable-ok .ensures _ (c .before .before .before .before .before .before .pre .1))))
+
+returns : tie.Need-returns Inv-loop μ-loop
+returns c =
+    let head = c .before .before in
+    head .loop .inv .1 ∙ ap (allBelow _) (le-antisymm (head .loop .inv .0) (c .if1 .left) ∙ head .before .before .pre .1 .variables)
+
+pub variables-ok-spec : {M : Type 1} → statement M
+variables-ok-spec =
+    tie.close
+    (tie.spec
+    Inv-loop
+    μ-loop
+    loop-holds
+    variable-at-requires
+    variable-ok-requires
+    add-n
+    loop-less
+    loop-again
+    returns)

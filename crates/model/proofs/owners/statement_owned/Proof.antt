@@ -1,0 +1,154 @@
+-- `model::owners::statement_owned` meets its contract: each arm is a case of `statementOwned`. Assumes nothing.
+use mathlib.Core.Path.{_≡_, sym, ap, _∙_}
+use mathlib.Core.Bool.{true}
+use Prim.Native.Nat.{ℕ, _<_}
+use native.Mathlib.Omega.{arith}
+use borrow.Author.Needs.{needs}
+use borrow.Author.Tests.{ne-eqb}
+use denote.Ref.{now}
+use lib.ListN.{length}
+use Rattle.base.specs.Below.{every}
+use Rattle.model.specs.Records.{modelOf}
+use Rattle.model.specs.Fields.{fieldsOk, statementOk}
+use Rattle.model.specs.Trees.{treesOk}
+use Rattle.model.specs.Owners.{driverFor, statementOwned}
+use Rattle.model.specs.Index.{Starts}
+use Rattle.model.proofs.Lookup.{statements-most}
+use Rattle.model.proofs.StatementFields.{statement-ok, names-variable, value-node, delay-node, wait-condition, wait-delay}
+use Rattle.model.proofs.owners.statement_owned.Statement.{statement}
+use Rattle.model.proofs.owners.statement_owned.Tie as tie
+
+statement-at-requires : tie.Need-statement-at-requires
+statement-at-requires c κs = search needs
+
+owner-of-requires : tie.Need-owner-of-requires
+owner-of-requires c κs = search needs
+
+-- the statement that was read passes rule 5
+ok : (c : tie.After-owner-of) → statementOk (modelOf (now (c .before .before .before .args .m))) (c .before .before .before .args .n) (c .before .statement-at .result) ≡ true
+ok c =
+    let s = c .before .before .before in
+    rw (c .before .statement-at .ensures) (statement-ok (modelOf (now (s .args .m))) (s .args .n) (s .pre .1 .1 .0) (s .pre .1 .1 .1 .1))
+
+-- what reading a node's tree asks
+read : (c : tie.After-owner-of) (x : ℕ) → x < length (modelOf (now (c .before .before .before .args .m)) .nodes) → Starts (now (c .before .before .before .args .m)) (now (c .before .before .before .args .index)) × ((fieldsOk (modelOf (now (c .before .before .before .args .m))) ≡ true) × ((treesOk (modelOf (now (c .before .before .before .args .m))) ≡ true) × (x < length (modelOf (now (c .before .before .before .args .m)) .nodes))))
+read c x h = let p = c .before .before .before .pre in (p .0 .types .starts, (p .1 .1 .0, (p .1 .1 .1 .0, h)))
+
+variable-process-requires : tie.Need-variable-process-requires
+variable-process-requires c κs =
+    let o = c .before in
+    let s = o .before .before .before in
+    (s .pre .0 .types .starts, names-variable (modelOf (now (s .args .m))) (s .args .n) (o .before .statement-at .result) (ok o) (c .match .keys1))
+
+reads-own-requires : tie.Need-reads-own-requires
+reads-own-requires c κs =
+    let o = c .before .before in
+    let s = o .before .before .before in
+    read o _ (value-node (modelOf (now (s .args .m))) (s .args .n) (o .before .statement-at .result) (ok o) (omega (arith, c .before .match .keys1)) (omega (arith, c .before .match .keys1)))
+
+-- the statement's number is below the limit
+small : (c : tie.After-owner-of) → c .before .before .before .args .n < 200
+small c =
+    let s = c .before .before .before in
+    omega (arith, s .pre .1 .1 .1 .1, statements-most (modelOf (now (s .args .m))) (s .pre .0 .types .starts .totals))
+
+add-entry : tie.Need-add-entry
+add-entry c = omega (arith, small (c .before))
+
+entry-requires : tie.Need-entry-requires
+entry-requires c κs = omega (arith, small (c .before))
+
+reads-own-requires-2 : tie.Need-reads-own-requires-2
+reads-own-requires-2 c κs =
+    let o = c .before .before .before in
+    let s = o .before .before .before in
+    let e = c .before .before .match .keys2 in
+    read o _ (value-node (modelOf (now (s .args .m))) (s .args .n) (o .before .statement-at .result) (ok o) (omega (arith, e)) (omega (arith, e)))
+
+reads-own-requires-3 : tie.Need-reads-own-requires-3
+reads-own-requires-3 c κs =
+    let o = c .before .before .before .before in
+    let s = o .before .before .before in
+    read o _ (delay-node (modelOf (now (s .args .m))) (s .args .n) (o .before .statement-at .result) (ok o) (c .before .before .before .match .keys2))
+
+reads-own-requires-4 : tie.Need-reads-own-requires-4
+reads-own-requires-4 c κs =
+    let o = c .before in
+    let s = o .before .before .before in
+    read o _ (value-node (modelOf (now (s .args .m))) (s .args .n) (o .before .statement-at .result) (ok o) (omega (arith, c .match .keys3)) (omega (arith, c .match .keys3)))
+
+own-or-absent-requires : tie.Need-own-or-absent-requires
+own-or-absent-requires c κs =
+    let o = c .before in
+    let s = o .before .before .before in
+    let p = s .pre in
+    (p .0 .types .starts, (p .1 .1 .0, (p .1 .1 .1 .0, wait-condition (modelOf (now (s .args .m))) (s .args .n) (o .before .statement-at .result) (ok o) (c .match .keys4))))
+
+own-or-absent-requires-2 : tie.Need-own-or-absent-requires-2
+own-or-absent-requires-2 c κs =
+    let o = c .before .before in
+    let s = o .before .before .before in
+    let p = s .pre in
+    (p .0 .types .starts, (p .1 .1 .0, (p .1 .1 .1 .0, wait-delay (modelOf (now (s .args .m))) (s .args .n) (o .before .statement-at .result) (ok o) (c .before .match .keys4))))
+
+returns : tie.Need-returns
+unfolding statementOwned
+returns c =
+    let o = c .before .before .before in
+    rw (← o .before .statement-at .ensures, ← o .owner-of .ensures, c .before .before .match .keys1) (cc)
+
+-- the entry of a signal assignment is its driver
+driver : (c : tie.After-entry) → c .entry .result ≡ driverFor (modelOf (now (c .before .before .before .before .before .args .m))) (c .before .before .owner-of .result) (c .before .before .before .statement-at .result .a)
+driver c =
+    let o = c .before .before in
+    let s = o .before .before .before in
+    let st = o .before .statement-at .ensures in
+    rw (o .owner-of .ensures, st) (c .entry .ensures ∙ s .pre .0 .driver (s .args .n) (s .pre .1 .1 .1 .1) (rw st at (c .before .match .keys2)))
+
+returns-2 : tie.Need-returns-2
+unfolding statementOwned every
+returns-2 c =
+    let e = c .before .before .before in
+    let o = e .before .before in
+    let s = o .before .before .before in
+    rw (← o .before .statement-at .ensures, ← o .owner-of .ensures, e .before .match .keys2, ← driver e, ← s .pre .1 .0 .drivers) (cc)
+
+returns-3 : tie.Need-returns-3
+unfolding statementOwned
+returns-3 c =
+    let o = c .before .before in
+    rw (← o .before .statement-at .ensures, ← o .owner-of .ensures, c .before .match .keys3) (c .reads-own4 .ensures)
+
+returns-4 : tie.Need-returns-4
+unfolding statementOwned
+returns-4 c =
+    let o = c .before .before .before in
+    rw (← o .before .statement-at .ensures, ← o .owner-of .ensures, c .before .before .match .keys4) (cc)
+
+returns-5 : tie.Need-returns-5
+unfolding statementOwned
+returns-5 c =
+    let o = c .before in
+    let r = c .match .rest in
+    rw (← o .before .statement-at .ensures, ne-eqb _ _ (r .0 .0 .0 .1), ne-eqb _ _ (r .0 .0 .1), ne-eqb _ _ (r .0 .1), ne-eqb _ _ (r .1))
+
+pub statement-owned-spec : {M : Type 1} → statement M
+statement-owned-spec =
+    tie.close
+    (tie.spec
+    statement-at-requires
+    owner-of-requires
+    variable-process-requires
+    reads-own-requires
+    add-entry
+    entry-requires
+    reads-own-requires-2
+    reads-own-requires-3
+    reads-own-requires-4
+    own-or-absent-requires
+    own-or-absent-requires-2
+    returns
+    returns-2
+    returns-3
+    returns-4
+    returns-5)

@@ -1,0 +1,67 @@
+use mathlib.Core.Path.{_≡_, sym, _∙_}
+use mathlib.Core.Bool.{true}
+use Prim.Native.Nat.{_-_, _≤_}
+use native.Mathlib.Nat.{le-antisymm}
+use native.Mathlib.Omega.{arith}
+use borrow.Author.Tests.{not-true, not-false}
+use Rattle.base.specs.Below.{allBelow}
+use Rattle.base.proofs.Below.{all-none, all-at, all-more, all-fails}
+use Rattle.model.specs.Records.{modelOf}
+use Rattle.model.specs.Trees.{treeOk, treesOk}
+use borrow.Author.Needs.{needs}
+use Rattle.model.proofs.trees.trees_ok.Statement.{statement}
+use Rattle.model.proofs.trees.trees_ok.Tie as tie
+
+abbrev Inv-loop : tie.InvT-loop
+Inv-loop m index t n₀ n = (n ≤ t .nodes) × (allBelow (treeOk (modelOf m)) n ≡ true)
+
+abbrev μ-loop : tie.MeasureT-loop
+μ-loop m index t n₀ n = t .nodes - n
+
+loop-holds : tie.Need-loop-holds Inv-loop μ-loop
+loop-holds c = (search needs, all-none _)
+
+tree-ok-requires : tie.Need-tree-ok-requires Inv-loop μ-loop
+tree-ok-requires c κs =
+    let head = c .before .before in
+    let s = head .before .before in
+    (s .pre .0, (omega (arith, s .pre .1 .nodes), λ k l. all-at _ _ k l (head .loop .inv .1)))
+
+returns : tie.Need-returns Inv-loop μ-loop
+unfolding treesOk
+returns c =
+    let head = c .before .before .before .before in
+    let s = head .before .before in
+    sym (all-fails _ _ _ (omega (arith, s .pre .1 .nodes)) (sym (c .before .tree-ok .ensures) ∙ not-true _ (c .if2 .taken)))
+
+add-n : tie.Need-add-n Inv-loop μ-loop
+add-n c = search needs
+
+loop-less : tie.Need-loop-less Inv-loop μ-loop
+loop-less c = search needs
+
+loop-again : tie.Need-loop-again Inv-loop μ-loop
+loop-again c =
+    let head = c .before .before .before .before in
+    (search needs, all-more _ _ (head .loop .inv .1) (sym (c .before .tree-ok .ensures) ∙ not-false _ (c .if2 .left)))
+
+returns-2 : tie.Need-returns-2 Inv-loop μ-loop
+unfolding treesOk
+returns-2 c =
+    let head = c .before .before in
+    let e = le-antisymm (head .loop .inv .0) (c .if1 .left) ∙ head .before .before .pre .1 .nodes in
+    sym (rw e at (head .loop .inv .1))
+
+pub trees-ok-spec : {M : Type 1} → statement M
+trees-ok-spec =
+    tie.close
+    (tie.spec
+    Inv-loop
+    μ-loop
+    loop-holds
+    tree-ok-requires
+    returns
+    add-n
+    loop-less
+    loop-again
+    returns-2)

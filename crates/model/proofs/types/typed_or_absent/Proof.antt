@@ -1,0 +1,14 @@
+use borrow.Author.Tests.{eq-eqb, ne-eqb}
+use denote.Ref.{now}
+use Rattle.model.specs.Records.{modelOf}
+use Rattle.model.proofs.StatementFields.{present}
+use Rattle.model.proofs.types.typed_or_absent.Statement.{statement}
+use Rattle.model.proofs.types.typed_or_absent.Tie as tie
+
+pub typed-or-absent-spec : {M : Type 1} → statement M
+typed-or-absent-spec =
+    tie.close
+    (tie.spec
+    (λ c κs. (c .before .before .pre .0, present (modelOf (now (c .before .before .args .m))) _ (c .before .before .pre .1) (c .if1 .left)))
+    (λ c. rw (eq-eqb _ _ (c .if1 .taken)))
+    (λ c. rw (ne-eqb _ _ (c .before .if1 .left), c .type-at .ensures)))

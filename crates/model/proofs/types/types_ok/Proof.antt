@@ -1,0 +1,17 @@
+use borrow.Author.Needs.{needs}
+use Rattle.model.specs.Trees.{typesOk}
+use Rattle.model.proofs.types.types_ok.Statement.{statement}
+use Rattle.model.proofs.types.types_ok.Tie as tie
+
+fill-types-requires : tie.Need-fill-types-requires
+fill-types-requires c κs = search needs
+
+statements-typed-requires : tie.Need-statements-typed-requires
+statements-typed-requires c κs = search needs
+
+returns : tie.Need-returns
+unfolding typesOk
+returns c = (rw (c .before .before .fill-types .ensures .0, c .statements-typed .ensures), c .before .before .fill-types .ensures .1)
+
+pub types-ok-spec : {M : Type 1} → statement M
+types-ok-spec = tie.close (tie.spec fill-types-requires statements-typed-requires returns)

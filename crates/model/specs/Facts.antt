@@ -1,0 +1,158 @@
+-- What acceptance says of each part of a model, as plain facts: all that the layers above know of an accepted model.
+use mathlib.Core.Path.{_≡_}
+use mathlib.Core.Bool.{true}
+use mathlib.Core.Logic.{_⊎_}
+use Prim.Native.Nat.{ℕ, _+_, _^_, _≤_, _<_}
+use lib.ListN.{length}
+use Rattle.model.specs.Records.{Model, signalAt, variableAt, processAt, driverAt, nodeAt, statementAt}
+use Rattle.model.specs.Fields.{absent, endOf, ownerOf, valueOk}
+use Rattle.model.specs.Trees.{integer, logic, boolean, sizeOf, typeOf}
+use Rattle.model.specs.Owners.{driverFor, readsOwn}
+use Rattle.model.specs.declared.records.StatementRecord.{StatementRecord}
+
+-- the totals are within their limits
+pub record TotalsFit (M : Model) : Type 0 where
+  pub signals : length (M .signals) ≤ 32
+  pub variables : length (M .variables) ≤ 64
+  pub someProcess : 1 ≤ length (M .processes)
+  pub processes : length (M .processes) ≤ 16
+  pub drivers : length (M .drivers) ≤ 64
+  pub nodes : length (M .nodes) ≤ 400
+  pub someStatement : 1 ≤ length (M .statements)
+  pub statements : length (M .statements) ≤ 200
+
+-- signal n: its type, and a starting value of that type
+pub record SignalFits (M : Model) (n : ℕ) : Type 0 where
+  pub ty : signalAt M n .ty ≤ 1
+  pub start : valueOk (signalAt M n .ty) (signalAt M n .start) ≡ true
+
+-- variable n: its type, a starting value of that type, and its process
+pub record VariableFits (M : Model) (n : ℕ) : Type 0 where
+  pub ty : variableAt M n .ty ≤ 2
+  pub start : valueOk (variableAt M n .ty) (variableAt M n .start) ≡ true
+  pub process : variableAt M n .process < length (M .processes)
+
+-- statement i belongs to process p
+pub record Spans (M : Model) (p i : ℕ) : Type 0 where
+  pub from : processAt M p .first ≤ i
+  pub below : i < endOf M p
+
+-- process p: its statements are there and are its own; the first is one of them, and so is the next of each but the last
+pub record ProcessFits (M : Model) (p : ℕ) : Type 0 where
+  pub some : 1 ≤ processAt M p .count
+  pub within : endOf M p ≤ length (M .statements)
+  pub owner : (i : ℕ) → Spans M p i → ownerOf M i ≡ p
+  pub first : Spans M p (processAt M p .first)
+  pub next : (i : ℕ) → Spans M p i → i + 1 < endOf M p → Spans M p (i + 1)
+
+-- driver k names a process and a signal, and is the driver of that process for that signal
+pub record DriverFits (M : Model) (k : ℕ) : Type 0 where
+  pub process : driverAt M k .process < length (M .processes)
+  pub signal : driverAt M k .signal < length (M .signals)
+  pub found : driverFor M (driverAt M k .process) (driverAt M k .signal) ≡ k
+
+-- driver k is that of process p for signal s
+pub record Drives (M : Model) (p s k : ℕ) : Type 0 where
+  pub process : driverAt M k .process ≡ p
+  pub signal : driverAt M k .signal ≡ s
+
+-- driver i stands before driver j: by process, then by signal
+pub record PairsRise (M : Model) (i j : ℕ) : Type 0 where
+  pub process : driverAt M i .process ≤ driverAt M j .process
+  pub signal : driverAt M i .process ≡ driverAt M j .process → driverAt M i .signal < driverAt M j .signal
+
+-- node n: its kind, what it names, its operands and its tree
+pub record NodeFits (M : Model) (n : ℕ) : Type 0 where
+  pub kindLeast : 1 ≤ nodeAt M n .kind
+  pub kindMost : nodeAt M n .kind ≤ 14
+  pub constant : nodeAt M n .kind ≤ 2 → valueOk (typeOf M n) (nodeAt M n .k) ≡ true
+  pub variable : nodeAt M n .kind ≡ 3 → nodeAt M n .a < length (M .variables)
+  pub signal : 4 ≤ nodeAt M n .kind → nodeAt M n .kind ≤ 5 → nodeAt M n .a < length (M .signals)
+  pub delay : nodeAt M n .kind ≡ 5 → nodeAt M n .k ≤ 31
+  pub lowerA : 6 ≤ nodeAt M n .kind → nodeAt M n .a < n
+  pub lowerB : 7 ≤ nodeAt M n .kind → (nodeAt M n .kind ≡ 10 → ⊥) → nodeAt M n .b < n
+  pub size : sizeOf M n ≤ 64
+
+-- node n's type, and those of its operands
+pub record NodeTyped (M : Model) (n : ℕ) : Type 0 where
+  pub known : typeOf M n ≤ 2
+  pub integerConstant : nodeAt M n .kind ≡ 1 → typeOf M n ≡ integer
+  pub logicConstant : nodeAt M n .kind ≡ 2 → typeOf M n ≡ logic
+  pub variable : nodeAt M n .kind ≡ 3 → typeOf M n ≡ variableAt M (nodeAt M n .a) .ty
+  pub signal : 4 ≤ nodeAt M n .kind → nodeAt M n .kind ≤ 5 → typeOf M n ≡ signalAt M (nodeAt M n .a) .ty
+  pub logical : 6 ≤ nodeAt M n .kind → nodeAt M n .kind ≤ 9 → 1 ≤ typeOf M n
+  pub logicalA : 6 ≤ nodeAt M n .kind → nodeAt M n .kind ≤ 9 → typeOf M (nodeAt M n .a) ≡ typeOf M n
+  pub logicalB : 7 ≤ nodeAt M n .kind → nodeAt M n .kind ≤ 9 → typeOf M (nodeAt M n .b) ≡ typeOf M n
+  pub arithmetic : 10 ≤ nodeAt M n .kind → nodeAt M n .kind ≤ 12 → typeOf M n ≡ integer
+  pub arithmeticA : 10 ≤ nodeAt M n .kind → nodeAt M n .kind ≤ 12 → typeOf M (nodeAt M n .a) ≡ integer
+  pub arithmeticB : 11 ≤ nodeAt M n .kind → nodeAt M n .kind ≤ 12 → typeOf M (nodeAt M n .b) ≡ integer
+  pub relation : 13 ≤ nodeAt M n .kind → typeOf M n ≡ boolean
+  pub relationB : 13 ≤ nodeAt M n .kind → typeOf M (nodeAt M n .b) ≡ typeOf M (nodeAt M n .a)
+  pub equal : nodeAt M n .kind ≡ 13 → typeOf M (nodeAt M n .a) ≤ 1
+  pub less : nodeAt M n .kind ≡ 14 → typeOf M (nodeAt M n .a) ≡ integer
+
+-- node n's tree reads variables of process p alone: what that says of the node and its operands
+pub record Reads (M : Model) (p n : ℕ) : Type 0 where
+  pub variable : nodeAt M n .kind ≡ 3 → variableAt M (nodeAt M n .a) .process ≡ p
+  pub ownA : 6 ≤ nodeAt M n .kind → readsOwn M p (nodeAt M n .a) ≡ true
+  pub ownB : 7 ≤ nodeAt M n .kind → (nodeAt M n .kind ≡ 10 → ⊥) → readsOwn M p (nodeAt M n .b) ≡ true
+
+-- node n is an expression of the type that process p may work out
+pub record Expression (M : Model) (p ty n : ℕ) : Type 0 where
+  pub node : n < length (M .nodes)
+  pub type : typeOf M n ≡ ty
+  pub own : readsOwn M p n ≡ true
+
+-- kind 1 of process p: variable a := b
+pub record VariableAssignment (M : Model) (p : ℕ) (s : StatementRecord) : Type 0 where
+  pub variable : s .a < length (M .variables)
+  pub own : variableAt M (s .a) .process ≡ p
+  pub value : Expression M p (variableAt M (s .a) .ty) (s .b)
+
+-- kind 2: signal a <= b after c
+pub record SignalAssignment (M : Model) (p : ℕ) (s : StatementRecord) : Type 0 where
+  pub signal : s .a < length (M .signals)
+  pub driver : driverFor M p (s .a) < length (M .drivers)
+  pub value : Expression M p (signalAt M (s .a) .ty) (s .b)
+  pub delay : Expression M p integer (s .c)
+
+-- kind 3: unless b go to statement a
+pub record Branch (M : Model) (p : ℕ) (s : StatementRecord) : Type 0 where
+  pub target : Spans M p (s .a)
+  pub condition : Expression M p boolean (s .b)
+
+-- kind 5: wait on the set until b for c
+pub record Wait (M : Model) (p : ℕ) (s : StatementRecord) : Type 0 where
+  pub condition : (s .b ≡ absent → ⊥) → Expression M p boolean (s .b)
+  pub delay : (s .c ≡ absent → ⊥) → Expression M p integer (s .c)
+  pub set : s .set < 2 ^ length (M .signals)
+
+-- a statement of process p, by its kind
+pub record StatementFits (M : Model) (p : ℕ) (s : StatementRecord) : Type 0 where
+  pub kind : s .kind ≤ 5
+  pub variableAssignment : s .kind ≡ 1 → VariableAssignment M p s
+  pub signalAssignment : s .kind ≡ 2 → SignalAssignment M p s
+  pub branch : s .kind ≡ 3 → Branch M p s
+  pub jump : s .kind ≡ 4 → Spans M p (s .a)
+  pub wait : s .kind ≡ 5 → Wait M p s
+
+-- statement n belongs to a process, and fits it
+pub record StatementOf (M : Model) (n : ℕ) : Type 0 where
+  pub owner : ownerOf M n < length (M .processes)
+  pub spans : Spans M (ownerOf M n) n
+  pub fits : StatementFits M (ownerOf M n) (statementAt M n)
+
+-- an accepted model
+pub record Facts (M : Model) : Type 0 where
+  pub totals : TotalsFit M
+  pub signal : (n : ℕ) → n < length (M .signals) → SignalFits M n
+  pub variable : (n : ℕ) → n < length (M .variables) → VariableFits M n
+  pub process : (p : ℕ) → p < length (M .processes) → ProcessFits M p
+  pub driver : (k : ℕ) → k < length (M .drivers) → DriverFits M k
+  pub drives : (p s : ℕ) → driverFor M p s < length (M .drivers) → Drives M p s (driverFor M p s)
+  pub rise : (i j : ℕ) → i < j → j < length (M .drivers) → PairsRise M i j
+  pub single : (i j : ℕ) → i < length (M .drivers) → j < length (M .drivers) → driverAt M i .signal ≡ driverAt M j .signal → signalAt M (driverAt M i .signal) .ty ≡ integer → i ≡ j
+  pub node : (n : ℕ) → n < length (M .nodes) → NodeFits M n
+  pub typed : (n : ℕ) → n < length (M .nodes) → NodeTyped M n
+  pub reads : (p n : ℕ) → n < length (M .nodes) → readsOwn M p n ≡ true → Reads M p n
+  pub statement : (n : ℕ) → n < length (M .statements) → StatementOf M n
