@@ -1,13 +1,13 @@
 -- The laws of `placed`: what is written into a list from a place on. Assumes nothing.
-use mathlib.Core.Path.{_≡_, refl, sym, ap, _∙_}
-use mathlib.Core.List.{List, [], _∷_, _++_, append-assoc, append-nil}
-use Prim.Native.Nat.{ℕ, suc, _+_, _-_, _≤_, _<_}
-use native.Mathlib.Nat.{add-zero, add-assoc}
+use mathlib.Core.Path.{_≡_, refl}
+use mathlib.Core.List.{List, [], _++_, append-assoc, append-nil}
+use Prim.Native.Nat.{ℕ, _+_, _≤_, _<_}
+use native.Mathlib.Nat.{add-zero}
 use native.Mathlib.Omega.{arith}
-use lib.ListN.{length, getD, take, drop, set, length-append, length-take, length-drop, take-append-drop, List·getD-append}
+use lib.ListN.{length, getD, take, drop, set, length-append, length-drop, take-append-drop, List·getD-append}
 use lib.Seq.{take-at, getD-take, getD-append-add, drop-append-add, drop-drop, length-take-le}
 use Rattle.base.specs.Below.{listBelow}
-use Rattle.base.proofs.Below.{list-none, list-length, write-next}
+use Rattle.base.proofs.Below.{list-length, write-next}
 use Rattle.model.specs.Index.{placed}
 
 pub placed-none : (d : List ℕ) (at : ℕ) → placed d at [] ≡ d

@@ -1,14 +1,14 @@
 -- The sections of the index, one for each kind: filled one after the other, they say where each record begins.
 -- Assumes nothing.
-use mathlib.Core.Path.{_≡_, refl, sym, ap, _∙_}
-use mathlib.Core.Bool.{Bool, true, false}
+use mathlib.Core.Path.{_≡_, _∙_}
+use mathlib.Core.Bool.{true}
 use mathlib.Core.List.{List}
 use mathlib.Core.Logic.{⊎-elim}
 use Prim.Native.Nat.{ℕ, zero, suc, _+_, _≤_, _<_}
 use native.Mathlib.Nat.{not-suc-le-zero, eq-or-lt-of-le, le-of-suc-le-suc}
 use native.Mathlib.Omega.{arith}
 use lib.ListN.{length, getD}
-use Rattle.base.proofs.Below.{Each, among}
+use Rattle.base.proofs.Below.{among}
 use Rattle.model.specs.Blocks.{headsOk, startsOf, totalOf}
 use Rattle.model.specs.Records.{modelOf}
 use Rattle.model.specs.Fields.{totalsOk}

@@ -1,6 +1,6 @@
 // A loaded model's index, and its records, each read from its own part of the bytes.
 ghost use mathlib.Core.Path.{_≡_};
-ghost use Prim.Native.Nat.{_+_, _≤_, _<_};
+ghost use Prim.Native.Nat.{_+_, _<_};
 ghost use lib.ListN.{length, getD};
 ghost use Rattle.model.specs.Records.{modelOf, signalAt, variableAt, processAt, driverAt, nodeAt, statementAt};
 ghost use Rattle.model.specs.Index.{Starts};

@@ -1,6 +1,5 @@
 use Rattle.base.specs.Below.{every}
 use Rattle.model.specs.Blocks.{lengthOk}
-use borrow.Author.Needs.{needs}
 use Rattle.model.proofs.blocks.length_ok.Statement.{statement}
 use Rattle.model.proofs.blocks.length_ok.Tie as tie
 

@@ -1,11 +1,11 @@
-use mathlib.Core.Path.{_≡_, refl, sym, ap, _∙_}
+use mathlib.Core.Path.{_≡_, refl, _∙_}
 use Prim.Native.Nat.{_+_, _-_, _/_, _≤_, _<_}
 use native.Mathlib.Nat.{le-antisymm}
 use native.Mathlib.Omega.{arith}
 use lib.ListN.{length}
-use Rattle.base.specs.Below.{sumBelow, joinBelow, listBelow}
-use Rattle.base.proofs.Below.{sum-none, sum-more, join-none, join-more}
-use Rattle.model.specs.Blocks.{countIn, startAt, startsIn, startsOf}
+use Rattle.base.specs.Below.{sumBelow, joinBelow}
+use Rattle.base.proofs.Below.{sum-none, sum-more, join-none}
+use Rattle.model.specs.Blocks.{countIn, startsIn, startsOf}
 use Rattle.model.specs.Index.{placed}
 use Rattle.model.proofs.Starts.{total-upto, placed-block}
 use Rattle.model.proofs.Places.{placed-none}

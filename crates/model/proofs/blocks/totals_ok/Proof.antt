@@ -1,6 +1,5 @@
 use Rattle.base.specs.Below.{every}
 use Rattle.model.specs.Fields.{totalsOk}
-use borrow.Author.Needs.{needs}
 use Rattle.model.proofs.blocks.totals_ok.Statement.{statement}
 use Rattle.model.proofs.blocks.totals_ok.Tie as tie
 
