@@ -6,7 +6,7 @@ use Prim.Native.Nat.{ℕ}
 use lib.ListN.{length, getD}
 use Rattle.base.specs.Bytes.{byteAt, wordAt, longAt}
 use Rattle.values.specs.Bench as Values
-use Rattle.values.specs.Bench.{Row, _is_}
+use Rattle.values.specs.Bench.{Row, _gives_}
 use Rattle.model.specs.Records.{Model}
 use Rattle.model.specs.Trees.{integer}
 use Rattle.model.specs.declared.records.SignalRecord.{SignalRecord}
@@ -82,16 +82,16 @@ adder =
 -- "[p] 2,147,483,646 + 1 fits; one more is fault 1."
 unfoldable pub sumRows : List Row
 sumRows =
-    (faultIn (answerTo adder (pickOrder 0 ∷ []) 0) is 0)
-    ∷ (getD (after adder (pickOrder 0 ∷ []) .variables) 0 0 is 2147483647)
-    ∷ (faultIn (answerTo adder (pickOrder 0 ∷ pickOrder 0 ∷ []) 1) is 1)
+    (faultIn (answerTo adder (pickOrder 0 ∷ []) 0) gives 0)
+    ∷ (getD (after adder (pickOrder 0 ∷ []) .variables) 0 0 gives 2147483647)
+    ∷ (faultIn (answerTo adder (pickOrder 0 ∷ pickOrder 0 ∷ []) 1) gives 1)
     ∷ []
 
 -- "[p] A settle with count 0 on a ready process answers 1 with 0 picks."
 unfoldable pub settleRows : List Row
 settleRows =
-    (saidIn (answerTo adder (settleOrder 0 ∷ []) 0) is 1)
-    ∷ (picksIn (answerTo adder (settleOrder 0 ∷ []) 0) is 0)
+    (saidIn (answerTo adder (settleOrder 0 ∷ []) 0) gives 1)
+    ∷ (picksIn (answerTo adder (settleOrder 0 ∷ []) 0) gives 0)
     ∷ []
 
 -- variable 0 starts at 1. Process 0: signal 0 <= variable 0 after variable 0; variable 0 := variable 0 + 1
@@ -113,11 +113,11 @@ pendingAfter os = length (driverIn (after scheduler os .drivers) 0 .pending)
 -- "[p] With seven pending, an eighth later one is kept; a ninth later one is fault 3."
 unfoldable pub pendingRows : List Row
 pendingRows =
-    (pendingAfter (settleOrder 14 ∷ []) is 7)
-    ∷ (pendingAfter (settleOrder 14 ∷ pickOrder 0 ∷ []) is 8)
-    ∷ (faultIn (answerTo scheduler (settleOrder 14 ∷ pickOrder 0 ∷ []) 1) is 0)
-    ∷ (pendingAfter (settleOrder 16 ∷ pickOrder 0 ∷ []) is 8)
-    ∷ (faultIn (answerTo scheduler (settleOrder 16 ∷ pickOrder 0 ∷ []) 1) is 3)
+    (pendingAfter (settleOrder 14 ∷ []) gives 7)
+    ∷ (pendingAfter (settleOrder 14 ∷ pickOrder 0 ∷ []) gives 8)
+    ∷ (faultIn (answerTo scheduler (settleOrder 14 ∷ pickOrder 0 ∷ []) 1) gives 0)
+    ∷ (pendingAfter (settleOrder 16 ∷ pickOrder 0 ∷ []) gives 8)
+    ∷ (faultIn (answerTo scheduler (settleOrder 16 ∷ pickOrder 0 ∷ []) 1) gives 3)
     ∷ []
 
 unfoldable pub rows : List Row
