@@ -12,9 +12,9 @@ pub record Row : Type 0 where
   pub given : ℕ
   pub said : ℕ
 
-infix 4 _is_
-abbrev pub _is_ : ℕ → ℕ → Row
-g is s = record { given = g; said = s }
+infix 4 _gives_
+abbrev pub _gives_ : ℕ → ℕ → Row
+g gives s = record { given = g; said = s }
 
 -- the test of a table: in each row the two are equal
 unfoldable pub holds : List Row → Bool
@@ -27,11 +27,11 @@ Holds rows = holds rows ≡ true
 -- "Resolution [p]: 0,1 is X; L,H is W; Z,L is L; W,0 is 0; U,1 is U; one - is -; two - are X."
 unfoldable pub rows : List Row
 rows =
-    (resolutionOf (‘0’ ∷ ‘1’ ∷ []) is X)
-    ∷ (resolutionOf (L ∷ H ∷ []) is W)
-    ∷ (resolutionOf (Z ∷ L ∷ []) is L)
-    ∷ (resolutionOf (W ∷ ‘0’ ∷ []) is ‘0’)
-    ∷ (resolutionOf (U ∷ ‘1’ ∷ []) is U)
-    ∷ (resolutionOf (‘-’ ∷ []) is ‘-’)
-    ∷ (resolutionOf (‘-’ ∷ ‘-’ ∷ []) is X)
+    (resolutionOf (‘0’ ∷ ‘1’ ∷ []) gives X)
+    ∷ (resolutionOf (L ∷ H ∷ []) gives W)
+    ∷ (resolutionOf (Z ∷ L ∷ []) gives L)
+    ∷ (resolutionOf (W ∷ ‘0’ ∷ []) gives ‘0’)
+    ∷ (resolutionOf (U ∷ ‘1’ ∷ []) gives U)
+    ∷ (resolutionOf (‘-’ ∷ []) gives ‘-’)
+    ∷ (resolutionOf (‘-’ ∷ ‘-’ ∷ []) gives X)
     ∷ []

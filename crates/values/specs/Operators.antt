@@ -1,4 +1,4 @@
--- The operators of IEEE 1164, "as the standard's tables say": each is the paper's sentence, in its order.
+-- "The base holds the standard's operator tables. They say:" the four sentences below, each by its classes, in its order.
 use mathlib.Core.Bool.{Bool, _&&_, _||_, not}
 use Prim.Native.Nat.{ℕ}
 use Rattle.base.specs.Cases.{pick, _∣_}

@@ -7,7 +7,7 @@ use Prim.Native.Nat.{ℕ, _<_}
 use lib.Dec.{eqb, ltb}
 use lib.ListN.{length, getD}
 use Rattle.base.specs.Below.{allBelow}
-use Rattle.values.specs.Nine.{U, X, ‘0’, ‘1’, Z, W, L, H, ‘-’, codeOf}
+use Rattle.values.specs.Nine.{U, X, ‘0’, ‘1’, Z, W, L, H, codeOf}
 
 -- the rows of U, X, 0, 1, Z, W, L, H and -, each with its columns in that order
 unfoldable pub standard : List (List ℕ)

@@ -3,7 +3,7 @@ ghost use mathlib.Core.Path.{_≡_};
 ghost use Prim.Native.Nat.{_<_};
 ghost use lib.ListN.{length};
 ghost use Rattle.values.specs.Nine.{codeOf};
-ghost use Rattle.values.specs.Resolve.{inRow, pairIn, pairOf, resolutionOf, PairLaws, ResolutionLaws};
+ghost use Rattle.values.specs.Resolve.{inRow, pairIn, pairOf, resolutionBy, resolutionOf, PairLaws, ResolutionLaws};
 ghost use Rattle.values.specs.Operators.{notOf, andOf, orOf, xorOf};
 ghost use Rattle.values.specs.Bench.{rows, Holds};
 
@@ -93,10 +93,9 @@ pub fn pair(x: u32, y: u32) -> u32
     look_up(&PAIR, x, y)
 }
 
-// The resolution of all of the values.
-pub fn resolve(values: &[u8]) -> u32
-    ensures { λ r. ⌜ r ≡ resolutionOf (now (values .entry)) ⌝ }
-    ensures { λ r. ⌜ ResolutionLaws pairOf ⌝ }
+// The resolution of all of the values, by the table given.
+fn resolve_by(table: &[[u8; 9]; 9], values: &[u8]) -> u32
+    ensures { λ r. ⌜ r ≡ resolutionBy (pairIn (now (table .entry))) (now (values .entry)) ⌝ }
 {
     if values.len() == 0 {
         return 4;
@@ -104,10 +103,17 @@ pub fn resolve(values: &[u8]) -> u32
     let mut result = wide(values[0]);
     let mut i = 1;
     while i < values.len() {
-        result = pair(result, wide(values[i]));
+        result = look_up(table, result, wide(values[i]));
         i += 1;
     }
     result
+}
+
+pub fn resolve(values: &[u8]) -> u32
+    ensures { λ r. ⌜ r ≡ resolutionOf (now (values .entry)) ⌝ }
+    ensures { λ r. ⌜ ResolutionLaws pairOf ⌝ }
+{
+    resolve_by(&PAIR, values)
 }
 
 pub fn not(x: u32) -> u32

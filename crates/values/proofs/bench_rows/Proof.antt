@@ -1,6 +1,5 @@
 -- The rows hold by computation.
 use mathlib.Core.Path.{refl}
-use Rattle.base.specs.Cases.{pick}
 use Rattle.values.specs.Nine.{codeOf}
 use Rattle.values.specs.Resolve.{standard, inRow, pairIn, pairOf, resolutionBy, resolutionOf}
 use Rattle.values.specs.Bench.{rows, holds}

@@ -1,55 +1,13 @@
--- The loop's invariant: what is left, resolved from the result so far, gives the resolution of all. Assumes nothing.
-use mathlib.Core.Path.{_≡_, sym, _∙_}
-use mathlib.Core.List.{foldl}
-use Prim.Native.Nat.{_≤_, _-_}
-use lib.ListN.{length, drop}
+-- The table as the code holds it is the paper's.
 use borrow.Author.Needs.{needs}
-use Rattle.values.specs.Resolve.{pairOf, resolutionOf}
-use Rattle.values.proofs.Resolution.{standard-resolution, none, first, next, done}
+use Rattle.values.specs.Resolve.{standard, pairOf, resolutionOf}
+use Rattle.values.proofs.Resolution.{standard-resolution}
 use Rattle.values.proofs.resolve.Statement.{statement}
 use Rattle.values.proofs.resolve.Tie as tie
-use Rattle.values.proofs.resolve.Reads as reads
-use Rattle.values.proofs.resolve.Lts as lts
-use Rattle.values.proofs.pair.Reads as pair-reads
-use Rattle.values.proofs.wide.Reads as wide-reads
 
-abbrev Inv-loop : tie.InvT-loop
-Inv-loop values result₀ i₀ result i = (i ≤ length values) × (foldl pairOf result (drop i values) ≡ resolutionOf values)
-
-abbrev μ-loop : tie.MeasureT-loop
-μ-loop values result₀ i₀ result i = length values - i
-
-returns : tie.Need-returns Inv-loop μ-loop
-unfolding resolutionOf
-returns c = (none pairOf _ (c .if1 .taken), standard-resolution)
-
-loop-holds : tie.Need-loop-holds Inv-loop μ-loop
-unfolding resolutionOf
-loop-holds c = (search needs, rw (c .wide .ensures) (first pairOf _ (search needs)))
-
-loop-again : tie.Need-loop-again Inv-loop μ-loop
-loop-again c =
-    let head = c .before .before .before .before in
-    let xs = c .before .before .before .before .before .before .before .before .before .args .values .now in
-    (search needs, rw (c .pair .ensures .0, c .before .wide2 .ensures) (next pairOf xs (head .loop .result) (head .loop .i) (search needs) ∙ head .loop .inv .1))
-
-returns-2 : tie.Need-returns-2 Inv-loop μ-loop
-returns-2 c = (sym (done pairOf _ (c .before .loop .result) (c .before .loop .i) (search needs)) ∙ c .before .loop .inv .1, standard-resolution)
+returns : tie.Need-returns
+unfolding resolutionOf pairOf standard
+returns c = (c .resolve-by .ensures, standard-resolution)
 
 pub resolve-spec : {M : Type 1} → statement M
-resolve-spec =
-    tie.close
-    (tie.spec
-    Inv-loop
-    μ-loop
-    returns
-    (λ c. search needs)
-    (λ c κs. search needs)
-    loop-holds
-    (λ c. search needs)
-    (λ c κs. search needs)
-    (λ c κs. search needs)
-    (λ c. search needs)
-    (λ c. search needs)
-    loop-again
-    returns-2)
+resolve-spec = tie.close (tie.spec (λ c κs. search needs) returns)
