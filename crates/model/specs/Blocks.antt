@@ -1,7 +1,8 @@
 -- Model blocks: refusals 1 to 3, and where the records of a kind begin.
 -- A block is 512 bytes: 0-1 its number from 0; 2 the record kind; 3 the record count (0 to 42); from 4 on, records of 12
 -- bytes; the bytes after them up to 509 zero; 510-511 chosen so that the 256 16-bit words sum to 1 modulo 65,536.
-use Prim.Native.Nat.{ℕ, _+_, _*_, _/_, _%_, _-_}
+use mathlib.Core.Path.{_≡_}
+use Prim.Native.Nat.{ℕ, _+_, _*_, _/_, _%_, _-_, _<_}
 use mathlib.Core.Bool.{Bool, _&&_, _||_}
 use mathlib.Core.List.{List, [], _∷_}
 use lib.Dec.{eqb, leb, ltb}
@@ -59,6 +60,11 @@ headsOk m = allBelow (headOk m) (blocksOf m)
 -- how many records of kind k block b has
 unfoldable pub countIn : ℕ → List ℕ → ℕ → ℕ
 countIn k m b = pick (eqb (kindAt m b) k) (countAt m b) 0
+
+-- r is how many records of kind k block b has
+pub record CountIs (k : ℕ) (m : List ℕ) (b r : ℕ) : Type 0 where
+  pub value : r ≡ countIn k m b
+  pub small : r < 256
 
 -- where record j of block b begins
 abbrev pub startAt : ℕ → ℕ → ℕ

@@ -2,9 +2,9 @@
 -- assignment its driver.
 use mathlib.Core.Path.{_≡_}
 use mathlib.Core.Bool.{true}
-use mathlib.Core.List.{List}
+use mathlib.Core.List.{List, _++_}
 use Prim.Native.Nat.{ℕ, _+_, _<_}
-use lib.ListN.{length, getD}
+use lib.ListN.{length, getD, take, drop}
 use Rattle.base.specs.Cases.{pick, _∣_, _is_⇒_}
 use Rattle.model.specs.Blocks.{headsOk, startsOf, totalOf}
 use Rattle.model.specs.Records.{Model, modelOf, statementAt}
@@ -18,6 +18,10 @@ use Rattle.model.specs.declared.index.Loaded.{Loaded}
 -- and 200 statements
 unfoldable pub sectionOf : ℕ → ℕ
 sectionOf k = k is 1 ⇒ 0 ∣ k is 2 ⇒ 32 ∣ k is 3 ⇒ 96 ∣ k is 4 ⇒ 112 ∣ k is 5 ⇒ 176 ∣ 576
+
+-- xs written into a list from a place on
+unfoldable pub placed : List ℕ → ℕ → List ℕ → List ℕ
+placed before at xs = (take at before ++ xs) ++ drop (at + length xs) before
 
 -- the blocks are sound, their totals within the limits, and the index says where each record begins
 pub record Starts (m index : List ℕ) : Type 0 where

@@ -1,0 +1,59 @@
+use Rattle.base.specs.Below.{every}
+use Rattle.model.specs.Blocks.{headOk}
+use borrow.Author.Needs.{needs}
+use Rattle.model.proofs.blocks.head_ok.Statement.{statement}
+use Rattle.model.proofs.blocks.head_ok.Tie as tie
+
+mul-at : tie.Need-mul-at
+mul-at c = search needs
+
+add-byte : tie.Need-add-byte
+add-byte c = search needs
+
+byte-requires : tie.Need-byte-requires
+byte-requires c κs = search needs
+
+word-requires : tie.Need-word-requires
+word-requires c κs = search needs
+
+add-byte-2 : tie.Need-add-byte-2
+add-byte-2 c = search needs
+
+byte-requires-2 : tie.Need-byte-requires-2
+byte-requires-2 c κs = search needs
+
+before-requires : tie.Need-before-requires
+before-requires c κs = search needs
+
+mul-byte : tie.Need-mul-byte
+mul-byte c = search needs
+
+add-byte-3 : tie.Need-add-byte-3
+add-byte-3 c = search needs
+
+byte-requires-3 : tie.Need-byte-requires-3
+byte-requires-3 c κs = search needs
+
+trailing-ok-requires : tie.Need-trailing-ok-requires
+trailing-ok-requires c κs = search needs
+
+returns : tie.Need-returns
+unfolding headOk every
+returns c = cc
+
+pub head-ok-spec : {M : Type 1} → statement M
+head-ok-spec =
+    tie.close
+    (tie.spec
+    mul-at
+    add-byte
+    byte-requires
+    word-requires
+    add-byte-2
+    byte-requires-2
+    before-requires
+    mul-byte
+    add-byte-3
+    byte-requires-3
+    trailing-ok-requires
+    returns)

@@ -1,0 +1,40 @@
+use mathlib.Core.Path.{_≡_, sym, ap, _∙_}
+use Prim.Native.Nat.{_-_, _≤_}
+use native.Mathlib.Nat.{le-antisymm}
+use Rattle.base.specs.Below.{allBelow}
+use Rattle.base.proofs.Below.{all-none, all-next}
+use Rattle.model.specs.Blocks.{sumOk, sumsOk}
+use borrow.Author.Needs.{needs}
+use Rattle.model.proofs.blocks.sums_ok.Statement.{statement}
+use Rattle.model.proofs.blocks.sums_ok.Tie as tie
+
+abbrev Inv-loop : tie.InvT-loop
+Inv-loop m blocks ok₀ b₀ ok b = (b ≤ blocks) × (ok ≡ allBelow (sumOk m) b)
+
+abbrev μ-loop : tie.MeasureT-loop
+μ-loop m blocks ok₀ b₀ ok b = blocks - b
+
+loop-holds : tie.Need-loop-holds Inv-loop μ-loop
+loop-holds c = (search needs, sym (all-none _))
+
+block-sum-requires : tie.Need-block-sum-requires Inv-loop μ-loop
+block-sum-requires c κs = search needs
+
+add-b : tie.Need-add-b Inv-loop μ-loop
+add-b c = search needs
+
+loop-less : tie.Need-loop-less Inv-loop μ-loop
+loop-less c = search needs
+
+loop-again : tie.Need-loop-again Inv-loop μ-loop
+unfolding sumOk
+loop-again c = (search needs, rw all-next (cc))
+
+returns : tie.Need-returns Inv-loop μ-loop
+unfolding sumsOk
+returns c = c .before .loop .inv .1 ∙ ap (allBelow _) (le-antisymm (c .before .loop .inv .0) (c .loop-test .left))
+
+pub sums-ok-spec : {M : Type 1} → statement M
+sums-ok-spec =
+    tie.close
+    (tie.spec Inv-loop μ-loop loop-holds block-sum-requires add-b loop-less loop-again returns)
