@@ -181,6 +181,11 @@ abbrev pub Each : (ℕ → Type 0) → ℕ → ℕ → Type 0
 Each P lo zero = Unit {0}
 Each P lo (suc n) = P lo × Each P (suc lo) n
 
+-- the parts of it, one after the other, and at the end tt
+infixr 2 _and_
+abbrev pub _and_ : {A B : Type 0} → A → B → A × B
+a and b = (a, b)
+
 pub among : (P : ℕ → Type 0) (lo n k : ℕ) → Each P lo n → lo ≤ k → k < lo + n → P k
 among P lo zero k e l h = absurd (omega arith)
 among P lo (suc n) k e l h =

@@ -1,3 +1,4 @@
 pub mod Below
+pub mod Cases
 pub mod Course
 pub mod Table

@@ -7,6 +7,9 @@ use Prim.Native.Nat.{ℕ, _+_, _≤_, _<_}
 use lib.ListN.{length, getD}
 use Rattle.model.specs.Records.{Model, signalAt, variableAt, driverAt, processAt, statementAt}
 use Rattle.model.specs.Fields.{endOf, valueOk}
+use Rattle.model.specs.Facts.{Spans}
+use Rattle.cycle.specs.declared.effect.Effect.{Effect}
+use Rattle.cycle.specs.declared.effect.Effect.the-variants.{Skip, Store, Schedule, Jump, Wait, WaitFor, Stop}
 use Rattle.cycle.specs.Configuration.{Transaction, DriverState, ProcessState, Configuration, driverIn, processIn, pastOf, ready, waiting}
 
 -- a value of the type
@@ -63,3 +66,28 @@ pub record Reachable (M : Model) (c : Configuration) : Type 0 where
   pub each-process : (p : ℕ) → p < length (M .processes) → ProcessFine M p (c .time) (processIn (c .processes) p)
   pub variables : length (c .variables) ≡ length (M .variables)
   pub variable-values : (a : ℕ) → a < length (M .variables) → ValueOf (variableAt M a .ty) (getD (c .variables) a 0)
+
+-- What holds of every effect that process p works out.
+
+-- a store to a variable of p, of a value of its type
+pub record StoreFits (M : Model) (p a v : ℕ) : Type 0 where
+  pub variable : a < length (M .variables)
+  pub own : variableAt M a .process ≡ p
+  pub value : ValueOf (variableAt M a .ty) v
+
+-- a transaction on driver k, one of p, of a value of its signal's type
+pub record ScheduleFits (M : Model) (p k d v : ℕ) : Type 0 where
+  pub driver : k < length (M .drivers)
+  pub own : driverAt M k .process ≡ p
+  pub delay : d < 2147483648
+  pub value : ValueOf (signalAt M (driverAt M k .signal) .ty) v
+
+-- a jump to a statement of p; a wait at a wait, kind being that of the statement; a fault 1 or 2
+abbrev pub EffectFits : Model → ℕ → ℕ → Effect → Type 0
+EffectFits M p kind Skip = Unit {0}
+EffectFits M p kind (Store a v) = StoreFits M p a v
+EffectFits M p kind (Schedule k d v) = ScheduleFits M p k d v
+EffectFits M p kind (Jump a) = Spans M p a
+EffectFits M p kind Wait = kind ≡ 5
+EffectFits M p kind (WaitFor d) = (kind ≡ 5) × (d < 2147483648)
+EffectFits M p kind (Stop f) = f ≤ 2

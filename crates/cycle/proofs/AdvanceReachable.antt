@@ -1,0 +1,230 @@
+-- A delta step and a time step keep a configuration reachable. Assumes nothing.
+use mathlib.Core.Path.{_≡_, refl, sym, ap, _∙_}
+use mathlib.Core.Bool.{Bool, true, false}
+use mathlib.Core.List.{List, [], _∷_, _++_, map}
+use mathlib.Core.Option.{Option, none, some}
+use Prim.Native.Nat.{ℕ, zero, suc, _+_, _-_, _≤_, _<_, min}
+use native.Mathlib.Omega.{arith}
+use lib.Dec.{eqb, lit≤}
+use lib.ListN.{length, getD, take, replicate, length-map, length-take, length-append, length-replicate, getD-replicate, List·getD-append}
+use lib.Seq.{getD-take}
+use borrow.Author.Tests.{eqb-true, eqb-false}
+use Rattle.base.specs.Cases.{pick}
+use Rattle.base.specs.Below.{listBelow}
+use Rattle.base.proofs.Below.{list-length, list-at, at-append}
+use Rattle.model.specs.Records.{Model, signalAt, variableAt, driverAt, processAt, statementAt}
+use Rattle.model.specs.Fields.{absent}
+use Rattle.model.specs.Trees.{boolean}
+use Rattle.model.specs.Facts.{Facts, Spans}
+use Rattle.model.specs.declared.records.StatementRecord.{StatementRecord}
+use Rattle.cycle.specs.declared.eval.Value.{Value}
+use Rattle.cycle.specs.declared.eval.Value.the-variants.{Of, Fault}
+use Rattle.cycle.specs.Configuration.{DriverState, ProcessState, Configuration, driverIn, processIn, pastOf, currentOf, drivingOf, resolvedOr, ready, waiting}
+use Rattle.cycle.specs.Evaluation.{environmentOf, evalOf}
+use Rattle.cycle.specs.Statements.{nextPlace, stops}
+use Rattle.cycle.specs.Steps.{taken, deadlineDue, active, withCurrent, signalAfter, signalsAfter, changedIn, wakes, wokenBy, wokenIf, wokenAt, processAfterDelta, deltaStep, shifted, timeStep}
+use Rattle.cycle.specs.Orders.{optional, earliest, dueTimes}
+use Rattle.cycle.specs.Invariant.{ValueOf, lastTime, DriverFine, DeadlineFine, ProcessFine, Reachable}
+use Rattle.cycle.proofs.Lists.{All, map-at}
+use Rattle.cycle.proofs.Evaluation.{Typed, EnvironmentFits, value-typed}
+use Rattle.cycle.proofs.Waves.{driver-taken, driver-later}
+use Rattle.cycle.proofs.Driving.{resolved-typed}
+use Rattle.cycle.proofs.Earliest.{transactions-later, deadlines-later}
+use Rattle.cycle.proofs.Effects.{own-statement, placed}
+use Rattle.cycle.proofs.StepReachable.{next-place, stopped-fine}
+
+-- a history of 32 values with another current value
+current-length : (v : ℕ) (h : List ℕ) → length h ≡ 32 → length (withCurrent v h) ≡ 32
+current-length v [] e = absurd (omega arith)
+current-length v (x ∷ h) e = e
+
+current-each : (P : ℕ → Type 0) (v : ℕ) (h : List ℕ) → P v → ((k : ℕ) → k < 32 → P (getD h k 0)) → (k : ℕ) → k < 32 → P (getD (withCurrent v h) k 0)
+current-each P v [] a b zero l = a
+current-each P v [] a b (suc k) l = b (suc k) l
+current-each P v (x ∷ h) a b zero l = a
+current-each P v (x ∷ h) a b (suc k) l = b (suc k) l
+
+module _ (M : Model) (fs : Facts M) (c : Configuration) (r : Reachable M c) where
+  -- the drivers after their due transactions
+  pub taken-fine : (k : ℕ) → k < length (M .drivers) → DriverFine (signalAt M (driverAt M k .signal) .ty) (c .time) (driverIn (map (taken (c .time)) (c .drivers)) k)
+  taken-fine k h =
+      let l : k < length (c .drivers) = omega (arith, r .drivers) in
+      let e : driverIn (map (taken (c .time)) (c .drivers)) k ≡ taken (c .time) (driverIn (c .drivers) k) = map-at (taken (c .time)) (c .drivers) k _ _ l in
+      rw e (driver-taken _ (c .time) (driverIn (c .drivers) k) (r .each-driver k h))
+
+  module _ (s : ℕ) (h : s < length (M .signals)) where
+    abbrev past : List ℕ
+    past = getD (c .signals) s []
+
+    abbrev resolved : ℕ
+    resolved = resolvedOr (currentOf (c .signals) s) (drivingOf M (map (taken (c .time)) (c .drivers)) s)
+
+    value-fine : ValueOf (signalAt M s .ty) resolved
+    value-fine = resolved-typed M fs _ s _ h (λ k l e. rw e at (taken-fine k l .current)) (r .signal-values s 0 h (omega arith))
+
+    history-length : length (signalAfter M c s) ≡ 32
+    unfolding signalAfter
+    history-length =
+        elim (active M (c .time) (c .drivers) s) as (λ b. length (pick b (withCurrent resolved past) past) ≡ 32) [
+          | true ↦ current-length resolved past (r .histories s h)
+          | false ↦ r .histories s h
+        ]
+
+    history-typed : (k : ℕ) → k < 32 → ValueOf (signalAt M s .ty) (getD (signalAfter M c s) k 0)
+    unfolding signalAfter
+    history-typed k l =
+        elim (active M (c .time) (c .drivers) s) as (λ b. ValueOf (signalAt M s .ty) (getD (pick b (withCurrent resolved past) past) k 0)) [
+          | true ↦ current-each (ValueOf (signalAt M s .ty)) resolved past value-fine (λ k l. r .signal-values s k h l) k l
+          | false ↦ r .signal-values s k h l
+        ]
+
+  history-at : (s : ℕ) → s < length (M .signals) → getD (signalsAfter M c) s [] ≡ signalAfter M c s
+  unfolding signalsAfter
+  history-at s h = list-at (signalAfter M c) [] (length (M .signals)) s h
+
+  pub signals-typed : (s k : ℕ) → s < length (M .signals) → k < 32 → ValueOf (signalAt M s .ty) (pastOf (signalsAfter M c) s k)
+  signals-typed s k h l = rw (history-at s h) (history-typed s h k l)
+
+  pub new-environment : EnvironmentFits M (environmentOf (c .variables) (signalsAfter M c))
+  new-environment = record { variable = r .variable-values; signal = λ s k h l. signals-typed s k h (omega arith) }
+
+  module _ (p : ℕ) (h : p < length (M .processes)) where
+    abbrev q : ProcessState
+    q = processIn (c .processes) p
+
+    abbrev s : StatementRecord
+    s = statementAt M (q .place)
+
+    abbrev Fine : ProcessState → Type 0
+    Fine = ProcessFine M p (c .time)
+
+    wakes-fine : Fine (wakes M p q)
+    wakes-fine =
+        let n = next-place M fs p h (q .place) (placed M c r p h) in
+        record {
+          from = n .from;
+          within = n .below;
+          standing = lit≤ tt;
+          fault = r .each-process p h .fault;
+          at-wait = λ e. absurd (omega arith);
+          no-deadline = λ e. refl;
+          deadline = tt;
+        }
+
+    woken-by : (v : Value) → Typed boolean v → Fine (wokenBy M p q v)
+    woken-by (Fault f) t = stopped-fine M p (c .time) q (r .each-process p h) f (omega arith)
+    woken-by (Of x) t = elim (eqb x 1) as (λ b. Fine (pick b (wakes M p q) q)) [ true ↦ wakes-fine | false ↦ r .each-process p h ]
+
+    woken-if : s .kind ≡ 5 → Fine (wokenIf M p (environmentOf (c .variables) (signalsAfter M c)) s q)
+    unfolding wokenIf
+    woken-if k =
+        (elim (eqb (s .b) absent) as (λ b. eqb (s .b) absent ≡ b → Fine (pick b (wakes M p q) (wokenBy M p q value))) [
+          | true ↦ λ e. wakes-fine
+          | false ↦ λ e. woken-by value (typed (eqb-false (s .b) absent e))
+        ])
+        refl
+      where
+        value : Value
+        value = evalOf M (environmentOf (c .variables) (signalsAfter M c)) (s .b)
+
+        typed : (s .b ≡ absent → ⊥) → Typed boolean value
+        typed n = let x = own-statement M fs p h (q .place) (placed M c r p h) .wait k .condition n in rw (x .type) at (value-typed M fs _ new-environment (s .b) (x .node))
+
+    woken-at : s .kind ≡ 5 → Fine (wokenAt M p c (signalsAfter M c) s q)
+    unfolding wokenAt
+    woken-at k =
+        elim (deadlineDue (c .time) q) as (λ b. Fine (pick b (wakes M p q) (pick changed woken q))) [
+          | true ↦ wakes-fine
+          | false ↦ elim changed as (λ b. Fine (pick b woken q)) [ true ↦ woken-if k | false ↦ r .each-process p h ]
+        ]
+      where
+        changed : Bool
+        changed = changedIn M (s .set) (c .signals) (signalsAfter M c)
+
+        woken : ProcessState
+        woken = wokenIf M p (environmentOf (c .variables) (signalsAfter M c)) s q
+
+    process-delta : Fine (processAfterDelta M c (signalsAfter M c) p)
+    unfolding processAfterDelta
+    process-delta =
+        (elim (eqb (q .standing) waiting) as (λ b. eqb (q .standing) waiting ≡ b → Fine (pick b (wokenAt M p c (signalsAfter M c) s q) q)) [
+          | true ↦ λ e. woken-at (r .each-process p h .at-wait (eqb-true (q .standing) waiting e))
+          | false ↦ λ e. r .each-process p h
+        ])
+        refl
+
+  processes-delta : (p : ℕ) → p < length (M .processes) → ProcessFine M p (c .time) (processIn (deltaStep M c .processes) p)
+  unfolding deltaStep
+  processes-delta p h =
+      rw (list-at (processAfterDelta M c (signalsAfter M c)) _ (length (M .processes)) p h) (process-delta p h)
+
+  pub delta-reachable : c .deltas < 1000 → Reachable M (deltaStep M c)
+  unfolding deltaStep signalsAfter
+  delta-reachable d =
+      record {
+        time = r .time;
+        deltas = omega arith;
+        signals = list-length (signalAfter M c) (length (M .signals));
+        histories = λ s h. rw (history-at s h) (history-length s h);
+        signal-values = signals-typed;
+        drivers = length-map (c .drivers) _ ∙ r .drivers;
+        each-driver = taken-fine;
+        processes = list-length _ (length (M .processes));
+        each-process = processes-delta;
+        variables = r .variables;
+        variable-values = r .variable-values;
+      }
+
+-- a history after n units
+shifted-length : (n : ℕ) (h : List ℕ) → length h ≡ 32 → length (shifted n h) ≡ 32
+unfolding shifted
+shifted-length n h e = simp (length-take, length-append, length-replicate) (omega arith)
+
+shifted-each : (P : ℕ → Type 0) (n : ℕ) (h : List ℕ) → length h ≡ 32 → ((k : ℕ) → k < 32 → P (getD h k 0)) → (k : ℕ) → k < 32 → P (getD (shifted n h) k 0)
+unfolding shifted
+shifted-each P n h e p k l =
+    rw (getD-take 32 (replicate (min n 32) (getD h 0 0) ++ h) k 0 l)
+    (at-append P (replicate (min n 32) (getD h 0 0)) h 0 k
+    (λ m. rw (getD-replicate (min n 32) k (getD h 0 0) 0 (rw length-replicate at m)) (p 0 (omega arith)))
+    (λ j q. p j (omega arith)))
+
+deadline-later : (t s : ℕ) (o : Option ℕ) → All (λ u. s ≤ u) (optional o) → DeadlineFine t o → DeadlineFine s o
+deadline-later t s none a d = tt
+deadline-later t s (some u) a d = (a .0, d .1)
+
+module _ (M : Model) (c : Configuration) (r : Reachable M c) (t : ℕ) (e : earliest (dueTimes M c) ≡ some t) where
+  process-later : (p : ℕ) → p < length (M .processes) → ProcessFine M p t (processIn (c .processes) p)
+  process-later p h =
+      let f = r .each-process p h in
+      record {
+        from = f .from;
+        within = f .within;
+        standing = f .standing;
+        fault = f .fault;
+        at-wait = f .at-wait;
+        no-deadline = f .no-deadline;
+        deadline = deadline-later (c .time) t (processIn (c .processes) p .deadline) (deadlines-later M c t e p h) (f .deadline);
+      }
+
+  shifted-at : (s : ℕ) → s < length (M .signals) → getD (timeStep t c .signals) s [] ≡ shifted (t - c .time) (getD (c .signals) s [])
+  unfolding timeStep
+  shifted-at s h = map-at (shifted (t - c .time)) (c .signals) s [] [] (omega (arith, r .signals))
+
+  -- to the earliest due time, where that is not past the last time
+  pub time-reachable : t ≤ lastTime → Reachable M (timeStep t c)
+  unfolding timeStep
+  time-reachable l =
+      record {
+        time = l;
+        deltas = lit≤ tt;
+        signals = length-map (c .signals) _ ∙ r .signals;
+        histories = λ s h. rw (shifted-at s h) (shifted-length (t - c .time) (getD (c .signals) s []) (r .histories s h));
+        signal-values = λ s k h m. rw (shifted-at s h)
+            (shifted-each (ValueOf (signalAt M s .ty)) (t - c .time) (getD (c .signals) s []) (r .histories s h) (λ k m. r .signal-values s k h m) k m);
+        drivers = r .drivers;
+        each-driver = λ k h. driver-later _ (c .time) _ (r .each-driver k h) t (transactions-later M c t e k h);
+        processes = r .processes;
+        each-process = process-later;
+        variables = r .variables;
+        variable-values = r .variable-values;
+      }

@@ -1,0 +1,11 @@
+pub mod Lists
+pub mod Evaluation
+pub mod Effects
+pub mod Earliest
+pub mod Waves
+pub mod Driving
+pub mod FirstReachable
+pub mod StepReachable
+pub mod AdvanceReachable
+pub mod Invariant
+pub mod Plays

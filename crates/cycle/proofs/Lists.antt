@@ -1,0 +1,60 @@
+-- What holds of each element of a list, and the elements of a list after a map or a change. Assumes nothing.
+use mathlib.Core.Path.{_≡_, refl, sym, ap, _∙_}
+use mathlib.Core.Logic.{⊎-elim}
+use mathlib.Core.List.{List, [], _∷_, _++_, map}
+use Prim.Native.Nat.{ℕ, zero, suc, _+_, _≤_, _<_}
+use native.Mathlib.Nat.{not-suc-le-zero, eq-or-lt-of-le, le-of-suc-le-suc}
+use native.Mathlib.Decide.{ℕ-discrete}
+use native.Mathlib.Omega.{arith}
+use lib.ListN.{length, getD, set}
+use lib.Seq.{getD-set-same, getD-set-other}
+use Rattle.base.specs.Below.{joinBelow}
+
+-- P holds of each element
+abbrev pub All : {A : Type 0} → (A → Type 0) → List A → Type 0
+All P [] = Unit {0}
+All P (x ∷ xs) = P x × All P xs
+
+module _ {A : Type 0} (P : A → Type 0) where
+  pub all-left : (xs ys : List A) → All P (xs ++ ys) → All P xs
+  all-left [] ys h = tt
+  all-left (x ∷ xs) ys h = (h .0, all-left xs ys (h .1))
+
+  pub all-right : (xs ys : List A) → All P (xs ++ ys) → All P ys
+  all-right [] ys h = h
+  all-right (x ∷ xs) ys h = all-right xs ys (h .1)
+
+  pub all-append : (xs ys : List A) → All P xs → All P ys → All P (xs ++ ys)
+  all-append [] ys h k = k
+  all-append (x ∷ xs) ys h k = (h .0, all-append xs ys (h .1) k)
+
+  -- it holds of each element of each part
+  pub all-part : (f : ℕ → List A) (n i : ℕ) → i < n → All P (joinBelow f n) → All P (f i)
+  unfolding joinBelow
+  all-part f zero i l h = absurd (not-suc-le-zero l)
+  all-part f (suc n) i l h =
+      ⊎-elim (λ (e : i ≡ n). rw e (all-right (joinBelow f n) (f n) h)) (λ (l : i < n). all-part f n i l (all-left (joinBelow f n) (f n) h)) (eq-or-lt-of-le (le-of-suc-le-suc l))
+
+  pub all-join : (f : ℕ → List A) (n : ℕ) → ((i : ℕ) → i < n → All P (f i)) → All P (joinBelow f n)
+  unfolding joinBelow
+  all-join f zero h = tt
+  all-join f (suc n) h = all-append (joinBelow f n) (f n) (all-join f n (λ i l. h i (omega arith))) (h n (omega arith))
+
+  pub all-at : (d : A) (xs : List A) → All P xs → (i : ℕ) → i < length xs → P (getD xs i d)
+  all-at d [] h i l = absurd (not-suc-le-zero l)
+  all-at d (x ∷ xs) h zero l = h .0
+  all-at d (x ∷ xs) h (suc i) l = all-at d xs (h .1) i (le-of-suc-le-suc l)
+
+-- element n of a mapped list
+pub map-at : {A B : Type 0} (f : A → B) (l : List A) (n : ℕ) (d : A) (d' : B) → n < length l → getD (map f l) n d' ≡ f (getD l n d)
+map-at f [] n d d' h = absurd (not-suc-le-zero h)
+map-at f (x ∷ l) zero d d' h = refl
+map-at f (x ∷ l) (suc n) d d' h = map-at f l n d d' (le-of-suc-le-suc h)
+
+-- what holds of each element, and of a new one at its place, holds of each after the change
+pub set-each : {A : Type 0} (P : ℕ → A → Type 0) (l : List A) (n i : ℕ) (x d : A) → length l ≡ n → (i < n → P i x) → ((j : ℕ) → j < n → P j (getD l j d)) → (j : ℕ) → j < n → P j (getD (set l i x) j d)
+set-each P l n i x d e h k j m =
+    elim (ℕ-discrete j i) [
+      | yes q ↦ let g : i < length l = omega arith in rw (q, getD-set-same l i x d g) (h (omega arith))
+      | no q ↦ rw (getD-set-other l i j x d q) (k j m)
+    ]
