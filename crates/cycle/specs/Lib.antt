@@ -4,3 +4,4 @@ pub mod Statements
 pub mod Steps
 pub mod Orders
 pub mod Invariant
+pub mod View

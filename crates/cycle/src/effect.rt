@@ -1,4 +1,8 @@
 // What a statement does.
+use crate::eval::Value;
+use crate::eval::eval;
+use crate::operators::int;
+use model::index::statement_at;
 
 // What one statement does to its process, its variables and its drivers.
 pub enum Effect {
@@ -16,4 +20,96 @@ pub enum Effect {
     WaitFor(u32),
     // stops with a fault
     Stop(u32),
+}
+
+fn narrow(x: u16) -> usize {
+    x as usize
+}
+
+// The driver of statement n, a signal assignment, as the index has it.
+fn sender_at(index: &[u16; 1376], n: usize) -> usize {
+    narrow(index[1176 + n])
+}
+
+fn store(a: usize, v: Value) -> Effect {
+    match v {
+        Value::Fault(f) => Effect::Stop(f),
+        Value::Of(x) => Effect::Store(a, x),
+    }
+}
+
+fn branch(a: usize, v: Value) -> Effect {
+    match v {
+        Value::Fault(f) => Effect::Stop(f),
+        Value::Of(x) => {
+            if x == 0 {
+                Effect::Jump(a)
+            } else {
+                Effect::Skip
+            }
+        }
+    }
+}
+
+// A schedule on driver k: fault 2 for a negative delay.
+fn send(k: usize, v: Value, c: Value) -> Effect {
+    match v {
+        Value::Fault(f) => Effect::Stop(f),
+        Value::Of(x) => match c {
+            Value::Fault(f) => Effect::Stop(f),
+            Value::Of(d) => {
+                if int(d) < 0 {
+                    Effect::Stop(2)
+                } else {
+                    Effect::Schedule(k, d, x)
+                }
+            }
+        },
+    }
+}
+
+fn wait_for(c: Value) -> Effect {
+    match c {
+        Value::Fault(f) => Effect::Stop(f),
+        Value::Of(d) => {
+            if int(d) < 0 {
+                Effect::Stop(2)
+            } else {
+                Effect::WaitFor(d)
+            }
+        }
+    }
+}
+
+// What statement n does.
+pub fn does<'a>(
+    m: &'a [u8],
+    index: &'a [u16; 1376],
+    variables: &'a [u32; 64],
+    signals: &'a [u32; 1024],
+    n: usize,
+) -> Effect {
+    let s = statement_at(m, index, n);
+    let kind = s.kind;
+    match kind {
+        0 => Effect::Skip,
+        1 => store(s.a, eval(m, index, variables, signals, s.b)),
+        2 => {
+            let v = eval(m, index, variables, signals, s.b);
+            send(
+                sender_at(index, n),
+                v,
+                eval(m, index, variables, signals, s.c),
+            )
+        }
+        3 => branch(s.a, eval(m, index, variables, signals, s.b)),
+        4 => Effect::Jump(s.a),
+        5 => {
+            if s.c == 65535 {
+                return Effect::Wait;
+            }
+            wait_for(eval(m, index, variables, signals, s.c))
+        }
+        _ => Effect::Skip,
+    }
 }

@@ -1,7 +1,100 @@
 // The value of an expression.
+use crate::operators::and;
+use crate::operators::decided;
+use crate::operators::equal;
+use crate::operators::less;
+use crate::operators::minus;
+use crate::operators::negate;
+use crate::operators::not;
+use crate::operators::or;
+use crate::operators::plus;
+use crate::operators::xor;
+use model::index::node_at;
 
 // What a node evaluates to: a value as 32 bits, or the number of a fault.
 pub enum Value {
     Of(u32),
     Fault(u32),
+}
+
+fn narrow(x: u16) -> usize {
+    x as usize
+}
+
+// The type of node n, as the index has it.
+fn type_at(index: &[u16; 1376], n: usize) -> usize {
+    narrow(index[776 + n])
+}
+
+fn variable_of(variables: &[u32; 64], a: usize) -> Value {
+    Value::Of(variables[a])
+}
+
+fn wide(x: u32) -> usize {
+    x as usize
+}
+
+// Signal a, k units ago.
+fn signal_of(signals: &[u32; 1024], a: usize, k: u32) -> Value {
+    Value::Of(signals[32 * a + wide(k)])
+}
+
+// The value of node n. Operands are evaluated by this function, a before b.
+pub fn eval<'a>(
+    m: &'a [u8],
+    index: &'a [u16; 1376],
+    variables: &'a [u32; 64],
+    signals: &'a [u32; 1024],
+    n: usize,
+) -> Value {
+    let d = node_at(m, index, n);
+    let kind = d.kind;
+    let a = d.a;
+    let b = d.b;
+    match kind {
+        1 => Value::Of(d.k),
+        2 => Value::Of(d.k),
+        3 => variable_of(variables, a),
+        4 => signal_of(signals, a, 0),
+        5 => signal_of(signals, a, d.k),
+        6 => not(type_at(index, n), eval(m, index, variables, signals, a)),
+        7 => {
+            let p = eval(m, index, variables, signals, a);
+            let ty = type_at(index, n);
+            if decided(ty, p, 0) {
+                return p;
+            }
+            and(ty, p, eval(m, index, variables, signals, b))
+        }
+        8 => {
+            let p = eval(m, index, variables, signals, a);
+            let ty = type_at(index, n);
+            if decided(ty, p, 1) {
+                return p;
+            }
+            or(ty, p, eval(m, index, variables, signals, b))
+        }
+        9 => {
+            let p = eval(m, index, variables, signals, a);
+            xor(type_at(index, n), p, eval(m, index, variables, signals, b))
+        }
+        10 => negate(eval(m, index, variables, signals, a)),
+        11 => {
+            let p = eval(m, index, variables, signals, a);
+            plus(p, eval(m, index, variables, signals, b))
+        }
+        12 => {
+            let p = eval(m, index, variables, signals, a);
+            minus(p, eval(m, index, variables, signals, b))
+        }
+        13 => {
+            let p = eval(m, index, variables, signals, a);
+            equal(p, eval(m, index, variables, signals, b))
+        }
+        14 => {
+            let p = eval(m, index, variables, signals, a);
+            less(p, eval(m, index, variables, signals, b))
+        }
+        _ => Value::Of(0),
+    }
 }
