@@ -7,7 +7,9 @@ use lib.Dec.{eqb}
 use lib.ListN.{getD}
 use Rattle.base.specs.Below.{listBelow}
 use Rattle.base.specs.Cases.{pick}
-use Rattle.model.specs.Records.{Model}
+use Rattle.model.specs.Records.{Model, modelOf}
+use Rattle.model.specs.Facts.{Facts}
+use Rattle.model.specs.Index.{Usable}
 use Rattle.cycle.specs.Configuration.{Transaction, DriverState, ProcessState, Configuration}
 use Rattle.cycle.specs.Evaluation.{Environment}
 use Rattle.cycle.specs.Orders.{Outcome}
@@ -67,6 +69,11 @@ arrays variables signals = record { variable = λ a. getD variables a 0; signal 
 abbrev pub firstTime : List Transaction → ℕ
 firstTime [] = never
 firstTime (x ∷ w) = x .time
+
+-- what the cycle asks of a model's bytes and its index: they are usable, and what acceptance says of the model
+pub record Runs (m index : List ℕ) : Type 0 where
+  pub usable : Usable m index
+  pub facts : Facts (modelOf m)
 
 -- what holds of the struct between orders: its view is reachable, and `due` has the first pending times
 pub record Fine (M : Model) (c : Config) : Type 0 where
