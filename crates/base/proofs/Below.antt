@@ -1,11 +1,11 @@
 -- The laws of `allBelow`, `sumBelow` and `joinBelow` that a counting loop cites. Assumes nothing.
 use mathlib.Core.Path.{_≡_, refl, sym, ap, _∙_}
 use mathlib.Core.Logic.{⊎-elim, _⊎_, inl, inr}
-use native.Mathlib.Decide.{decLt}
+use native.Mathlib.Decide.{decLt, ℕ-discrete}
 use mathlib.Core.Bool.{Bool, true, false, _&&_}
 use mathlib.Core.List.{List, [], _∷_, _++_, append-assoc, append-nil}
-use lib.ListN.{length, getD, take, drop, set, length-append, length-take, take-append-drop, List·getD-append}
-use lib.Seq.{drop-cons, set-at, getD-append-add, take-at, drop-append-add, drop-drop}
+use lib.ListN.{length, getD, take, drop, set, length-append, length-set, length-take, take-append-drop, List·getD-append}
+use lib.Seq.{drop-cons, set-at, getD-append-add, getD-set-same, getD-set-other, ext-getD, take-at, drop-append-add, drop-drop}
 use Prim.Native.Nat.{ℕ, zero, suc, _+_, _-_, _≤_, _<_}
 use native.Mathlib.Nat.{le-antisymm, not-suc-le-zero, eq-or-lt-of-le, le-of-suc-le-suc}
 use native.Mathlib.Numerals.{add-one}
@@ -116,6 +116,27 @@ module _ {A : Type 0} (f : ℕ → A) where
       at-append (λ (x : A). x ≡ f j) (listBelow f n) (f n ∷ []) d j
       (λ l. let g : j < n = rw (list-length n) at l in list-at d n j g)
       (λ k e. let g : k ≡ 0 = omega (arith, list-length n) in let i : j ≡ n = omega (arith, list-length n) in rw (g, i))
+
+module _ {A : Type 0} (f g : ℕ → A) where
+  -- lists of the same elements
+  pub list-same : (n : ℕ) → ((j : ℕ) → j < n → f j ≡ g j) → listBelow f n ≡ listBelow g n
+  unfolding listBelow
+  list-same zero h = refl
+  list-same (suc n) h = rw (list-same n (λ j l. h j (omega arith)), h n (omega arith))
+
+  -- lists of the same elements but for that at i
+  pub list-change : (n i : ℕ) → ((j : ℕ) → (j ≡ i → ⊥) → g j ≡ f j) → listBelow g n ≡ set (listBelow f n) i (g i)
+  list-change n i h =
+      ext-getD (g i) (listBelow g n) (set (listBelow f n) i (g i)) (list-length g n ∙ sym (length-set (listBelow f n) i (g i) ∙ list-length f n))
+      (λ j l. at j (rw (list-length g n) at l))
+    where
+      at : (j : ℕ) → j < n → getD (listBelow g n) j (g i) ≡ getD (set (listBelow f n) i (g i)) j (g i)
+      at j l =
+          list-at g (g i) n j l
+          ∙ elim (ℕ-discrete j i) [
+            | yes q ↦ let m : j < length (listBelow f n) = omega (arith, list-length f n) in rw (← q, getD-set-same (listBelow f n) j (g j) (g j) m)
+            | no q ↦ rw (getD-set-other (listBelow f n) i j (g i) (g i) q, list-at f (g i) n j l) (h j q)
+          ]
 
 module _ {A : Type 0} (f : ℕ → List A) where
   pub join-none : joinBelow f 0 ≡ []

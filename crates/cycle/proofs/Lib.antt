@@ -3,6 +3,7 @@ pub mod Evaluation
 pub mod Effects
 pub mod Earliest
 pub mod Waves
+pub mod Drivers
 pub mod Driving
 pub mod FirstReachable
 pub mod StepReachable

@@ -5,3 +5,4 @@ pub mod Steps
 pub mod Orders
 pub mod Invariant
 pub mod View
+pub mod Waveform
