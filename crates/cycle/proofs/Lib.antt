@@ -1,6 +1,8 @@
 pub mod Lists
 pub mod Evaluation
 pub mod Effects
+pub mod Signed
+pub mod Logical
 pub mod Earliest
 pub mod Waves
 pub mod Drivers
