@@ -16,3 +16,7 @@ pub mod Invariant
 pub mod Plays
 pub mod Outcomes
 pub mod Picks
+pub mod SettledIn
+pub mod Changes
+pub mod Turning
+pub mod OrderLaws
