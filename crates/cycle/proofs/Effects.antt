@@ -7,7 +7,8 @@ use lib.Dec.{eqb, ltb, lit≤}
 use lib.ListN.{length, getD}
 use lib.IntN.{ℤ, pos, negsuc, natAbs}
 use lib.Signed.{ltZ}
-use mir.Val.{sel}
+use mir.Syntax.{w64}
+use mir.Val.{sel, toZ, ofZ}
 use borrow.Author.Tests.{ltb-true, eqb-false}
 use Rattle.base.specs.Cases.{pick, _∣_, _is_⇒_}
 use Rattle.base.proofs.Below.{_and_, among}
@@ -27,6 +28,7 @@ use Rattle.cycle.specs.Evaluation.{Environment, environmentOf, int, eval
 use Rattle.cycle.specs.Statements.{withValue, withDelay, effectBy, effectOf}
 use Rattle.cycle.specs.Invariant.{EffectFits, StoreFits, ScheduleFits, Reachable}
 use Rattle.cycle.proofs.Evaluation.{Typed, EnvironmentFits, value-typed}
+use Rattle.cycle.proofs.Signed.{not-negative, int-read}
 
 -- what holds after any value of the type, and of the stop with fault 1, holds after a value
 value-then : (P : Effect → Type 0) (ty : ℕ) (v : Value) (next : ℕ → Effect) → Typed ty v → P (Stop 1) → ((x : ℕ) → valueOk ty x ≡ true → P (next x)) → P (withValue v next)
@@ -52,6 +54,20 @@ delay-then P v next h s t g = value-then P integer v _ h s by-sign
           | true ↦ λ e. t
           | false ↦ λ e. g (natAbs (int x)) (delay-small x e)
         ]) refl
+
+-- a delay as the program finds it, r being what `int` returned
+pub delay-fault : {v : Value} {f : ℕ} (next : ℕ → Effect) → v ≡ Fault f → Stop f ≡ withDelay v next
+unfolding withDelay
+delay-fault next h = rw h
+
+module _ {v : Value} {x : ℕ} {r : ℤ} (next : ℕ → Effect) (h : v ≡ Of x) (l : x < 4294967296) (e : r ≡ int x) where
+  pub delay-negative : ltZ (toZ w64 (ofZ w64 r)) (pos 0) ≡ true → Stop 2 ≡ withDelay v next
+  unfolding withDelay
+  delay-negative t = rw (h, simp (int-read x l e) at t)
+
+  pub delay-kept : ltZ (toZ w64 (ofZ w64 r)) (pos 0) ≡ false → next x ≡ withDelay v next
+  unfolding withDelay
+  delay-kept t = let s : ltZ (int x) (pos 0) ≡ false = rw (int-read x l e) at t in rw (h, s, not-negative x s)
 
 module _ (M : Model) (fs : Facts M) (p : ℕ) where
   module _ (e : Environment) (ok : EnvironmentFits M e) where
