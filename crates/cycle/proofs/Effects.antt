@@ -1,6 +1,7 @@
 -- What an effect of a process can be: `EffectFits`. Assumes nothing.
 use mathlib.Core.Path.{_≡_, refl, sym, ap, _∙_}
 use mathlib.Core.Bool.{Bool, true, false}
+use mathlib.Core.List.{List}
 use Prim.Native.Nat.{ℕ, suc, _+_, _-_, _≤_, _<_}
 use native.Mathlib.Omega.{arith}
 use lib.Dec.{eqb, ltb, lit≤}
@@ -11,13 +12,14 @@ use mir.Syntax.{w64}
 use mir.Val.{sel, toZ, ofZ}
 use borrow.Author.Tests.{ltb-true, eqb-false}
 use Rattle.base.specs.Cases.{pick, _∣_, _is_⇒_}
-use Rattle.base.proofs.Below.{_and_, among}
-use Rattle.model.specs.Records.{Model, nodeAt, variableAt, signalAt, driverAt, statementAt}
-use Rattle.model.specs.Fields.{valueOk, absent}
+use Rattle.base.proofs.Below.{_and_, among, NoneOf, none-of}
+use Rattle.model.specs.Records.{Model, modelOf, nodeAt, variableAt, signalAt, driverAt, statementAt}
+use Rattle.model.specs.Fields.{valueOk, absent, ownerOf}
 use Rattle.model.specs.Trees.{typeOf, integer}
 use Rattle.model.specs.Owners.{driverFor}
 use Rattle.model.specs.Facts as Facts
 use Rattle.model.specs.Facts.{Facts, Spans, StatementFits, SignalAssignment, Expression}
+use Rattle.model.specs.Index.{Usable}
 use Rattle.model.specs.declared.records.StatementRecord.{StatementRecord}
 use Rattle.cycle.specs.declared.eval.Value.{Value}
 use Rattle.cycle.specs.declared.eval.Value.the-variants.{Of, Fault}
@@ -27,6 +29,7 @@ use Rattle.cycle.specs.Configuration.{Configuration, processIn}
 use Rattle.cycle.specs.Evaluation.{Environment, environmentOf, int, evalOf}
 use Rattle.cycle.specs.Statements.{withValue, withDelay, effectBy, effectOf}
 use Rattle.cycle.specs.Invariant.{EffectFits, StoreFits, ScheduleFits, Reachable}
+use Rattle.cycle.specs.View.{Runs}
 use Rattle.cycle.proofs.Evaluation.{Typed, EnvironmentFits, value-typed}
 use Rattle.cycle.proofs.Signed.{not-negative, int-read}
 
@@ -134,3 +137,18 @@ module _ (M : Model) (c : Configuration) (r : Reachable M c) where
   effect-fits fs p h =
       effect-by M fs p (environmentOf (c .variables) (c .signals)) environment-fits (statementAt M (processIn (c .processes) p .place))
       (own-statement M fs p h (processIn (c .processes) p .place) (placed p h))
+
+-- statement n, which the program read as s
+module _ {m index : List ℕ} {n : ℕ} (call : Runs m index × (n < length (modelOf m .statements))) {s : StatementRecord} (read : s ≡ statementAt (modelOf m) n) where
+  pub statement-fits : StatementFits (modelOf m) (ownerOf (modelOf m) n) s
+  statement-fits = rw read (call .0 .facts .statement n (call .1) .fits)
+
+  -- the driver that the index has
+  pub sender-known : {k : ℕ} → s .kind ≡ 2
+      → ((m : List ℕ) → Usable m index → n < length (modelOf m .statements) → statementAt (modelOf m) n .kind ≡ 2 → k ≡ driverFor (modelOf m) (ownerOf (modelOf m) n) (statementAt (modelOf m) n .a))
+      → k ≡ driverFor (modelOf m) (ownerOf (modelOf m) n) (s .a)
+  sender-known e f = rw read (f m (call .0 .usable) (call .1) (rw read at e))
+
+  -- the last arm is never taken
+  pub no-statement : {A : Type 0} → NoneOf (s .kind) 0 6 → A
+  no-statement h = absurd (none-of 0 6 (s .kind) h (omega arith) (omega (arith, statement-fits .kind)))
