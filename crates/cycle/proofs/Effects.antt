@@ -1,25 +1,22 @@
 -- What an effect of a process can be: `EffectFits`. Assumes nothing.
 use mathlib.Core.Path.{_≡_, refl, sym, ap, _∙_}
 use mathlib.Core.Bool.{Bool, true, false}
-use mathlib.Core.List.{List}
 use Prim.Native.Nat.{ℕ, suc, _+_, _-_, _≤_, _<_}
 use native.Mathlib.Omega.{arith}
 use lib.Dec.{eqb, ltb, lit≤}
 use lib.ListN.{length, getD}
 use lib.IntN.{ℤ, pos, negsuc, natAbs}
 use lib.Signed.{ltZ}
-use mir.Syntax.{w64}
-use mir.Val.{sel, toZ, ofZ}
+use mir.Val.{sel}
 use borrow.Author.Tests.{ltb-true, eqb-false}
 use Rattle.base.specs.Cases.{pick, _∣_, _is_⇒_}
-use Rattle.base.proofs.Below.{_and_, among, NoneOf, none-of}
-use Rattle.model.specs.Records.{Model, modelOf, nodeAt, variableAt, signalAt, driverAt, statementAt}
-use Rattle.model.specs.Fields.{valueOk, absent, ownerOf}
+use Rattle.base.proofs.Below.{_and_, among}
+use Rattle.model.specs.Records.{Model, nodeAt, variableAt, signalAt, driverAt, statementAt}
+use Rattle.model.specs.Fields.{valueOk, absent}
 use Rattle.model.specs.Trees.{typeOf, integer}
 use Rattle.model.specs.Owners.{driverFor}
 use Rattle.model.specs.Facts as Facts
 use Rattle.model.specs.Facts.{Facts, Spans, StatementFits, SignalAssignment, Expression}
-use Rattle.model.specs.Index.{Usable}
 use Rattle.model.specs.declared.records.StatementRecord.{StatementRecord}
 use Rattle.cycle.specs.declared.eval.Value.{Value}
 use Rattle.cycle.specs.declared.eval.Value.the-variants.{Of, Fault}
@@ -29,9 +26,7 @@ use Rattle.cycle.specs.Configuration.{Configuration, processIn}
 use Rattle.cycle.specs.Evaluation.{Environment, environmentOf, int, evalOf}
 use Rattle.cycle.specs.Statements.{withValue, withDelay, effectBy, effectOf}
 use Rattle.cycle.specs.Invariant.{EffectFits, StoreFits, ScheduleFits, Reachable}
-use Rattle.cycle.specs.View.{Runs}
 use Rattle.cycle.proofs.Evaluation.{Typed, EnvironmentFits, value-typed}
-use Rattle.cycle.proofs.Signed.{not-negative, int-read}
 
 -- what holds after any value of the type, and of the stop with fault 1, holds after a value
 value-then : (P : Effect → Type 0) (ty : ℕ) (v : Value) (next : ℕ → Effect) → Typed ty v → P (Stop 1) → ((x : ℕ) → valueOk ty x ≡ true → P (next x)) → P (withValue v next)
@@ -57,20 +52,6 @@ delay-then P v next h s t g = value-then P integer v _ h s by-sign
           | true ↦ λ e. t
           | false ↦ λ e. g (natAbs (int x)) (delay-small x e)
         ]) refl
-
--- a delay as the program finds it, r being what `int` returned
-pub delay-fault : {v : Value} {f : ℕ} (next : ℕ → Effect) → v ≡ Fault f → Stop f ≡ withDelay v next
-unfolding withDelay
-delay-fault next h = rw h
-
-module _ {v : Value} {x : ℕ} {r : ℤ} (next : ℕ → Effect) (h : v ≡ Of x) (l : x < 4294967296) (e : r ≡ int x) where
-  pub delay-negative : ltZ (toZ w64 (ofZ w64 r)) (pos 0) ≡ true → Stop 2 ≡ withDelay v next
-  unfolding withDelay
-  delay-negative t = rw (h, simp (int-read x l e) at t)
-
-  pub delay-kept : ltZ (toZ w64 (ofZ w64 r)) (pos 0) ≡ false → next x ≡ withDelay v next
-  unfolding withDelay
-  delay-kept t = let s : ltZ (int x) (pos 0) ≡ false = rw (int-read x l e) at t in rw (h, s, not-negative x s)
 
 module _ (M : Model) (fs : Facts M) (p : ℕ) where
   module _ (e : Environment) (ok : EnvironmentFits M e) where
@@ -137,18 +118,3 @@ module _ (M : Model) (c : Configuration) (r : Reachable M c) where
   effect-fits fs p h =
       effect-by M fs p (environmentOf (c .variables) (c .signals)) environment-fits (statementAt M (processIn (c .processes) p .place))
       (own-statement M fs p h (processIn (c .processes) p .place) (placed p h))
-
--- statement n, which the program read as s
-module _ {m index : List ℕ} {n : ℕ} (call : Runs m index × (n < length (modelOf m .statements))) {s : StatementRecord} (read : s ≡ statementAt (modelOf m) n) where
-  pub statement-fits : StatementFits (modelOf m) (ownerOf (modelOf m) n) s
-  statement-fits = rw read (call .0 .facts .statement n (call .1) .fits)
-
-  -- the driver that the index has
-  pub sender-known : {k : ℕ} → s .kind ≡ 2
-      → ((m : List ℕ) → Usable m index → n < length (modelOf m .statements) → statementAt (modelOf m) n .kind ≡ 2 → k ≡ driverFor (modelOf m) (ownerOf (modelOf m) n) (statementAt (modelOf m) n .a))
-      → k ≡ driverFor (modelOf m) (ownerOf (modelOf m) n) (s .a)
-  sender-known e f = rw read (f m (call .0 .usable) (call .1) (rw read at e))
-
-  -- the last arm is never taken
-  pub no-statement : {A : Type 0} → NoneOf (s .kind) 0 6 → A
-  no-statement h = absurd (none-of 0 6 (s .kind) h (omega arith) (omega (arith, statement-fits .kind)))

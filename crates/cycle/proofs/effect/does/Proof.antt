@@ -2,7 +2,7 @@
 use borrow.Author.Tests.{eq-eqb, ne-eqb}
 use borrow.Author.Needs.{needs}
 use Rattle.cycle.specs.Statements.{effectBy}
-use Rattle.cycle.proofs.Effects.{statement-fits, sender-known, no-statement}
+use Rattle.cycle.proofs.Statements.{statement-fits, sender-known, no-statement}
 use Rattle.cycle.proofs.effect.does.Statement.{statement}
 use Rattle.cycle.proofs.effect.does.Tie as tie
 

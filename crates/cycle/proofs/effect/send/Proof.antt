@@ -1,7 +1,7 @@
 -- `send`: by the value, then by the delay. Assumes nothing.
 use borrow.Author.Needs.{needs}
 use Rattle.cycle.specs.declared.effect.Effect.the-variants.{Schedule}
-use Rattle.cycle.proofs.Effects.{delay-fault, delay-negative, delay-kept}
+use Rattle.cycle.proofs.Statements.{delay-fault, delay-negative, delay-kept}
 use Rattle.cycle.proofs.effect.send.Statement.{statement}
 use Rattle.cycle.proofs.effect.send.Tie as tie
 

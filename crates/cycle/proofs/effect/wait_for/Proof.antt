@@ -1,7 +1,7 @@
 -- `wait_for`: by the delay. Assumes nothing.
 use borrow.Author.Needs.{needs}
 use Rattle.cycle.specs.declared.effect.Effect.the-variants.{WaitFor}
-use Rattle.cycle.proofs.Effects.{delay-fault, delay-negative, delay-kept}
+use Rattle.cycle.proofs.Statements.{delay-fault, delay-negative, delay-kept}
 use Rattle.cycle.proofs.effect.wait_for.Statement.{statement}
 use Rattle.cycle.proofs.effect.wait_for.Tie as tie
 
