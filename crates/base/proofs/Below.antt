@@ -1,8 +1,8 @@
--- The laws of `allBelow`, `sumBelow` and `joinBelow` that a counting loop cites. Assumes nothing.
+-- The laws of `allBelow`, `anyBelow`, `sumBelow` and `joinBelow` that a counting loop cites. Assumes nothing.
 use mathlib.Core.Path.{_≡_, refl, sym, ap, _∙_}
 use mathlib.Core.Logic.{⊎-elim, _⊎_, inl, inr}
 use native.Mathlib.Decide.{decLt}
-use mathlib.Core.Bool.{Bool, true, false, _&&_}
+use mathlib.Core.Bool.{Bool, true, false, _&&_, _||_}
 use mathlib.Core.List.{List, [], _∷_, _++_, append-assoc, append-nil}
 use lib.ListN.{length, getD, take, drop, set, length-append, length-take, take-append-drop, List·getD-append}
 use lib.Seq.{drop-cons, set-at, getD-append-add, take-at, drop-append-add, drop-drop}
@@ -10,7 +10,7 @@ use Prim.Native.Nat.{ℕ, zero, suc, _+_, _-_, _≤_, _<_}
 use native.Mathlib.Nat.{le-antisymm, not-suc-le-zero, eq-or-lt-of-le, le-of-suc-le-suc}
 use native.Mathlib.Numerals.{add-one}
 use native.Mathlib.Omega.{arith}
-use Rattle.base.specs.Below.{allBelow, sumBelow, joinBelow, listBelow, andAll, every, firstFailing}
+use Rattle.base.specs.Below.{allBelow, anyBelow, sumBelow, joinBelow, listBelow, andAll, every, firstFailing}
 
 pub and-true-false : (a b : Bool) → b ≡ false → (a && b) ≡ false
 and-true-false true b h = h
@@ -23,6 +23,18 @@ and-left false b h = h
 pub and-right : (a b : Bool) → (a && b) ≡ true → b ≡ true
 and-right true b h = h
 and-right false b h = cc
+
+pub or-second : (a b : Bool) → b ≡ true → (a || b) ≡ true
+or-second true b h = refl
+or-second false b h = h
+
+pub or-left : (a b : Bool) → (a || b) ≡ false → a ≡ false
+or-left true b h = h
+or-left false b h = refl
+
+pub or-right : (a b : Bool) → (a || b) ≡ false → b ≡ false
+or-right true b h = cc
+or-right false b h = h
 
 and-all-first : (t : Bool) (us : List Bool) → andAll t us ≡ true → t ≡ true
 and-all-first t [] h = h
@@ -77,6 +89,31 @@ module _ (f : ℕ → Bool) where
   unfolding allBelow
   all-at zero i h t = absurd (not-suc-le-zero h)
   all-at (suc n) i h t = ⊎-elim (λ (e : i ≡ n). rw e (and-right (allBelow f n) (f n) t)) (λ (l : i < n). all-at n i l (and-left (allBelow f n) (f n) t)) (eq-or-lt-of-le (le-of-suc-le-suc h))
+
+module _ (f : ℕ → Bool) where
+  pub any-start : anyBelow f 0 ≡ false
+  unfolding anyBelow
+  any-start = refl
+
+  pub any-next : (i : ℕ) → anyBelow f (i + 1) ≡ (anyBelow f i || f i)
+  unfolding anyBelow
+  any-next i = rw add-one
+
+  -- a number that passes decides
+  pub any-found : (n i : ℕ) → i < n → f i ≡ true → anyBelow f n ≡ true
+  unfolding anyBelow
+  any-found zero i h t = absurd (not-suc-le-zero h)
+  any-found (suc n) i h t = ⊎-elim (λ (e : i ≡ n). or-second (anyBelow f n) (f n) (rw e at t)) (λ (l : i < n). rw (any-found n i l t)) (eq-or-lt-of-le (le-of-suc-le-suc h))
+
+-- a test that holds of no number below n
+pub any-none : (f : ℕ → Bool) (n : ℕ) → anyBelow f n ≡ false → (i : ℕ) → i < n → f i ≡ false
+unfolding anyBelow
+any-none f zero h i l = absurd (not-suc-le-zero l)
+any-none f (suc n) h i l =
+    ⊎-elim
+    (λ (e : i ≡ n). rw e (or-right (anyBelow f n) (f n) h))
+    (λ (k : i < n). any-none f n (or-left (anyBelow f n) (f n) h) i k)
+    (eq-or-lt-of-le (le-of-suc-le-suc l))
 
 module _ (f : ℕ → ℕ) where
   pub sum-none : sumBelow f 0 ≡ 0

@@ -1,27 +1,24 @@
 -- A delta step and a time step keep a configuration reachable. Assumes nothing.
-use mathlib.Core.Path.{_≡_, refl, sym, ap, _∙_}
-use mathlib.Core.Bool.{Bool, true, false}
+use mathlib.Core.Path.{_≡_, refl, _∙_}
 use mathlib.Core.List.{List, [], _∷_, _++_, map}
 use mathlib.Core.Option.{Option, none, some}
 use Prim.Native.Nat.{ℕ, zero, suc, _+_, _-_, _≤_, _<_, min}
 use native.Mathlib.Omega.{arith}
 use lib.Dec.{eqb, lit≤}
-use lib.ListN.{length, getD, take, replicate, length-map, length-take, length-append, length-replicate, getD-replicate, List·getD-append}
+use lib.ListN.{length, getD, replicate, length-map, length-take, length-append, length-replicate, getD-replicate}
 use lib.Seq.{getD-take}
 use borrow.Author.Tests.{eqb-true, eqb-false}
-use Rattle.base.specs.Cases.{pick}
-use Rattle.base.specs.Below.{listBelow}
+use Rattle.base.proofs.Cases.{by-test}
 use Rattle.base.proofs.Below.{list-length, list-at, at-append}
-use Rattle.model.specs.Records.{Model, signalAt, variableAt, driverAt, processAt, statementAt}
+use Rattle.model.specs.Records.{Model, signalAt, driverAt, statementAt}
 use Rattle.model.specs.Fields.{absent}
 use Rattle.model.specs.Trees.{boolean}
-use Rattle.model.specs.Facts.{Facts, Spans}
+use Rattle.model.specs.Facts.{Facts}
 use Rattle.model.specs.declared.records.StatementRecord.{StatementRecord}
 use Rattle.cycle.specs.declared.eval.Value.{Value}
 use Rattle.cycle.specs.declared.eval.Value.the-variants.{Of, Fault}
-use Rattle.cycle.specs.Configuration.{DriverState, ProcessState, Configuration, driverIn, processIn, pastOf, currentOf, drivingOf, resolvedOr, ready, waiting}
-use Rattle.cycle.specs.Evaluation.{environmentOf, evalOf}
-use Rattle.cycle.specs.Statements.{nextPlace, stops}
+use Rattle.cycle.specs.Configuration.{ProcessState, Configuration, driverIn, processIn, pastOf, currentOf, drivingOf, resolvedOr, waiting}
+use Rattle.cycle.specs.Evaluation.{Environment, environmentOf, evalOf}
 use Rattle.cycle.specs.Steps.{taken, deadlineDue, active, withCurrent, signalAfter, signalsAfter, changedIn, wakes, wokenBy, wokenIf, wokenAt, processAfterDelta, deltaStep, shifted, timeStep}
 use Rattle.cycle.specs.Orders.{optional, earliest, dueTimes}
 use Rattle.cycle.specs.Invariant.{ValueOf, lastTime, DriverFine, DeadlineFine, ProcessFine, Reachable}
@@ -65,18 +62,15 @@ module _ (M : Model) (fs : Facts M) (c : Configuration) (r : Reachable M c) wher
     history-length : length (signalAfter M c s) ≡ 32
     unfolding signalAfter
     history-length =
-        elim (active M (c .time) (c .drivers) s) as (λ b. length (pick b (withCurrent resolved past) past) ≡ 32) [
-          | true ↦ current-length resolved past (r .histories s h)
-          | false ↦ r .histories s h
-        ]
+        by-test (λ (l : List ℕ). length l ≡ 32) (active M (c .time) (c .drivers) s) _ _
+        (λ e. current-length resolved past (r .histories s h)) (λ e. r .histories s h)
 
     history-typed : (k : ℕ) → k < 32 → ValueOf (signalAt M s .ty) (getD (signalAfter M c s) k 0)
     unfolding signalAfter
     history-typed k l =
-        elim (active M (c .time) (c .drivers) s) as (λ b. ValueOf (signalAt M s .ty) (getD (pick b (withCurrent resolved past) past) k 0)) [
-          | true ↦ current-each (ValueOf (signalAt M s .ty)) resolved past value-fine (λ k l. r .signal-values s k h l) k l
-          | false ↦ r .signal-values s k h l
-        ]
+        by-test (λ (l : List ℕ). ValueOf (signalAt M s .ty) (getD l k 0)) (active M (c .time) (c .drivers) s) _ _
+        (λ e. current-each (ValueOf (signalAt M s .ty)) resolved past value-fine (λ k l. r .signal-values s k h l) k l)
+        (λ e. r .signal-values s k h l)
 
   history-at : (s : ℕ) → s < length (M .signals) → getD (signalsAfter M c) s [] ≡ signalAfter M c s
   unfolding signalsAfter
@@ -85,7 +79,11 @@ module _ (M : Model) (fs : Facts M) (c : Configuration) (r : Reachable M c) wher
   pub signals-typed : (s k : ℕ) → s < length (M .signals) → k < 32 → ValueOf (signalAt M s .ty) (pastOf (signalsAfter M c) s k)
   signals-typed s k h l = rw (history-at s h) (history-typed s h k l)
 
-  pub new-environment : EnvironmentFits M (environmentOf (c .variables) (signalsAfter M c))
+  -- what a wait's condition is read on
+  abbrev now : Environment
+  now = environmentOf (c .variables) (signalsAfter M c)
+
+  pub new-environment : EnvironmentFits M now
   new-environment = record { variable = r .variable-values; signal = λ s k h l. signals-typed s k h (omega arith) }
 
   module _ (p : ℕ) (h : p < length (M .processes)) where
@@ -113,45 +111,27 @@ module _ (M : Model) (fs : Facts M) (c : Configuration) (r : Reachable M c) wher
 
     woken-by : (v : Value) → Typed boolean v → Fine (wokenBy M p q v)
     woken-by (Fault f) t = stopped-fine M p (c .time) q (r .each-process p h) f (omega arith)
-    woken-by (Of x) t = elim (eqb x 1) as (λ b. Fine (pick b (wakes M p q) q)) [ true ↦ wakes-fine | false ↦ r .each-process p h ]
+    woken-by (Of x) t = by-test Fine (eqb x 1) _ _ (λ e. wakes-fine) (λ e. r .each-process p h)
 
-    woken-if : s .kind ≡ 5 → Fine (wokenIf M p (environmentOf (c .variables) (signalsAfter M c)) s q)
+    woken-if : s .kind ≡ 5 → Fine (wokenIf M p now s q)
     unfolding wokenIf
     woken-if k =
-        (elim (eqb (s .b) absent) as (λ b. eqb (s .b) absent ≡ b → Fine (pick b (wakes M p q) (wokenBy M p q value))) [
-          | true ↦ λ e. wakes-fine
-          | false ↦ λ e. woken-by value (typed (eqb-false (s .b) absent e))
-        ])
-        refl
-      where
-        value : Value
-        value = evalOf M (environmentOf (c .variables) (signalsAfter M c)) (s .b)
-
-        typed : (s .b ≡ absent → ⊥) → Typed boolean value
-        typed n = let x = own-statement M fs p h (q .place) (placed M c r p h) .wait k .condition n in rw (x .type) at (value-typed M fs _ new-environment (s .b) (x .node))
+        by-test Fine (eqb (s .b) absent) _ _ (λ e. wakes-fine)
+        (λ e.
+        let x = own-statement M fs p h (q .place) (placed M c r p h) .wait k .condition (eqb-false (s .b) absent e) in
+        woken-by (evalOf M now (s .b)) (rw (x .type) at (value-typed M fs now new-environment (s .b) (x .node))))
 
     woken-at : s .kind ≡ 5 → Fine (wokenAt M p c (signalsAfter M c) s q)
     unfolding wokenAt
     woken-at k =
-        elim (deadlineDue (c .time) q) as (λ b. Fine (pick b (wakes M p q) (pick changed woken q))) [
-          | true ↦ wakes-fine
-          | false ↦ elim changed as (λ b. Fine (pick b woken q)) [ true ↦ woken-if k | false ↦ r .each-process p h ]
-        ]
-      where
-        changed : Bool
-        changed = changedIn M (s .set) (c .signals) (signalsAfter M c)
-
-        woken : ProcessState
-        woken = wokenIf M p (environmentOf (c .variables) (signalsAfter M c)) s q
+        by-test Fine (deadlineDue (c .time) q) _ _ (λ e. wakes-fine)
+        (λ e. by-test Fine (changedIn M (s .set) (c .signals) (signalsAfter M c)) _ _ (λ f. woken-if k) (λ f. r .each-process p h))
 
     process-delta : Fine (processAfterDelta M c (signalsAfter M c) p)
     unfolding processAfterDelta
     process-delta =
-        (elim (eqb (q .standing) waiting) as (λ b. eqb (q .standing) waiting ≡ b → Fine (pick b (wokenAt M p c (signalsAfter M c) s q) q)) [
-          | true ↦ λ e. woken-at (r .each-process p h .at-wait (eqb-true (q .standing) waiting e))
-          | false ↦ λ e. r .each-process p h
-        ])
-        refl
+        by-test Fine (eqb (q .standing) waiting) _ _
+        (λ e. woken-at (r .each-process p h .at-wait (eqb-true (q .standing) waiting e))) (λ e. r .each-process p h)
 
   processes-delta : (p : ℕ) → p < length (M .processes) → ProcessFine M p (c .time) (processIn (deltaStep M c .processes) p)
   unfolding deltaStep

@@ -1,17 +1,17 @@
 -- The driving values of a signal: what holds of each, that an integer signal has one at most, and that their resolution is of the
 -- signal's type. Assumes nothing.
-use mathlib.Core.Path.{_≡_, refl, sym, ap, _∙_}
-use mathlib.Core.Bool.{Bool, true, false}
-use mathlib.Core.List.{List, [], _∷_, _++_, append-nil}
-use Prim.Native.Nat.{ℕ, zero, suc, _+_, _≤_, _<_}
+use mathlib.Core.Path.{_≡_, refl, sym, _∙_}
+use mathlib.Core.Bool.{true, false}
+use mathlib.Core.List.{List, [], _∷_}
+use Prim.Native.Nat.{ℕ, zero, suc, _≤_, _<_}
 use native.Mathlib.Omega.{arith}
 use lib.Dec.{eqb}
-use lib.ListN.{length, getD}
+use lib.ListN.{length}
 use borrow.Author.Tests.{eqb-true, leb-true, le-leb}
 use Rattle.base.specs.Below.{joinBelow}
-use Rattle.base.specs.Cases.{pick}
+use Rattle.base.proofs.Cases.{by-test}
 use Rattle.base.proofs.Below.{_and_, among}
-use Rattle.values.specs.Resolve.{resolutionOf, pairOf}
+use Rattle.values.specs.Resolve.{resolutionOf}
 use Rattle.values.proofs.Resolution.{standard-resolution}
 use Rattle.model.specs.Records.{Model, signalAt, driverAt}
 use Rattle.model.specs.Fields.{valueOk}
@@ -28,12 +28,7 @@ module _ (M : Model) (ds : List DriverState) (s : ℕ) where
   driving-all P h = all-join P (drivingBy M ds s) (length (M .drivers)) each
     where
       each : (k : ℕ) → k < length (M .drivers) → All P (drivingBy M ds s k)
-      each k l =
-          (elim (eqb (driverAt M k .signal) s) as (λ b. eqb (driverAt M k .signal) s ≡ b → All P (pick b (driverIn ds k .current ∷ []) [])) [
-            | true ↦ λ e. (h k l (eqb-true (driverAt M k .signal) s e), tt)
-            | false ↦ λ e. tt
-          ])
-          refl
+      each k l = by-test (All P) (eqb (driverAt M k .signal) s) _ _ (λ e. (h k l (eqb-true (driverAt M k .signal) s e), tt)) (λ e. tt)
 
   -- the driving values of a signal that has one driver at most
   pub data Driven (n : ℕ) : Type 0 where

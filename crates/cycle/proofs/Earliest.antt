@@ -1,15 +1,17 @@
 -- The earliest of the times at which something is due. Assumes nothing.
-use mathlib.Core.Path.{_≡_, refl, sym, ap, _∙_}
+use mathlib.Core.Path.{_≡_}
+use mathlib.Core.Logic.{⊎-elim}
 use mathlib.Core.List.{List, [], _∷_, _++_}
-use mathlib.Core.Option.{Option, none, some}
+use mathlib.Core.Option.{some}
 use Prim.Native.Nat.{ℕ, _≤_, _<_, min}
 use native.Mathlib.Omega.{arith}
 use lib.ListN.{length}
+use Rattle.base.proofs.Below.{split}
 use Rattle.base.specs.Below.{joinBelow}
 use Rattle.cycle.specs.Orders.{least, earliest, timesIn, optional, dueTimes}
 use Rattle.cycle.specs.Configuration.{Configuration, driverIn, processIn}
 use Rattle.model.specs.Records.{Model}
-use Rattle.cycle.proofs.Lists.{All, all-left, all-right, all-part}
+use Rattle.cycle.proofs.Lists.{All, all-left, all-right, all-append, all-join, all-part}
 
 -- nothing is earlier than the least
 from-least : (s t : ℕ) (ts : List ℕ) → s ≤ least t ts → (s ≤ t) × All (λ u. s ≤ u) ts
@@ -20,6 +22,19 @@ pub none-earlier : (ts : List ℕ) (t : ℕ) → earliest ts ≡ some t → All 
 none-earlier [] t e = tt
 none-earlier (u ∷ us) t e = let q : least u us ≡ t = cc in from-least t u us (omega arith)
 
+-- the earliest is one of them
+min-is : (P : ℕ → Type 0) (t u : ℕ) → P t → P u → P (min t u)
+min-is P t u h k =
+    ⊎-elim (λ (l : t < u). let e : min t u ≡ t = omega arith in rw e h) (λ (l : u ≤ t). let e : min t u ≡ u = omega arith in rw e k) (split t u)
+
+least-is : (P : ℕ → Type 0) (t : ℕ) (ts : List ℕ) → P t → All P ts → P (least t ts)
+least-is P t [] h a = h
+least-is P t (u ∷ us) h a = least-is P (min t u) us (min-is P t u h (a .0)) (a .1)
+
+pub earliest-is : (P : ℕ → Type 0) (ts : List ℕ) (t : ℕ) → earliest ts ≡ some t → All P ts → P t
+earliest-is P [] t e a = let q : _≡_ {A = ℕ} 0 1 = cc in absurd (omega arith)
+earliest-is P (u ∷ us) t e a = let q : least u us ≡ t = cc in rw q at (least-is P u us (a .0) (a .1))
+
 -- no transaction and no deadline is earlier than the earliest due time
 module _ (M : Model) (c : Configuration) where
   abbrev firstOf : ℕ → List ℕ
@@ -28,17 +43,24 @@ module _ (M : Model) (c : Configuration) where
   abbrev deadlineOf : ℕ → List ℕ
   deadlineOf p = optional (processIn (c .processes) p .deadline)
 
+  abbrev firsts : List ℕ
+  firsts = joinBelow firstOf (length (M .drivers))
+
+  abbrev deadlines : List ℕ
+  deadlines = joinBelow deadlineOf (length (M .processes))
+
+  -- what holds of each driver's first transaction and each deadline holds of each due time
+  pub due-each : (P : ℕ → Type 0) → ((k : ℕ) → k < length (M .drivers) → All P (firstOf k)) → ((p : ℕ) → p < length (M .processes) → All P (deadlineOf p)) → All P (dueTimes M c)
+  unfolding dueTimes
+  due-each P h g = all-append P firsts deadlines (all-join P firstOf (length (M .drivers)) h) (all-join P deadlineOf (length (M .processes)) g)
+
   module _ (t : ℕ) (e : earliest (dueTimes M c) ≡ some t) where
-    all-later : All (λ u. t ≤ u) (joinBelow firstOf (length (M .drivers)) ++ joinBelow deadlineOf (length (M .processes)))
+    all-later : All (λ u. t ≤ u) (firsts ++ deadlines)
     unfolding dueTimes
     all-later = none-earlier (dueTimes M c) t e
 
     pub transactions-later : (k : ℕ) → k < length (M .drivers) → All (λ u. t ≤ u) (firstOf k)
-    transactions-later k h =
-        all-part (λ u. t ≤ u) firstOf (length (M .drivers)) k h
-        (all-left (λ u. t ≤ u) (joinBelow firstOf (length (M .drivers))) (joinBelow deadlineOf (length (M .processes))) all-later)
+    transactions-later k h = all-part (λ u. t ≤ u) firstOf (length (M .drivers)) k h (all-left (λ u. t ≤ u) firsts deadlines all-later)
 
     pub deadlines-later : (p : ℕ) → p < length (M .processes) → All (λ u. t ≤ u) (deadlineOf p)
-    deadlines-later p h =
-        all-part (λ u. t ≤ u) deadlineOf (length (M .processes)) p h
-        (all-right (λ u. t ≤ u) (joinBelow firstOf (length (M .drivers))) (joinBelow deadlineOf (length (M .processes))) all-later)
+    deadlines-later p h = all-part (λ u. t ≤ u) deadlineOf (length (M .processes)) p h (all-right (λ u. t ≤ u) firsts deadlines all-later)

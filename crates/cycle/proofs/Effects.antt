@@ -1,19 +1,20 @@
 -- What an effect of a process can be: `EffectFits`. Assumes nothing.
-use mathlib.Core.Path.{_≡_, refl, sym, ap, _∙_}
+use mathlib.Core.Path.{_≡_, refl}
 use mathlib.Core.Bool.{Bool, true, false}
-use Prim.Native.Nat.{ℕ, suc, _+_, _-_, _≤_, _<_}
+use Prim.Native.Nat.{ℕ, suc, _-_, _<_}
 use native.Mathlib.Omega.{arith}
-use lib.Dec.{eqb, ltb, lit≤}
-use lib.ListN.{length, getD}
-use lib.IntN.{ℤ, pos, negsuc, natAbs}
+use lib.Dec.{eqb, ltb}
+use lib.ListN.{length}
+use lib.IntN.{pos, negsuc, natAbs}
 use lib.Signed.{ltZ}
 use mir.Val.{sel}
 use borrow.Author.Tests.{ltb-true, eqb-false}
-use Rattle.base.specs.Cases.{pick, _∣_, _is_⇒_}
+use Rattle.base.specs.Cases.{pick}
 use Rattle.base.proofs.Below.{_and_, among}
-use Rattle.model.specs.Records.{Model, nodeAt, variableAt, signalAt, driverAt, statementAt}
+use Rattle.base.proofs.Cases.{by-test}
+use Rattle.model.specs.Records.{Model, signalAt, statementAt}
 use Rattle.model.specs.Fields.{valueOk, absent}
-use Rattle.model.specs.Trees.{typeOf, integer}
+use Rattle.model.specs.Trees.{integer}
 use Rattle.model.specs.Owners.{driverFor}
 use Rattle.model.specs.Facts as Facts
 use Rattle.model.specs.Facts.{Facts, Spans, StatementFits, SignalAssignment, Expression}
@@ -21,11 +22,11 @@ use Rattle.model.specs.declared.records.StatementRecord.{StatementRecord}
 use Rattle.cycle.specs.declared.eval.Value.{Value}
 use Rattle.cycle.specs.declared.eval.Value.the-variants.{Of, Fault}
 use Rattle.cycle.specs.declared.effect.Effect.{Effect}
-use Rattle.cycle.specs.declared.effect.Effect.the-variants.{Skip, Store, Schedule, Jump, Wait, WaitFor, Stop}
+use Rattle.cycle.specs.declared.effect.Effect.the-variants.{Wait, WaitFor, Stop}
 use Rattle.cycle.specs.Configuration.{Configuration, processIn}
 use Rattle.cycle.specs.Evaluation.{Environment, environmentOf, int, evalOf}
 use Rattle.cycle.specs.Statements.{withValue, withDelay, effectBy, effectOf}
-use Rattle.cycle.specs.Invariant.{EffectFits, StoreFits, ScheduleFits, Reachable}
+use Rattle.cycle.specs.Invariant.{EffectFits, ScheduleFits, Reachable}
 use Rattle.cycle.proofs.Evaluation.{Typed, EnvironmentFits, value-typed}
 
 -- what holds after any value of the type, and of the stop with fault 1, holds after a value
@@ -44,14 +45,8 @@ delay-small x h = by-test (ltb x 2147483648) refl h
 -- the same after a delay
 delay-then : (P : Effect → Type 0) (v : Value) (next : ℕ → Effect) → Typed integer v → P (Stop 1) → P (Stop 2) → ((d : ℕ) → d < 2147483648 → P (next d)) → P (withDelay v next)
 unfolding withDelay
-delay-then P v next h s t g = value-then P integer v _ h s by-sign
-  where
-    by-sign : (x : ℕ) → valueOk integer x ≡ true → P (pick (ltZ (int x) (pos 0)) (Stop 2) (next (natAbs (int x))))
-    by-sign x _ =
-        (elim (ltZ (int x) (pos 0)) as (λ b. ltZ (int x) (pos 0) ≡ b → P (pick b (Stop 2) (next (natAbs (int x))))) [
-          | true ↦ λ e. t
-          | false ↦ λ e. g (natAbs (int x)) (delay-small x e)
-        ]) refl
+delay-then P v next h s t g =
+    value-then P integer v _ h s (λ x _. by-test P (ltZ (int x) (pos 0)) _ _ (λ e. t) (λ e. g (natAbs (int x)) (delay-small x e)))
 
 module _ (M : Model) (fs : Facts M) (p : ℕ) where
   module _ (e : Environment) (ok : EnvironmentFits M e) where
@@ -72,11 +67,8 @@ module _ (M : Model) (fs : Facts M) (p : ℕ) where
 
       waits : Facts.Wait M p s → EffectFits M p 5 (pick (eqb (s .c) absent) Wait (withDelay (evalOf M e (s .c)) WaitFor))
       waits g =
-          (elim (eqb (s .c) absent) as (λ b. eqb (s .c) absent ≡ b → EffectFits M p 5 (pick b Wait (withDelay (evalOf M e (s .c)) WaitFor))) [
-            | true ↦ λ t. refl
-            | false ↦ λ t. delay (EffectFits M p 5) (s .c) WaitFor (g .delay (eqb-false (s .c) absent t)) (omega arith) (omega arith) (λ d l. (refl, l))
-          ])
-          refl
+          by-test (EffectFits M p 5) (eqb (s .c) absent) _ _ (λ t. refl)
+          (λ t. delay (EffectFits M p 5) (s .c) WaitFor (g .delay (eqb-false (s .c) absent t)) (omega arith) (omega arith) (λ d l. (refl, l)))
 
       -- what a statement of process p does
       pub effect-by : Fits (effectBy M e p s)
@@ -91,7 +83,7 @@ module _ (M : Model) (fs : Facts M) (p : ℕ) where
           (λ v h. delay (EffectFits M p 2) (s .c) _ (g .delay) (omega arith) (omega arith) (λ d l. assigned g v d h l))))
           and (λ k. let g = f .branch k in
           rw k (expression (EffectFits M p 3) _ (s .b) _ (g .condition) (omega arith)
-          (λ v h. elim (eqb v 0) as (λ b. EffectFits M p 3 (pick b (Jump (s .a)) Skip)) [ true ↦ g .target | false ↦ tt ])))
+          (λ v h. by-test (EffectFits M p 3) (eqb v 0) _ _ (λ t. g .target) (λ t. tt))))
           and (λ k. rw k (f .jump k))
           and (λ k. rw k (waits (f .wait k)))
           and tt)

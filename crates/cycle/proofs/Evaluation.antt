@@ -5,15 +5,15 @@ use mathlib.Core.Bool.{Bool, true, false, not}
 use Prim.Native.Nat.{ℕ, zero, suc, _+_, _≤_, _<_}
 use native.Mathlib.Omega.{arith}
 use native.Mathlib.Nat.{not-suc-le-zero}
-use lib.Dec.{eqb, ltb, lit<, lit≤}
+use lib.Dec.{eqb, ltb}
 use lib.ListN.{length, getD}
 use lib.IntN.{ℤ, pos, negsuc, natAbs, negℤ, _+ℤ_, _-ℤ_}
 use lib.Signed.{ltZ}
 use mir.Syntax.{w32}
 use mir.Val.{ofZ}
 use borrow.Author.Tests.{ltb-true, le-leb, ne-eqb}
-use Rattle.base.specs.Cases.{pick, _∣_, _is_⇒_}
 use Rattle.base.specs.Course.{upTo, course}
+use Rattle.base.proofs.Cases.{by-test}
 use Rattle.base.proofs.Below.{Each, _and_, among, split}
 use Rattle.base.proofs.Course.{earlier}
 use Rattle.values.specs.Operators.{notOf, andOf, orOf, xorOf}
@@ -166,7 +166,7 @@ two-typed : (s s' t : ℕ) (p q : Value) (f : ℕ → ℕ → Value) → Typed s
 two-typed s s' t p q f h k g = one-typed s t p (λ x. one q (λ y. f x y)) h (λ x _. one-typed s' t q (λ y. f x y) k (λ y _. g x y))
 
 unless-typed : (t decides : ℕ) (p q : Value) → Typed t p → Typed t q → Typed t (unlessFirst decides p q)
-unless-typed t decides p q h k = one-typed t t p _ h (λ x v. elim (eqb x decides) as (λ b. Typed t (pick b (Of x) q)) [ true ↦ v | false ↦ k ])
+unless-typed t decides p q h k = one-typed t t p _ h (λ x v. by-test (Typed t) (eqb x decides) _ _ (λ e. v) (λ e. k))
 
 -- the logic operators give codes, a test gives a boolean, and a ranged number is an integer
 code-typed : (v : ℕ) → v < 9 → Typed logic (Of v)
@@ -180,15 +180,13 @@ truth-typed false = refl
 
 ranged-typed : (z : ℤ) → Typed integer (ranged z)
 unfolding valueOk ranged
-ranged-typed z = by-test (ltb (natAbs z) 2147483648) refl
+ranged-typed z =
+    by-test (Typed integer) (ltb (natAbs z) 2147483648) _ _
+    (λ e. rw (ne-eqb (ofZ w32 z) 2147483648 (apart z (ltb-true (natAbs z) 2147483648 e)))) (λ e. refl)
   where
     apart : (z : ℤ) → natAbs z < 2147483648 → ofZ w32 z ≡ 2147483648 → ⊥
     apart (pos n) l e = omega arith
     apart (negsuc n) l e = omega arith
-
-    by-test : (b : Bool) → ltb (natAbs z) 2147483648 ≡ b → Typed integer (pick b (Of (ofZ w32 z)) (Fault 1))
-    by-test true e = rw (ne-eqb (ofZ w32 z) 2147483648 (apart z (ltb-true (natAbs z) 2147483648 e)))
-    by-test false e = refl
 
 -- the operators of a type that is logic or boolean
 module _ (ty : ℕ) (known : 1 ≤ ty) (most : ty ≤ 2) (p q : Value) (hp : Typed ty p) (hq : Typed ty q) where

@@ -1,23 +1,19 @@
 -- Every order hands back a reachable configuration, and a refused one the configuration it took. Assumes nothing.
-use mathlib.Core.Path.{_≡_, refl, sym, ap, _∙_}
-use mathlib.Core.Bool.{Bool, true, false, not}
+use mathlib.Core.Path.{_≡_, refl}
+use mathlib.Core.Bool.{true, not}
 use mathlib.Core.Option.{Option, none, some}
-use Prim.Native.Nat.{ℕ, zero, suc, _+_, _≤_, _<_}
-use native.Mathlib.Omega.{arith}
+use Prim.Native.Nat.{ℕ, zero, suc, _<_}
 use lib.Dec.{ltb, leb}
 use lib.ListN.{length}
 use borrow.Author.Tests.{ltb-true, ltb-false, leb-false, not-false}
-use Rattle.base.specs.Cases.{pick}
 use Rattle.base.specs.Below.{anyBelow}
 use Rattle.base.proofs.Cases.{by-test}
 use Rattle.base.proofs.Course.{first-at}
 use Rattle.model.specs.Records.{Model}
 use Rattle.model.specs.Facts.{Facts}
 use Rattle.cycle.specs.Configuration.{Configuration}
-use Rattle.cycle.specs.Statements.{stepped}
-use Rattle.cycle.specs.Steps.{deltaStep, timeStep}
-use Rattle.cycle.specs.Orders.{Outcome, refused, isReady, isStopped, pickDone, picked, dueTimes, earliest, dueNow, advanceDone, deltaOrder, timeOrder, advanced, lowestReady, Settled, settledFrom, settled, readOf}
-use Rattle.cycle.specs.Invariant.{lastTime, Reachable}
+use Rattle.cycle.specs.Orders.{Outcome, isReady, isStopped, picked, dueTimes, earliest, dueNow, deltaOrder, timeOrder, advanced, lowestReady, Settled, settledFrom, settled, readOf}
+use Rattle.cycle.specs.Invariant.{Reachable}
 use Rattle.cycle.proofs.StepReachable.{stepped-reachable}
 use Rattle.cycle.proofs.AdvanceReachable.{delta-reachable, time-reachable}
 

@@ -11,5 +11,8 @@ pub mod Driving
 pub mod FirstReachable
 pub mod StepReachable
 pub mod AdvanceReachable
+pub mod Due
 pub mod Invariant
 pub mod Plays
+pub mod Outcomes
+pub mod Picks

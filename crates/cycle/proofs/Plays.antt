@@ -1,6 +1,6 @@
 -- How orders play out: the turns of a settle, and that a refused order hands back the configuration it took. Assumes nothing.
-use mathlib.Core.Path.{_≡_, refl, sym, ap, _∙_}
-use mathlib.Core.Bool.{Bool, true, false, not}
+use mathlib.Core.Path.{_≡_, refl}
+use mathlib.Core.Bool.{true, false, not}
 use mathlib.Core.Option.{Option, none, some}
 use Prim.Native.Nat.{ℕ, zero, suc, _+_, _-_, _≤_, _<_}
 use native.Mathlib.Nat.{add-zero, add-suc}
@@ -8,14 +8,14 @@ use native.Mathlib.Numerals.{add-one}
 use native.Mathlib.Omega.{arith}
 use lib.Dec.{ltb, leb}
 use lib.ListN.{length}
-use borrow.Author.Tests.{ltb-true, ltb-false, lt-ltb, le-ltb}
+use borrow.Author.Tests.{lt-ltb, le-ltb}
 use Rattle.base.specs.Cases.{pick}
 use Rattle.base.specs.Below.{anyBelow}
 use Rattle.base.proofs.Cases.{by-test}
 use Rattle.model.specs.Records.{Model}
 use Rattle.cycle.specs.Configuration.{Configuration}
 use Rattle.cycle.specs.Statements.{stepped}
-use Rattle.cycle.specs.Orders.{Outcome, refused, isReady, isStopped, picked, dueTimes, earliest, dueNow, deltaOrder, timeOrder, advanced, lowestReady, Settled, settledFrom, settled, readOf}
+use Rattle.cycle.specs.Orders.{Outcome, isReady, isStopped, picked, dueTimes, earliest, dueNow, deltaOrder, timeOrder, advanced, lowestReady, Settled, settledFrom, settled, readOf}
 
 -- a refused order hands back the configuration it took
 module _ (M : Model) (c : Configuration) where

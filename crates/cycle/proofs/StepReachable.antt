@@ -1,23 +1,23 @@
 -- A pick of a ready process keeps a configuration reachable. Assumes nothing.
-use mathlib.Core.Path.{_≡_, refl, sym, ap, _∙_}
+use mathlib.Core.Path.{_≡_, refl, _∙_}
 use mathlib.Core.Bool.{Bool, true, false}
-use mathlib.Core.List.{List, [], _∷_}
+use mathlib.Core.List.{List}
 use mathlib.Core.Option.{Option, none, some}
 use Prim.Native.Nat.{ℕ, _+_, _≤_, _<_}
 use native.Mathlib.Omega.{arith}
 use lib.Dec.{ltb, lit≤}
-use lib.ListN.{length, getD, set, length-set}
+use lib.ListN.{length, getD, length-set}
 use borrow.Author.Tests.{ltb-true, eqb-true}
-use Rattle.base.specs.Cases.{pick}
-use Rattle.model.specs.Records.{Model, signalAt, variableAt, driverAt, processAt, statementAt}
+use Rattle.base.proofs.Cases.{by-test}
+use Rattle.model.specs.Records.{Model, signalAt, variableAt, driverAt, statementAt}
 use Rattle.model.specs.Fields.{endOf}
 use Rattle.model.specs.Facts.{Facts, Spans}
 use Rattle.cycle.specs.declared.effect.Effect.{Effect}
 use Rattle.cycle.specs.declared.effect.Effect.the-variants.{Skip, Store, Schedule, Jump, Wait, WaitFor, Stop}
-use Rattle.cycle.specs.Configuration.{DriverState, ProcessState, Configuration, driverIn, processIn, ready, waiting, stopped}
-use Rattle.cycle.specs.Statements.{nextPlace, moved, waits, stops, processAfter, variablesAfter, fullAfter, driverAfter, driversAfter, applied, stepped, effectOf}
+use Rattle.cycle.specs.Configuration.{DriverState, ProcessState, Configuration, driverIn, processIn, ready}
+use Rattle.cycle.specs.Statements.{nextPlace, moved, waits, stops, processAfter, variablesAfter, driversAfter, applied, stepped, effectOf}
 use Rattle.cycle.specs.Orders.{isReady}
-use Rattle.cycle.specs.Invariant.{ValueOf, lastTime, lastDue, DriverFine, DeadlineFine, ProcessFine, EffectFits, Reachable}
+use Rattle.cycle.specs.Invariant.{ValueOf, lastTime, DriverFine, DeadlineFine, ProcessFine, EffectFits, Reachable}
 use Rattle.cycle.proofs.Lists.{set-each}
 use Rattle.cycle.proofs.Waves.{driver-scheduled}
 use Rattle.cycle.proofs.Effects.{effect-fits, placed}
@@ -26,11 +26,8 @@ use Rattle.cycle.proofs.Effects.{effect-fits, placed}
 pub next-place : (M : Model) → Facts M → (p : ℕ) → p < length (M .processes) → (i : ℕ) → Spans M p i → Spans M p (nextPlace M p i)
 unfolding nextPlace
 next-place M fs p h i s =
-    (elim (ltb (i + 1) (endOf M p)) as (λ b. ltb (i + 1) (endOf M p) ≡ b → Spans M p (pick b (i + 1) (processAt M p .first))) [
-      | true ↦ λ e. fs .process p h .next i s (ltb-true (i + 1) (endOf M p) e)
-      | false ↦ λ e. fs .process p h .first
-    ])
-    refl
+    by-test (Spans M p) (ltb (i + 1) (endOf M p)) _ _
+    (λ e. fs .process p h .next i s (ltb-true (i + 1) (endOf M p) e)) (λ e. fs .process p h .first)
 
 -- a ready process, and what an effect makes of it
 module _ (M : Model) (p t : ℕ) (q : ProcessState) (f : ProcessFine M p t q) where

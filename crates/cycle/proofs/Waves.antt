@@ -1,15 +1,15 @@
 -- The laws of waveforms: what a schedule keeps and adds, and what a delta step takes. Assumes nothing.
-use mathlib.Core.Path.{_≡_, refl, sym, ap, _∙_}
-use mathlib.Core.Bool.{Bool, true, false}
+use mathlib.Core.Path.{_≡_}
+use mathlib.Core.Bool.{false}
 use mathlib.Core.List.{List, [], _∷_, _++_}
-use Prim.Native.Nat.{ℕ, suc, _+_, _≤_, _<_}
+use Prim.Native.Nat.{ℕ, _+_, _≤_, _<_}
 use native.Mathlib.Omega.{arith}
 use lib.Dec.{eqb, ltb, lit≤}
 use lib.ListN.{length, length-append}
 use borrow.Author.Tests.{ltb-true, ltb-false, eqb-true, eqb-false}
-use Rattle.base.specs.Cases.{pick}
+use Rattle.base.proofs.Cases.{by-test}
 use Rattle.cycle.specs.Configuration.{Transaction, DriverState}
-use Rattle.cycle.specs.Statements.{before, scheduled, overflows, withPending, driverAfter}
+use Rattle.cycle.specs.Statements.{before, scheduled, overflows, driverAfter}
 use Rattle.cycle.specs.Steps.{taken, takenIn}
 use Rattle.cycle.specs.Orders.{timesIn}
 use Rattle.cycle.specs.Invariant.{ValueOf, lastDue, Rising, Values, DriverFine}
@@ -29,39 +29,27 @@ module _ (at : ℕ) where
   pub before-before : (w : List Transaction) → Before at (before at w)
   unfolding before
   before-before [] = tt
-  before-before (x ∷ w) =
-      (elim (ltb (x .time) at) as (λ b. ltb (x .time) at ≡ b → Before at (pick b (x ∷ before at w) (before at w))) [
-        | true ↦ λ e. (ltb-true (x .time) at e, before-before w)
-        | false ↦ λ e. before-before w
-      ])
-      refl
+  before-before (x ∷ w) = by-test (Before at) (ltb (x .time) at) _ _ (λ e. (ltb-true (x .time) at e, before-before w)) (λ e. before-before w)
 
   pub before-rising : (t : ℕ) (w : List Transaction) → Rising t w → Rising t (before at w)
   unfolding before
   before-rising t [] r = tt
   before-rising t (x ∷ w) r =
-      elim (ltb (x .time) at) as (λ b. Rising t (pick b (x ∷ before at w) (before at w))) [
-        | true ↦ (r .0, r .1, before-rising (x .time + 1) w (r .2))
-        | false ↦ before-rising t w (rising-from t (x .time + 1) w (omega (arith, r .0)) (r .2))
-      ]
+      by-test (Rising t) (ltb (x .time) at) _ _
+      (λ e. (r .0, r .1, before-rising (x .time + 1) w (r .2)))
+      (λ e. before-rising t w (rising-from t (x .time + 1) w (omega (arith, r .0)) (r .2)))
 
   pub before-values : (ty : ℕ) (w : List Transaction) → Values ty w → Values ty (before at w)
   unfolding before
   before-values ty [] v = tt
-  before-values ty (x ∷ w) v =
-      elim (ltb (x .time) at) as (λ b. Values ty (pick b (x ∷ before at w) (before at w))) [
-        | true ↦ (v .0, before-values ty w (v .1))
-        | false ↦ before-values ty w (v .1)
-      ]
+  before-values ty (x ∷ w) v = by-test (Values ty) (ltb (x .time) at) _ _ (λ e. (v .0, before-values ty w (v .1))) (λ e. before-values ty w (v .1))
 
   pub before-length : (w : List Transaction) → length (before at w) ≤ length w
   unfolding before
   before-length [] = lit≤ tt
   before-length (x ∷ w) =
-      elim (ltb (x .time) at) as (λ b. length (pick b (x ∷ before at w) (before at w)) ≤ length (x ∷ w)) [
-        | true ↦ omega (arith, before-length w)
-        | false ↦ omega (arith, before-length w)
-      ]
+      let l = before-length w in
+      by-test (λ (v : List Transaction). length v ≤ length (x ∷ w)) (ltb (x .time) at) _ _ (λ e. omega arith) (λ e. omega arith)
 
 -- one later than those that are there
 pub append-rising : (t : ℕ) (w : List Transaction) (x : Transaction) → t ≤ x .time → x .time ≤ lastDue → Before (x .time) w → Rising t w → Rising t (w ++ (x ∷ []))
@@ -94,37 +82,32 @@ rising-later : (t s : ℕ) (w : List Transaction) → All (λ u. s ≤ u) (times
 rising-later t s [] h r = tt
 rising-later t s (x ∷ w) h r = (h .0, r .1, r .2)
 
-taken-in : (ty t current : ℕ) (w : List Transaction) → ValueOf ty current → length w ≤ 8 → Rising t w → Values ty w → DriverFine ty t (takenIn t current w) × Rising (t + 1) (takenIn t current w .pending)
+-- a driver whose pending transactions are all later than t
+abbrev Later : ℕ → ℕ → DriverState → Type 0
+Later ty t d = DriverFine ty t d × Rising (t + 1) (d .pending)
+
+taken-in : (ty t current : ℕ) (w : List Transaction) → ValueOf ty current → length w ≤ 8 → Rising t w → Values ty w → Later ty t (takenIn t current w)
 taken-in ty t current [] c l r v = (record { current = c; few = l; rising = r; values = v }, tt)
 taken-in ty t current (x ∷ w) c l r v =
-    (elim (eqb (x .time) t) as (λ b. eqb (x .time) t ≡ b → DriverFine ty t (after b) × Rising (t + 1) (after b .pending)) [
-      | true ↦ λ e.
-          let q = eqb-true (x .time) t e in
-          (record { current = v .0; few = omega arith; rising = rising-from t (x .time + 1) w (omega arith) (r .2); values = v .1 }, rising-from (t + 1) (x .time + 1) w (omega arith) (r .2))
-      | false ↦ λ e.
-          let q = eqb-false (x .time) t e in
-          let m : t + 1 ≤ x .time = omega (arith, r .0, q) in
-          (record { current = c; few = l; rising = r; values = v }, (m, r .1, r .2))
-    ])
-    refl
-  where
-    after : Bool → DriverState
-    after b = pick b (record { current = x .value; pending = w }) (record { current = current; pending = x ∷ w })
+    by-test (Later ty t) (eqb (x .time) t) _ _
+    (λ e.
+    let q = eqb-true (x .time) t e in
+    let g : Rising (t + 1) w = rising-from (t + 1) (x .time + 1) w (omega arith) (r .2) in
+    (record { current = v .0; few = omega arith; rising = rising-from t (t + 1) w (omega arith) g; values = v .1 }, g))
+    (λ e. (record { current = c; few = l; rising = r; values = v }, (omega (arith, r .0, eqb-false (x .time) t e), r .1, r .2)))
 
 module _ (ty t : ℕ) (d : DriverState) (f : DriverFine ty t d) where
   pub driver-scheduled : (at v : ℕ) → t ≤ at → at ≤ lastDue → ValueOf ty v → DriverFine ty t (driverAfter at v d)
   unfolding driverAfter
   driver-scheduled at v h l k =
-      (elim (overflows (scheduled (d .pending) at v)) as (λ b. overflows (scheduled (d .pending) at v) ≡ b → DriverFine ty t (pick b d (withPending d (scheduled (d .pending) at v)))) [
-        | true ↦ λ e. f
-        | false ↦ λ e. record {
-          current = f .current;
-          few = not-over (scheduled (d .pending) at v) e;
-          rising = scheduled-rising (d .pending) at v t h l (f .rising);
-          values = scheduled-values (d .pending) at v ty (f .values) k;
-        }
-      ])
-      refl
+      by-test (DriverFine ty t) (overflows (scheduled (d .pending) at v)) _ _ (λ e. f)
+      (λ e.
+      record {
+        current = f .current;
+        few = not-over (scheduled (d .pending) at v) e;
+        rising = scheduled-rising (d .pending) at v t h l (f .rising);
+        values = scheduled-values (d .pending) at v ty (f .values) k;
+      })
 
   -- a time step that does not pass the first
   pub driver-later : (s : ℕ) → All (λ u. s ≤ u) (timesIn (d .pending)) → DriverFine ty s d

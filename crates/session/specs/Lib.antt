@@ -1,3 +1,4 @@
 pub mod Lists
 pub mod Sessions
 pub mod Demand3
+pub mod Bench

@@ -1,0 +1,138 @@
+-- Every list of orders plays a run of picks and advances, as many as its answers say.
+-- Assumes nothing.
+use mathlib.Core.Path.{_≡_, refl, sym, _∙_}
+use mathlib.Core.Bool.{Bool, true, false, _&&_}
+use mathlib.Core.List.{List, [], _∷_}
+use Prim.Native.Nat.{ℕ, zero, suc, _+_, _≤_, _<_}
+use native.Mathlib.Nat.{add-zero, zero-add, add-suc, suc-add}
+use native.Mathlib.Omega.{arith}
+use borrow.Author.Tests.{eqb-true, eq-eqb, ne-eqb, ltb-true}
+use lib.Dec.{eqb, ltb}
+use lib.ListN.{length}
+use Rattle.base.specs.Cases.{pick, _∣_, _is_⇒_}
+use Rattle.base.specs.Bytes.{byteAt, wordAt}
+use Rattle.base.proofs.Below.{and-true-false}
+use Rattle.base.proofs.Cases.{by-test}
+use Rattle.base.proofs.Course.{first-at}
+use Rattle.model.specs.Records.{Model}
+use Rattle.cycle.specs.Configuration.{Configuration}
+use Rattle.cycle.specs.Statements.{stepped}
+use Rattle.cycle.specs.Orders.{Outcome, refused, isReady, pickDone, picked, advanced, lowestReady, Settled, settledFrom, settleDone, settled, readOf}
+use Rattle.cycle.proofs.Outcomes.{Refusal, Pick, pick-refused, pick-done, pick-is, pick-of-ready, Advance, advance-refused, delta-done, time-done, advance-is, Read, read-refused, read-done, read-is}
+use Rattle.determinacy.specs.Kernel.{Kernel}
+use Rattle.determinacy.proofs.Run.{Run, stay, by-pick, by-advance, join}
+use Rattle.session.specs.Lists.{Order, answerOf, performed, Played, answered, played}
+use Rattle.session.specs.Demand3.{picksOf, isAdvance, advancesOf, kernelOf}
+use Rattle.session.proofs.Answers.{Small, refusal-byte, picks-word}
+
+module _ (M : Model) where
+  -- a run that leads to what an order comes to, by a advances
+  abbrev Ran : Configuration → ℕ → Outcome → Type 0
+  Ran c a r = Run (kernelOf M) c a (r .picks) (r .after)
+
+  -- a pick of a ready process is a step
+  pick-run : (p : ℕ) (c : Configuration) → p < length (M .processes) → isReady p c ≡ true → {n : ℕ} {e : Configuration}
+      → Run (kernelOf M) (stepped M p c) 0 n e → Run (kernelOf M) c 0 (suc n) e
+  pick-run p c there ready {n} {e} r =
+      let done = pick-of-ready M c p there ready in
+      let can : kernelOf M .ready p c ≡ true = rw done in
+      let rest : Run (kernelOf M) (kernelOf M .step p c) 0 n e = rw done r in
+      by-pick p can rest
+
+  advance-run : (c : Configuration) (r : Outcome) → r ≡ advanced M c → r .refusal ≡ 0 → r .picks ≡ 0 → Ran c 1 r
+  advance-run c r e done none =
+      let can : kernelOf M .can-advance c ≡ true = rw (← e, done) in
+      let rest : Run (kernelOf M) (kernelOf M .advanced c) 0 0 (r .after) = rw (← e) stay in
+      rw none (by-advance can rest)
+
+  -- what a settle comes to, k picks having been made: m more, at most n
+  record Settles (k n : ℕ) (c : Configuration) (s : Settled) : Type 0 where
+    more : ℕ
+    picks : s .picks ≡ k + more
+    most : more ≤ n
+    run : Run (kernelOf M) c 0 more (s .end)
+
+  settles : (n k : ℕ) (c : Configuration) → Settles k n c (settledFrom M k n c)
+  unfolding settledFrom lowestReady
+  settles zero k c = record { more = 0; picks = sym (add-zero k); most = omega arith; run = stay }
+  settles (suc n) k c =
+      by-test (Settles k (suc n) c) (ltb (lowestReady M c) (length (M .processes))) _ _
+      (λ there.
+      let s = settles n (suc k) (stepped M (lowestReady M c) c) in
+      let below = ltb-true _ _ there in
+      record {
+        more = suc (s .more);
+        picks = s .picks ∙ suc-add k (s .more) ∙ sym (add-suc k (s .more));
+        most = omega arith;
+        run = pick-run (lowestReady M c) c below (first-at (λ p. isReady p c) (length (M .processes)) below) (s .run);
+      })
+      (λ none. record { more = 0; picks = sym (add-zero k); most = omega arith; run = stay })
+
+  -- what an order that comes to r does to a configuration: a run by a advances, and what its answer can say
+  record Does (c : Configuration) (a : ℕ) (r : Outcome) : Type 0 where
+    run : Ran c a r
+    picks : r .picks < 65536
+    refusal : r .refusal < 256
+
+  refusal-does : (c : Configuration) (n : ℕ) → Refusal n → Does c 0 (refused n c)
+  refusal-does c n h = record { run = stay; picks = omega arith; refusal = omega arith }
+
+  pick-does : (p : ℕ) (c : Configuration) {r : Outcome} → Pick M c p r → Does c 0 r
+  pick-does p c (pick-refused n h) = refusal-does c n h
+  pick-does p c (pick-done there ready) = record { run = pick-run p c there ready stay; picks = omega arith; refusal = omega arith }
+
+  read-does : (s : ℕ) (c : Configuration) {r : Outcome} → Read M c s r → Does c 0 r
+  read-does s c (read-refused n h) = refusal-does c n h
+  read-does s c (read-done there) = record { run = stay; picks = omega arith; refusal = omega arith }
+
+  settle-does : (n : ℕ) (c : Configuration) → n < 65536 → Does c 0 (settled M n c)
+  unfolding settled
+  settle-does n c h =
+      let s = settles n 0 c in
+      let same : settledFrom M 0 n c .picks ≡ s .more = s .picks ∙ zero-add (s .more) in
+      record { run = rw same (s .run); picks = omega arith; refusal = omega arith }
+
+  advance-does : (c : Configuration) (r : Outcome) → r ≡ advanced M c → Advance M c r → Does c (pick (eqb (r .refusal) 0) 1 0) r
+  advance-does c r e (advance-refused n h) = rw (ne-eqb n 0 (λ z. omega arith)) (refusal-does c n h)
+  advance-does c r e (delta-done quiet due few) = record { run = advance-run c r e refl refl; picks = omega arith; refusal = omega arith }
+  advance-does c r e (time-done t quiet due at low) = record { run = advance-run c r e refl refl; picks = omega arith; refusal = omega arith }
+
+  -- the same, by as many advances as the answer to order o says
+  module _ (o : Order) (c : Configuration) where
+    abbrev Counted : Outcome → Type 0
+    Counted r = Does c (pick (isAdvance o (answerOf r)) 1 0) r
+
+    -- an order of another kind than 2 is no advance
+    no-advance : (k : ℕ) {r : Outcome} → eqb k 2 ≡ false → eqb (o .kind) k ≡ true → Does c 0 r → Counted r
+    no-advance k other kind d = rw (eqb-true (o .kind) k kind, other) d
+
+    one-advance : eqb (o .kind) 2 ≡ true → Counted (advanced M c)
+    one-advance kind =
+        let d = advance-does c (advanced M c) refl (advance-is M c) in
+        rw (kind, refusal-byte (advanced M c) (d .refusal)) d
+
+    -- nor is one that is refused with 11
+    unknown : Counted (refused 11 c)
+    unknown = rw (refusal-byte (refused 11 c) (omega arith), and-true-false (eqb (o .kind) 2) false refl) (refusal-does c 11 (omega arith))
+
+    counted : o .count < 65536 → Counted (performed M o c)
+    unfolding performed
+    counted small =
+        by-test Counted (eqb (o .kind) 1) _ _
+        (λ k. by-test Counted (eqb (o .count) 0) _ _ (λ e. no-advance 1 refl k (pick-does (o .argument) c (pick-is M c (o .argument)))) (λ e. unknown))
+        (λ e. by-test Counted (eqb (o .kind) 2) _ _
+        (λ k. by-test Counted (eqb (o .argument) 0 && eqb (o .count) 0) _ _ (λ e. one-advance k) (λ e. unknown))
+        (λ e. by-test Counted (eqb (o .kind) 3) _ _
+        (λ k. by-test Counted (eqb (o .argument) 0) _ _ (λ e. no-advance 3 refl k (settle-does (o .count) c small)) (λ e. unknown))
+        (λ e. by-test Counted (eqb (o .kind) 4) _ _
+        (λ k. by-test Counted (eqb (o .count) 0) _ _ (λ e. no-advance 4 refl k (read-does (o .argument) c (read-is M c (o .argument)))) (λ e. unknown))
+        (λ e. unknown))))
+
+  -- a list of orders, one after the other
+  pub played-run : (os : List Order) → Small os → (c : Configuration)
+      → Run (kernelOf M) c (advancesOf os (played M os c .answers)) (picksOf (played M os c .answers)) (played M os c .end)
+  unfolding played picksOf advancesOf
+  played-run [] s c = stay
+  played-run (o ∷ os) s c =
+      let d = counted o c (s .0) in
+      rw (picks-word (performed M o c) (d .picks)) (join (kernelOf M) (d .run) (played-run os (s .1) (performed M o c .after)))
