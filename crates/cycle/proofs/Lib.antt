@@ -1,6 +1,7 @@
 pub mod Lists
 pub mod Evaluation
 pub mod Effects
+pub mod ArraysAgree
 pub mod Statements
 pub mod Recursion
 pub mod Signed

@@ -1,11 +1,11 @@
 -- The recursion of `eval` over the operands of a node: what each call asks, and what is returned. Assumes nothing.
-use mathlib.Core.Path.{_≡_, sym, _∙_}
+use mathlib.Core.Path.{_≡_}
 use mathlib.Core.List.{List}
-use Prim.Native.Nat.{ℕ, _+_, _≤_, _<_}
+use Prim.Native.Nat.{ℕ, _≤_, _<_}
 use native.Mathlib.Omega.{arith}
 use lib.ListN.{length}
 use Rattle.base.proofs.Below.{NoneOf, none-of}
-use Rattle.model.specs.Records.{Model, modelOf, nodeAt}
+use Rattle.model.specs.Records.{modelOf, nodeAt}
 use Rattle.model.specs.Trees.{typeOf}
 use Rattle.model.specs.Facts.{NodeFits}
 use Rattle.model.specs.Index.{Usable}

@@ -1,8 +1,8 @@
 -- Signed arithmetic: what the machine's sums ask, from bounds on the operands, and the two ways between a word and its integer.
 -- Assumes nothing.
-use mathlib.Core.Path.{_≡_, refl, sym, ap, _∙_, subst}
+use mathlib.Core.Path.{_≡_, refl, sym, _∙_}
 use mathlib.Core.Bool.{Bool, true, false, cond}
-use Prim.Native.Nat.{ℕ, zero, suc, _+_, _-_, _*_, _<_, _≤_, _^_}
+use Prim.Native.Nat.{ℕ, zero, suc, _+_, _-_, _<_, _≤_, _^_}
 use native.Mathlib.Omega.{arith}
 use lib.IntN.{ℤ, pos, negsuc, natAbs, negℤ, subℕ, +ℤ-idl, _+ℤ_, _-ℤ_}
 use lib.Signed.{ltZ, nonNeg}

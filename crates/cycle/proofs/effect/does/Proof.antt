@@ -14,15 +14,11 @@ does-spec =
     -- statement-at-requires
     (λ c κs. search needs)
     -- eval-requires
-    (λ c κs.
-    let h = c in
-    (h .before .before .before .pre .0, statement-fits (h .before .before .before .pre) (h .before .statement-at .ensures) .variableAssignment (h .match .keys2) .value .node))
+    (λ c κs. (c .before .before .before .pre .0, statement-fits (c .before .before .before .pre) (c .before .statement-at .ensures) .variableAssignment (c .match .keys2) .value .node))
     -- store-requires
     (λ c κs. search needs)
     -- eval-requires-2
-    (λ c κs.
-    let h = c in
-    (h .before .before .before .pre .0, statement-fits (h .before .before .before .pre) (h .before .statement-at .ensures) .signalAssignment (h .match .keys3) .value .node))
+    (λ c κs. (c .before .before .before .pre .0, statement-fits (c .before .before .before .pre) (c .before .statement-at .ensures) .signalAssignment (c .match .keys3) .value .node))
     -- sender-at-requires
     (λ c κs. search needs)
     -- eval-requires-3
@@ -32,9 +28,7 @@ does-spec =
     -- send-requires
     (λ c κs. search needs)
     -- eval-requires-4
-    (λ c κs.
-    let h = c in
-    (h .before .before .before .pre .0, statement-fits (h .before .before .before .pre) (h .before .statement-at .ensures) .branch (h .match .keys4) .condition .node))
+    (λ c κs. (c .before .before .before .pre .0, statement-fits (c .before .before .before .pre) (c .before .statement-at .ensures) .branch (c .match .keys4) .condition .node))
     -- branch-requires
     (λ c κs. search needs)
     -- returns
@@ -48,9 +42,7 @@ does-spec =
     -- wait-for-requires
     (λ c κs. search needs)
     -- returns-2
-    (λ c.
-    let h = c in
-    rw (← h .before .statement-at .ensures, h .match .keys1))
+    (λ c. rw (← c .before .statement-at .ensures, c .match .keys1))
     -- returns-3
     (λ c.
     let h = c .before .before in
@@ -64,9 +56,7 @@ does-spec =
     let h = c .before .before in
     rw (← h .before .statement-at .ensures, h .match .keys4, ← c .before .eval4 .ensures) (c .branch .ensures))
     -- returns-6
-    (λ c.
-    let h = c in
-    rw (← h .before .statement-at .ensures, h .match .keys5))
+    (λ c. rw (← c .before .statement-at .ensures, c .match .keys5))
     -- returns-7
     (λ c.
     let h = c .before .before .before .before in

@@ -8,13 +8,13 @@ pub sender-at-spec : {M : Type 1} → statement M
 sender-at-spec =
     tie.close
     (tie.spec
-    -- add-narrow
+    -- add-wide16
     (λ c. search needs)
-    -- mul-narrow
+    -- mul-wide16
     (λ c. search needs)
-    -- element-copy-out-narrow
+    -- element-copy-out-wide16
     (λ c. search needs)
-    -- narrow-requires
+    -- wide16-requires
     (λ c κs. search needs)
     -- returns
-    (λ c m u h k. c .narrow .ensures ∙ u .driver _ h k))
+    (λ c m u h k. c .wide16 .ensures ∙ u .driver _ h k))

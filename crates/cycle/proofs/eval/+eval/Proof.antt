@@ -78,21 +78,13 @@ unfolding valueBy
     -- node-at-requires
     (λ c κs. (c .before .pre .1 .0 .usable .starts, c .before .pre .1 .1))
     -- variable-of-requires
-    (λ c κs.
-    let h = c in
-    variable-below (h .before .before .before .pre) (h .before .node-at .ensures) (h .match .keys3))
+    (λ c κs. variable-below (c .before .before .before .pre) (c .before .node-at .ensures) (c .match .keys3))
     -- signal-of-requires
-    (λ c κs.
-    let h = c in
-    (signal-below (h .before .before .before .pre) (h .before .node-at .ensures) (omega arith) (omega arith), omega arith))
+    (λ c κs. (signal-below (c .before .before .before .pre) (c .before .node-at .ensures) (omega arith) (omega arith), omega arith))
     -- signal-of-requires-2
-    (λ c κs.
-    let h = c in
-    (signal-below (h .before .before .before .pre) (h .before .node-at .ensures) (omega arith) (omega arith), delay-below (h .before .before .before .pre) (h .before .node-at .ensures) (h .match .keys5)))
+    (λ c κs. (signal-below (c .before .before .before .pre) (c .before .node-at .ensures) (omega arith) (omega arith), delay-below (c .before .before .before .pre) (c .before .node-at .ensures) (c .match .keys5)))
     -- type-at-requires
-    (λ c κs.
-    let h = c in
-    node-below (h .before .before .before .pre) (h .before .node-at .ensures))
+    (λ c κs. node-below (c .before .before .before .pre) (c .before .node-at .ensures))
     -- eval-requires
     (λ c κs.
     let h = c .before in
@@ -100,9 +92,7 @@ unfolding valueBy
     -- not-requires
     (λ c κs. search needs)
     -- eval-requires-2
-    (λ c κs.
-    let h = c in
-    call-a (h .before .before .before .pre) (h .before .node-at .ensures) (omega arith))
+    (λ c κs. call-a (c .before .before .before .pre) (c .before .node-at .ensures) (omega arith))
     -- type-at-requires-2
     (λ c κs.
     let h = c .before in
@@ -123,9 +113,7 @@ unfolding valueBy
     -- and-requires
     (λ c κs. sym (c .before .before .decided .ensures) ∙ c .before .if1 .left)
     -- eval-requires-4
-    (λ c κs.
-    let h = c in
-    call-a (h .before .before .before .pre) (h .before .node-at .ensures) (omega arith))
+    (λ c κs. call-a (c .before .before .before .pre) (c .before .node-at .ensures) (omega arith))
     -- type-at-requires-3
     (λ c κs.
     let h = c .before in
@@ -146,9 +134,7 @@ unfolding valueBy
     -- or-requires
     (λ c κs. sym (c .before .before .decided2 .ensures) ∙ c .before .if2 .left)
     -- eval-requires-6
-    (λ c κs.
-    let h = c in
-    call-a (h .before .before .before .pre) (h .before .node-at .ensures) (omega arith))
+    (λ c κs. call-a (c .before .before .before .pre) (c .before .node-at .ensures) (omega arith))
     -- type-at-requires-4
     (λ c κs.
     let h = c .before in
@@ -160,15 +146,11 @@ unfolding valueBy
     -- xor-requires
     (λ c κs. search needs)
     -- eval-requires-8
-    (λ c κs.
-    let h = c in
-    call-a (h .before .before .before .pre) (h .before .node-at .ensures) (omega arith))
+    (λ c κs. call-a (c .before .before .before .pre) (c .before .node-at .ensures) (omega arith))
     -- negate-requires
     (λ c κs. search needs)
     -- eval-requires-9
-    (λ c κs.
-    let h = c in
-    call-a (h .before .before .before .pre) (h .before .node-at .ensures) (omega arith))
+    (λ c κs. call-a (c .before .before .before .pre) (c .before .node-at .ensures) (omega arith))
     -- eval-requires-10
     (λ c κs.
     let h = c .before in
@@ -176,9 +158,7 @@ unfolding valueBy
     -- plus-requires
     (λ c κs. search needs)
     -- eval-requires-11
-    (λ c κs.
-    let h = c in
-    call-a (h .before .before .before .pre) (h .before .node-at .ensures) (omega arith))
+    (λ c κs. call-a (c .before .before .before .pre) (c .before .node-at .ensures) (omega arith))
     -- eval-requires-12
     (λ c κs.
     let h = c .before in
@@ -186,9 +166,7 @@ unfolding valueBy
     -- minus-requires
     (λ c κs. search needs)
     -- eval-requires-13
-    (λ c κs.
-    let h = c in
-    call-a (h .before .before .before .pre) (h .before .node-at .ensures) (omega arith))
+    (λ c κs. call-a (c .before .before .before .pre) (c .before .node-at .ensures) (omega arith))
     -- eval-requires-14
     (λ c κs.
     let h = c .before in
@@ -196,9 +174,7 @@ unfolding valueBy
     -- equal-requires
     (λ c κs. search needs)
     -- eval-requires-15
-    (λ c κs.
-    let h = c in
-    call-a (h .before .before .before .pre) (h .before .node-at .ensures) (omega arith))
+    (λ c κs. call-a (c .before .before .before .pre) (c .before .node-at .ensures) (omega arith))
     -- eval-requires-16
     (λ c κs.
     let h = c .before in
@@ -206,13 +182,9 @@ unfolding valueBy
     -- less-requires
     (λ c κs. search needs)
     -- returns-3
-    (λ c.
-    let h = c in
-    leaf-value (h .before .before .before .pre) (h .before .node-at .ensures) _ refl (λ p q. rw (h .match .keys1)))
+    (λ c. leaf-value (c .before .before .before .pre) (c .before .node-at .ensures) _ refl (λ p q. rw (c .match .keys1)))
     -- returns-4
-    (λ c.
-    let h = c in
-    leaf-value (h .before .before .before .pre) (h .before .node-at .ensures) _ refl (λ p q. rw (h .match .keys2)))
+    (λ c. leaf-value (c .before .before .before .pre) (c .before .node-at .ensures) _ refl (λ p q. rw (c .match .keys2)))
     -- returns-5
     (λ c.
     let h = c .before in

@@ -9,7 +9,7 @@ signal-of-spec =
     (tie.spec
     -- mul-t4
     (λ c. search needs)
-    -- wide-requires
+    -- wide32-requires
     (λ c κs. search needs)
     -- add-t6
     (λ c. search needs)
@@ -18,4 +18,4 @@ signal-of-spec =
     -- element-copy-out-t10
     (λ c. search needs)
     -- returns
-    (λ c. rw (c .before .wide .ensures)))
+    (λ c. rw (c .before .wide32 .ensures)))
