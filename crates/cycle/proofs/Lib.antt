@@ -12,7 +12,7 @@ pub mod Driving
 pub mod FirstReachable
 pub mod StepReachable
 pub mod AdvanceReachable
-pub mod Due
+pub mod DueTimes
 pub mod Invariant
 pub mod Plays
 pub mod Outcomes

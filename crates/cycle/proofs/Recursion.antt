@@ -15,11 +15,11 @@ use Rattle.cycle.specs.Evaluation.{Environment, valueBy, evalOf}
 use Rattle.cycle.specs.View.{Runs}
 use Rattle.cycle.proofs.Evaluation.{leaf, unary, binary}
 
--- what a call on node n is given, t being the measure
+-- what a call on node n is given
 abbrev pub Call : List ℕ → List ℕ → ℕ → Type 0
 Call m index n = Runs m index × (n < length (modelOf m .nodes))
 
--- node n has the record d
+-- node n has the record d; t is the measure
 module _ {m index : List ℕ} {n t : ℕ} (call : (n ≡ t) × Call m index n) {d : NodeRecord} (node : d ≡ nodeAt (modelOf m) n) where
   fits : NodeFits (modelOf m) n
   fits = call .1 .0 .facts .node n (call .1 .1)
