@@ -1,7 +1,7 @@
 -- What the arms of the loop behind pick and settle make of the struct, and that it then holds the configuration after the
 -- statement's effect.
 -- Assumes nothing.
-use mathlib.Core.Path.{_≡_, refl, sym, ap, _∙_}
+use mathlib.Core.Path.{_≡_, refl, _∙_}
 use mathlib.Core.Bool.{true, false}
 use mathlib.Core.List.{List}
 use mathlib.Core.Option.{none, some}

@@ -1,21 +1,20 @@
 -- What each return of pick, settle and read has to show. Assumes nothing.
-use mathlib.Core.Path.{_≡_, refl, sym, ap, _∙_}
-use mathlib.Core.Bool.{Bool, true, false, not}
+use mathlib.Core.Path.{_≡_, refl, ap, _∙_}
+use mathlib.Core.Bool.{true, false}
 use Prim.Native.Nat.{ℕ, _+_, _*_, _≤_, _<_}
 use native.Mathlib.Nat.{add-zero}
 use native.Mathlib.Omega.{arith}
-use lib.Dec.{eqb, ltb, leb}
+use lib.Dec.{ltb, leb}
 use lib.ListN.{length, getD}
 use borrow.Author.Tests.{le-leb, lt-leb, eq-eqb, ne-eqb}
 use Rattle.base.specs.Below.{anyBelow}
-use Rattle.base.specs.Cases.{pick}
 use Rattle.base.proofs.Course.{any-first}
 use Rattle.model.specs.Records.{Model}
 use Rattle.model.specs.Facts.{Facts}
-use Rattle.cycle.specs.Configuration.{Configuration, processIn}
+use Rattle.cycle.specs.Configuration.{Configuration}
 use Rattle.cycle.specs.Statements.{stepped}
-use Rattle.cycle.specs.Orders.{Outcome, refused, isReady, pickDone, picked, lowestReady, Settled, settledFrom, settleDone, settled, readOf}
-use Rattle.cycle.specs.Turns.{settledIn, turnsDone, turnsOf}
+use Rattle.cycle.specs.Orders.{Outcome, refused, isReady, pickDone, picked, lowestReady, settledFrom, settled, readOf}
+use Rattle.cycle.specs.Turns.{turnsDone, turnsOf}
 use Rattle.cycle.specs.View.{viewOf, Fine, outcomeOf, Answers, AnswersEach}
 use Rattle.cycle.specs.declared.config.Config.{Config}
 use Rattle.cycle.specs.declared.turns.Answered.{Answered}

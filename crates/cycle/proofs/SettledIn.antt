@@ -4,17 +4,15 @@ use mathlib.Core.Bool.{Bool, true, false, _&&_}
 use mathlib.Core.Logic.{⊎-elim}
 use Prim.Native.Nat.{ℕ, zero, suc, _+_, _≤_, _<_}
 use native.Mathlib.Omega.{arith}
-use lib.Dec.{ltb, leb}
+use lib.Dec.{leb}
 use lib.ListN.{length}
 use borrow.Author.Tests.{lt-ltb, le-ltb, le-leb, lt-leb}
-use Rattle.base.specs.Cases.{pick}
-use Rattle.base.specs.Course.{firstWith}
 use Rattle.base.proofs.Below.{split}
 use Rattle.base.proofs.Course.{first-found, first-none, first-same}
 use Rattle.model.specs.Records.{Model}
 use Rattle.cycle.specs.Configuration.{Configuration}
 use Rattle.cycle.specs.Statements.{stepped}
-use Rattle.cycle.specs.Orders.{Settled, isReady, lowestReady, settledFrom}
+use Rattle.cycle.specs.Orders.{isReady, lowestReady, settledFrom}
 use Rattle.cycle.specs.Turns.{lowestIn, settledIn}
 
 -- no process of those from `from` on and below p is ready

@@ -1,7 +1,6 @@
 -- The loop behind pick and settle: what it keeps true, turn by turn. Assumes nothing.
 use mathlib.Core.Path.{_≡_, refl, sym, ap, _∙_}
 use mathlib.Core.Bool.{Bool, true, false, _&&_}
-use mathlib.Core.List.{List}
 use mathlib.Core.Logic.{⊎-elim}
 use Prim.Native.Nat.{ℕ, suc, _+_, _-_, _≤_, _<_}
 use native.Mathlib.Decide.{ℕ-discrete}
@@ -19,8 +18,7 @@ use Rattle.model.specs.Records.{Model, processAt, statementAt}
 use Rattle.model.specs.Fields.{endOf, ownerOf}
 use Rattle.model.specs.Facts.{Spans, Facts}
 use Rattle.model.specs.declared.records.ProcessRecord.{ProcessRecord}
-use Rattle.cycle.specs.Configuration.{Configuration, driverIn}
-use Rattle.cycle.specs.Evaluation.{environmentOf}
+use Rattle.cycle.specs.Configuration.{driverIn}
 use Rattle.cycle.specs.Statements.{nextPlace, applied, effectBy, effectOf, stepped}
 use Rattle.cycle.specs.Orders.{isReady}
 use Rattle.cycle.specs.Turns.{settledIn, turnsOf}
@@ -33,11 +31,11 @@ use Rattle.cycle.specs.declared.effect.Effect.{Effect}
 use Rattle.cycle.specs.declared.effect.Effect.the-variants.{Skip, Store, Schedule, Jump, Wait, WaitFor, Stop}
 use Rattle.cycle.proofs.Drivers.{pending-length}
 use Rattle.cycle.proofs.Effects.{own-statement, placed, effect-fits}
-use Rattle.cycle.proofs.Evaluation.{agree}
-use Rattle.cycle.proofs.Picks.{effect-same, standing-stays}
+use Rattle.cycle.proofs.ArraysAgree.{effect-viewed}
+use Rattle.cycle.proofs.Picks.{standing-stays}
 use Rattle.cycle.proofs.StepReachable.{stepped-reachable}
 use Rattle.cycle.proofs.Waves.{rising-from}
-use Rattle.cycle.proofs.ViewLaws.{past-in, pending-in, place-in, standing-in, deadline-in, variable-in, ns-is, nd-is, np-is, nv-is}
+use Rattle.cycle.proofs.ViewLaws.{pending-in, place-in, standing-in, deadline-in, nd-is, np-is}
 use Rattle.cycle.proofs.SettledIn.{Passed, in-over, in-none, in-turn}
 use Rattle.cycle.proofs.Changes.{Sized, movedTo, scheduledTo, waitsUntil, stopsBy, moved-sized, scheduled-sized, waits-sized, stops-sized, skip-view, store-view, jump-view, wait-view, wait-for-view, stop-view, schedule-view, full-view}
 
@@ -73,11 +71,7 @@ module _ (M : Model) (fs : Facts M) (c : Config) (f : Fine M c) (p : ℕ) (h : p
   unfolding effectOf
   effect-is =
       rw (fs .process p process-there .owner place spans, place-in c p h)
-      (effect-same M p (arrays (c .variables) (c .signals)) (environmentOf (viewOf c .variables) (viewOf c .signals))
-      (agree M fs _ _ p
-      (λ s k a b. sym (past-in c s k (omega (arith, ns-is M c (f .reachable))) (omega arith)))
-      (λ a b o. sym (variable-in c a (omega (arith, nv-is M c (f .reachable))))))
-      (statementAt M place) (own-statement M fs p process-there place spans))
+      (effect-viewed M fs c (f .reachable) p (statementAt M place) (own-statement M fs p process-there place spans))
 
 -- the test of the loop
 pub goes-on : (n count p end : ℕ) → (ltb n count && ltb p end) ≡ true → (n < count) × (p < end)

@@ -1,16 +1,13 @@
 -- The view of the struct: its lengths and elements, and what a change of the struct does to it. Assumes nothing.
 use mathlib.Core.Path.{_≡_, refl, sym, ap, _∙_}
 use mathlib.Core.List.{List, []}
-use mathlib.Core.Option.{Option}
-use Prim.Native.Nat.{ℕ, _+_, _*_, _≤_, _<_}
-use native.Mathlib.Omega.{arith}
+use Prim.Native.Nat.{ℕ, _+_, _*_, _<_}
 use lib.ListN.{length, getD, set}
 use lib.Seq.{getD-set-same, getD-set-other}
 use Rattle.base.specs.Below.{listBelow}
-use Rattle.base.proofs.Below.{list-length, list-at, list-same, list-change}
+use Rattle.base.proofs.Below.{list-length, list-at, list-change}
 use Rattle.model.specs.Records.{Model}
-use Rattle.model.specs.Facts.{TotalsFit}
-use Rattle.cycle.specs.Configuration.{DriverState, ProcessState, Configuration, driverIn, processIn, pastOf}
+use Rattle.cycle.specs.Configuration.{DriverState, ProcessState, driverIn, processIn, pastOf}
 use Rattle.cycle.specs.Statements.{moved, waits, stops}
 use Rattle.cycle.specs.Invariant.{Reachable}
 use Rattle.cycle.specs.View.{pendingOf, noDriver, deadlineOf, historyOf, driverView, processView, viewOf}

@@ -11,6 +11,7 @@ use crate::due::earliest_driver;
 use crate::turns::Answered;
 
 impl Config {
+    // A refused order hands the configuration back as it was.
     pub fn refused(self, n: usize) -> Answered
         ensures { λ r. ⌜ AnswersEach self r (λ M. refused n (viewOf self)) ⌝ }
     {
@@ -23,6 +24,7 @@ impl Config {
         }
     }
 
+    // One statement of process p.
     pub fn pick<'a>(self, m: &'a [u8], index: &'a [u16; 1376], p: usize) -> Answered
         requires { ⌜ Runs (now m) (now index) ⌝ }
         requires { ⌜ Fine (modelOf (now m)) self ⌝ }
@@ -42,6 +44,7 @@ impl Config {
         r
     }
 
+    // Picks of the lowest ready process until none is ready or count picks are made.
     pub fn settle<'a>(self, m: &'a [u8], index: &'a [u16; 1376], count: usize) -> Answered
         requires { ⌜ Runs (now m) (now index) ⌝ }
         requires { ⌜ Fine (modelOf (now m)) self ⌝ }
@@ -51,6 +54,7 @@ impl Config {
         self.turns(m, index, 0, np, count)
     }
 
+    // The current value of signal s.
     pub fn read(self, s: usize) -> Answered
         requires { ⌜ self .ns ≤ 32 ⌝ }
         ensures { λ r. ⌜ AnswersEach self r (λ M. readOf M s (viewOf self)) ⌝ }

@@ -1,6 +1,6 @@
 -- `cycle::config::Config::turns` meets its contract: the loop keeps `Turning`, and each arm makes a `Turn`. The measure is what is
 -- left of the picks and of the processes.
-use mathlib.Core.Path.{_≡_, refl}
+use mathlib.Core.Path.{refl}
 use Prim.Native.Nat.{_+_, _-_, _<_}
 use native.Mathlib.Omega.{arith}
 use lib.ListN.{length, getD}
