@@ -1,11 +1,11 @@
 -- The laws of `allBelow`, `anyBelow`, `sumBelow` and `joinBelow` that a counting loop cites. Assumes nothing.
-use mathlib.Core.Path.{_≡_, refl, sym, ap, _∙_}
+use mathlib.Core.Path.{_≡_, refl, sym, _∙_}
 use mathlib.Core.Logic.{⊎-elim, _⊎_, inl, inr}
-use native.Mathlib.Decide.{decLt}
+use native.Mathlib.Decide.{decLt, ℕ-discrete}
 use mathlib.Core.Bool.{Bool, true, false, _&&_, _||_}
 use mathlib.Core.List.{List, [], _∷_, _++_, append-assoc, append-nil}
-use lib.ListN.{length, getD, take, drop, set, length-append, length-take, take-append-drop, List·getD-append}
-use lib.Seq.{drop-cons, set-at, getD-append-add, take-at, drop-append-add, drop-drop}
+use lib.ListN.{length, getD, take, drop, set, length-append, length-set, length-take, take-append-drop, List·getD-append}
+use lib.Seq.{drop-cons, set-at, getD-append-add, getD-set-same, getD-set-other, ext-getD, take-at, drop-append-add, drop-drop}
 use Prim.Native.Nat.{ℕ, zero, suc, _+_, _-_, _≤_, _<_}
 use native.Mathlib.Nat.{le-antisymm, not-suc-le-zero, eq-or-lt-of-le, le-of-suc-le-suc}
 use native.Mathlib.Numerals.{add-one}
@@ -105,6 +105,27 @@ module _ (f : ℕ → Bool) where
   any-found zero i h t = absurd (not-suc-le-zero h)
   any-found (suc n) i h t = ⊎-elim (λ (e : i ≡ n). or-second (anyBelow f n) (f n) (rw e at t)) (λ (l : i < n). rw (any-found n i l t)) (eq-or-lt-of-le (le-of-suc-le-suc h))
 
+  -- each number fails
+  pub any-fails : (n : ℕ) → ((i : ℕ) → i < n → f i ≡ false) → anyBelow f n ≡ false
+  unfolding anyBelow
+  any-fails zero h = refl
+  any-fails (suc n) h = rw (any-fails n (λ i l. h i (omega arith)), h n (omega arith))
+
+  -- one turn more
+  pub any-more : (i : ℕ) → anyBelow f i ≡ false → f i ≡ false → anyBelow f (i + 1) ≡ false
+  unfolding anyBelow
+  any-more i h t = rw (add-one, h, t)
+
+  -- all turns are done
+  pub any-done : (n i : ℕ) → i ≤ n → n ≤ i → anyBelow f i ≡ false → false ≡ anyBelow f n
+  any-done n i h k t = rw (le-antisymm h k) at (sym t)
+
+-- two tests that agree below n
+pub any-same : (f g : ℕ → Bool) (n : ℕ) → ((i : ℕ) → i < n → f i ≡ g i) → anyBelow f n ≡ anyBelow g n
+unfolding anyBelow
+any-same f g zero h = refl
+any-same f g (suc n) h = rw (any-same f g n (λ i l. h i (omega arith)), h n (omega arith))
+
 -- a test that holds of no number below n
 pub any-none : (f : ℕ → Bool) (n : ℕ) → anyBelow f n ≡ false → (i : ℕ) → i < n → f i ≡ false
 unfolding anyBelow
@@ -153,6 +174,33 @@ module _ {A : Type 0} (f : ℕ → A) where
       at-append (λ (x : A). x ≡ f j) (listBelow f n) (f n ∷ []) d j
       (λ l. let g : j < n = rw (list-length n) at l in list-at d n j g)
       (λ k e. let g : k ≡ 0 = omega (arith, list-length n) in let i : j ≡ n = omega (arith, list-length n) in rw (g, i))
+
+  -- the first element, then the rest
+  pub list-first : (n : ℕ) → listBelow f (suc n) ≡ f 0 ∷ listBelow (λ j. f (suc j)) n
+  unfolding listBelow
+  list-first zero = refl
+  list-first (suc n) = rw (list-first n)
+
+module _ {A : Type 0} (f g : ℕ → A) where
+  -- lists of the same elements
+  pub list-same : (n : ℕ) → ((j : ℕ) → j < n → f j ≡ g j) → listBelow f n ≡ listBelow g n
+  unfolding listBelow
+  list-same zero h = refl
+  list-same (suc n) h = rw (list-same n (λ j l. h j (omega arith)), h n (omega arith))
+
+  -- lists of the same elements but for that at i
+  pub list-change : (n i : ℕ) → ((j : ℕ) → (j ≡ i → ⊥) → g j ≡ f j) → listBelow g n ≡ set (listBelow f n) i (g i)
+  list-change n i h =
+      ext-getD (g i) (listBelow g n) (set (listBelow f n) i (g i)) (list-length g n ∙ sym (length-set (listBelow f n) i (g i) ∙ list-length f n))
+      (λ j l. at j (rw (list-length g n) at l))
+    where
+      at : (j : ℕ) → j < n → getD (listBelow g n) j (g i) ≡ getD (set (listBelow f n) i (g i)) j (g i)
+      at j l =
+          list-at g (g i) n j l
+          ∙ elim (ℕ-discrete j i) [
+            | yes q ↦ let m : j < length (listBelow f n) = omega (arith, list-length f n) in rw (← q, getD-set-same (listBelow f n) j (g j) (g j) m)
+            | no q ↦ rw (getD-set-other (listBelow f n) i j (g i) (g i) q, list-at f (g i) n j l) (h j q)
+          ]
 
 module _ {A : Type 0} (f : ℕ → List A) where
   pub join-none : joinBelow f 0 ≡ []
@@ -235,3 +283,12 @@ pub among : (P : ℕ → Type 0) (lo n k : ℕ) → Each P lo n → lo ≤ k →
 among P lo zero k e l h = absurd (omega arith)
 among P lo (suc n) k e l h =
     ⊎-elim (λ (q : lo ≡ k). rw q at (e .0)) (λ (q : lo < k). among P (suc lo) n k (e .1) q (omega arith)) (eq-or-lt-of-le l)
+
+-- none of the n numbers from lo on, as the last arm of a `match` knows it
+abbrev pub NoneOf : ℕ → ℕ → ℕ → Type 0
+NoneOf k lo zero = Unit {0}
+NoneOf k lo (suc n) = NoneOf k lo n × (k ≡ lo + n → ⊥)
+
+pub none-of : (lo n k : ℕ) → NoneOf k lo n → lo ≤ k → k < lo + n → ⊥
+none-of lo zero k h l m = omega arith
+none-of lo (suc n) k h l m = ⊎-elim (λ (e : k ≡ lo + n). h .1 e) (λ (q : k < lo + n). none-of lo n k (h .0) l q) (eq-or-lt-of-le (omega arith))

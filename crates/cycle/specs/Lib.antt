@@ -4,3 +4,6 @@ pub mod Statements
 pub mod Steps
 pub mod Orders
 pub mod Invariant
+pub mod View
+pub mod Waveform
+pub mod Turns
