@@ -1,6 +1,9 @@
 pub mod Lists
 pub mod Evaluation
 pub mod Effects
+pub mod ArraysAgree
+pub mod Statements
+pub mod Recursion
 pub mod Signed
 pub mod Logical
 pub mod Earliest

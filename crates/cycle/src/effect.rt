@@ -14,6 +14,7 @@ ghost use Rattle.cycle.specs.Statements.{withValue, withDelay, effectBy}
 ghost use Rattle.cycle.specs.View.{arrays, Runs};
 use crate::eval::Value;
 use crate::eval::eval;
+use crate::eval::wide16;
 use crate::operators::int;
 use model::index::statement_at;
 
@@ -35,19 +36,13 @@ pub enum Effect {
     Stop(u32),
 }
 
-fn narrow(x: u16) -> usize
-    ensures { λ r. ⌜ r ≡ x ⌝ }
-{
-    x as usize
-}
-
 // The driver of statement n, a signal assignment of the model that the index is of.
 fn sender_at(index: &[u16; 1376], n: usize) -> usize
     requires { ⌜ n < 200 ⌝ }
     ensures { λ r. ⌜ ((m : List ℕ) → Usable m (now (index .entry)) → n < length (modelOf m .statements) → statementAt (modelOf m) n .kind ≡ 2
         → r ≡ driverFor (modelOf m) (ownerOf (modelOf m) n) (statementAt (modelOf m) n .a)) ⌝ }
 {
-    narrow(index[1176 + n])
+    wide16(index[1176 + n])
 }
 
 fn store(a: usize, v: Value) -> Effect

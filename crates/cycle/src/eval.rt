@@ -27,7 +27,7 @@ pub enum Value {
     Fault(u32),
 }
 
-fn narrow(x: u16) -> usize
+pub fn wide16(x: u16) -> usize
     ensures { λ r. ⌜ r ≡ x ⌝ }
 {
     x as usize
@@ -38,7 +38,7 @@ fn type_at(index: &[u16; 1376], n: usize) -> usize
     requires { ⌜ n < 400 ⌝ }
     ensures { λ r. ⌜ ((m : List ℕ) → Usable m (now (index .entry)) → n < length (modelOf m .nodes) → r ≡ typeOf (modelOf m) n) ⌝ }
 {
-    narrow(index[776 + n])
+    wide16(index[776 + n])
 }
 
 fn variable_of(variables: &[u32; 64], a: usize) -> Value
@@ -48,7 +48,7 @@ fn variable_of(variables: &[u32; 64], a: usize) -> Value
     Value::Of(variables[a])
 }
 
-fn wide(x: u32) -> usize
+fn wide32(x: u32) -> usize
     ensures { λ r. ⌜ r ≡ x ⌝ }
 {
     x as usize
@@ -59,7 +59,7 @@ fn signal_of(signals: &[u32; 1024], a: usize, k: u32) -> Value
     requires { ⌜ (a < 32) × (k ≤ 31) ⌝ }
     ensures { λ r. ⌜ r ≡ Of (getD (now (signals .entry)) (32 * a + k) 0) ⌝ }
 {
-    Value::Of(signals[32 * a + wide(k)])
+    Value::Of(signals[32 * a + wide32(k)])
 }
 
 // The value of node n. Operands are evaluated by this function, a before b.

@@ -1,6 +1,5 @@
 -- `in_range`: its two tests are that of `ranged`. Assumes nothing.
 use mathlib.Core.Path.{ap, _∙_}
-use lib.IntN.{ℤ}
 use mir.Syntax.{w32}
 use mir.Val.{ofZ}
 use mir.Facts.{toZ-ofZ}
