@@ -260,3 +260,12 @@ pub among : (P : ℕ → Type 0) (lo n k : ℕ) → Each P lo n → lo ≤ k →
 among P lo zero k e l h = absurd (omega arith)
 among P lo (suc n) k e l h =
     ⊎-elim (λ (q : lo ≡ k). rw q at (e .0)) (λ (q : lo < k). among P (suc lo) n k (e .1) q (omega arith)) (eq-or-lt-of-le l)
+
+-- none of the n numbers from lo on, as the last arm of a `match` knows it
+abbrev pub NoneOf : ℕ → ℕ → ℕ → Type 0
+NoneOf k lo zero = Unit {0}
+NoneOf k lo (suc n) = NoneOf k lo n × (k ≡ lo + n → ⊥)
+
+pub none-of : (lo n k : ℕ) → NoneOf k lo n → lo ≤ k → k < lo + n → ⊥
+none-of lo zero k h l m = omega arith
+none-of lo (suc n) k h l m = ⊎-elim (λ (e : k ≡ lo + n). h .1 e) (λ (q : k < lo + n). none-of lo n k (h .0) l q) (eq-or-lt-of-le (omega arith))

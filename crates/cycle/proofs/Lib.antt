@@ -1,6 +1,10 @@
 pub mod Lists
 pub mod Evaluation
 pub mod Effects
+pub mod Statements
+pub mod Recursion
+pub mod Signed
+pub mod Logical
 pub mod Earliest
 pub mod Waves
 pub mod Drivers

@@ -1,7 +1,7 @@
 -- The value of an expression: node kinds 1 to 14.
 -- "1 integer k; 2 logic k; 3 variable a; 4 signal a; 5 signal a delayed by k, 0 to 31; 6 not a; 7 and; 8 or; 9 xor; 10 negate
 -- a; 11 a + b; 12 a - b; 13 equal; 14 less."
-use mathlib.Core.Bool.{Bool, true, false, not}
+use mathlib.Core.Bool.{Bool, true, false, not, _&&_}
 use mathlib.Core.List.{List, [], _∷_}
 use Prim.Native.Nat.{ℕ}
 use lib.Dec.{eqb, ltb}
@@ -69,6 +69,11 @@ two p q f = one p (λ x. one q (λ y. f x y))
 -- "boolean `and` and `or` skip b when a decides": a false decides `and`, a true `or`; else b is the value
 abbrev pub unlessFirst : ℕ → Value → Value → Value
 unlessFirst decides p q = one p (λ x. pick (eqb x decides) (Of x) q)
+
+-- b is not evaluated: a is a fault, or a boolean that decides
+abbrev pub decidedBy : ℕ → Value → ℕ → Bool
+decidedBy ty (Fault e) decides = true
+decidedBy ty (Of x) decides = eqb ty boolean && eqb x decides
 
 -- "6 to 9 take logic or boolean, both alike": by the node's type
 abbrev pub notBy : ℕ → Value → Value

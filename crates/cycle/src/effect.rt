@@ -1,4 +1,17 @@
 // What a statement does.
+ghost use mathlib.Core.Path.{_≡_};
+ghost use mathlib.Core.List.{List};
+ghost use Prim.Native.Nat.{ℕ, _<_};
+ghost use lib.Dec.{eqb};
+ghost use lib.ListN.{length};
+ghost use Rattle.base.specs.Cases.{pick};
+ghost use Rattle.model.specs.Records.{modelOf, statementAt};
+ghost use Rattle.model.specs.Fields.{ownerOf};
+ghost use Rattle.model.specs.Owners.{driverFor};
+ghost use Rattle.model.specs.Index.{Usable};
+ghost use Rattle.cycle.specs.declared.effect.Effect.the-variants.{Skip, Store, Schedule, Jump, WaitFor};
+ghost use Rattle.cycle.specs.Statements.{withValue, withDelay, effectBy};
+ghost use Rattle.cycle.specs.View.{arrays, Runs};
 use crate::eval::Value;
 use crate::eval::eval;
 use crate::operators::int;
@@ -22,23 +35,33 @@ pub enum Effect {
     Stop(u32),
 }
 
-fn narrow(x: u16) -> usize {
+fn narrow(x: u16) -> usize
+    ensures { λ r. ⌜ r ≡ x ⌝ }
+{
     x as usize
 }
 
-// The driver of statement n, a signal assignment, as the index has it.
-fn sender_at(index: &[u16; 1376], n: usize) -> usize {
+// The driver of statement n, a signal assignment of the model that the index is of.
+fn sender_at(index: &[u16; 1376], n: usize) -> usize
+    requires { ⌜ n < 200 ⌝ }
+    ensures { λ r. ⌜ ((m : List ℕ) → Usable m (now (index .entry)) → n < length (modelOf m .statements) → statementAt (modelOf m) n .kind ≡ 2
+        → r ≡ driverFor (modelOf m) (ownerOf (modelOf m) n) (statementAt (modelOf m) n .a)) ⌝ }
+{
     narrow(index[1176 + n])
 }
 
-fn store(a: usize, v: Value) -> Effect {
+fn store(a: usize, v: Value) -> Effect
+    ensures { λ r. ⌜ r ≡ withValue v (λ x. Store a x) ⌝ }
+{
     match v {
         Value::Fault(f) => Effect::Stop(f),
         Value::Of(x) => Effect::Store(a, x),
     }
 }
 
-fn branch(a: usize, v: Value) -> Effect {
+fn branch(a: usize, v: Value) -> Effect
+    ensures { λ r. ⌜ r ≡ withValue v (λ x. pick (eqb x 0) (Jump a) Skip) ⌝ }
+{
     match v {
         Value::Fault(f) => Effect::Stop(f),
         Value::Of(x) => {
@@ -52,7 +75,9 @@ fn branch(a: usize, v: Value) -> Effect {
 }
 
 // A schedule on driver k: fault 2 for a negative delay.
-fn send(k: usize, v: Value, c: Value) -> Effect {
+fn send(k: usize, v: Value, c: Value) -> Effect
+    ensures { λ r. ⌜ r ≡ withValue v (λ x. withDelay c (λ d. Schedule k d x)) ⌝ }
+{
     match v {
         Value::Fault(f) => Effect::Stop(f),
         Value::Of(x) => match c {
@@ -68,7 +93,9 @@ fn send(k: usize, v: Value, c: Value) -> Effect {
     }
 }
 
-fn wait_for(c: Value) -> Effect {
+fn wait_for(c: Value) -> Effect
+    ensures { λ r. ⌜ r ≡ withDelay c WaitFor ⌝ }
+{
     match c {
         Value::Fault(f) => Effect::Stop(f),
         Value::Of(d) => {
@@ -88,7 +115,11 @@ pub fn does<'a>(
     variables: &'a [u32; 64],
     signals: &'a [u32; 1024],
     n: usize,
-) -> Effect {
+) -> Effect
+    requires { ⌜ Runs (now m) (now index) ⌝ }
+    requires { ⌜ n < length (modelOf (now m) .statements) ⌝ }
+    ensures { λ r. ⌜ r ≡ effectBy (modelOf (now (m .entry))) (arrays (now (variables .entry)) (now (signals .entry))) (ownerOf (modelOf (now (m .entry))) n) (statementAt (modelOf (now (m .entry))) n) ⌝ }
+{
     let s = statement_at(m, index, n);
     let kind = s.kind;
     match kind {

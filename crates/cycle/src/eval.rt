@@ -1,4 +1,14 @@
 // The value of an expression.
+ghost use mathlib.Core.Path.{_≡_};
+ghost use mathlib.Core.List.{List};
+ghost use Prim.Native.Nat.{ℕ, _+_, _*_, _≤_, _<_};
+ghost use lib.ListN.{length, getD};
+ghost use Rattle.model.specs.Records.{modelOf};
+ghost use Rattle.model.specs.Trees.{typeOf};
+ghost use Rattle.model.specs.Index.{Usable};
+ghost use Rattle.cycle.specs.declared.eval.Value.the-variants.{Of};
+ghost use Rattle.cycle.specs.Evaluation.{evalOf};
+ghost use Rattle.cycle.specs.View.{arrays, Runs};
 use crate::operators::and;
 use crate::operators::decided;
 use crate::operators::equal;
@@ -17,25 +27,38 @@ pub enum Value {
     Fault(u32),
 }
 
-fn narrow(x: u16) -> usize {
+fn narrow(x: u16) -> usize
+    ensures { λ r. ⌜ r ≡ x ⌝ }
+{
     x as usize
 }
 
-// The type of node n, as the index has it.
-fn type_at(index: &[u16; 1376], n: usize) -> usize {
+// The type of node n of the model that the index is of.
+fn type_at(index: &[u16; 1376], n: usize) -> usize
+    requires { ⌜ n < 400 ⌝ }
+    ensures { λ r. ⌜ ((m : List ℕ) → Usable m (now (index .entry)) → n < length (modelOf m .nodes) → r ≡ typeOf (modelOf m) n) ⌝ }
+{
     narrow(index[776 + n])
 }
 
-fn variable_of(variables: &[u32; 64], a: usize) -> Value {
+fn variable_of(variables: &[u32; 64], a: usize) -> Value
+    requires { ⌜ a < 64 ⌝ }
+    ensures { λ r. ⌜ r ≡ Of (getD (now (variables .entry)) a 0) ⌝ }
+{
     Value::Of(variables[a])
 }
 
-fn wide(x: u32) -> usize {
+fn wide(x: u32) -> usize
+    ensures { λ r. ⌜ r ≡ x ⌝ }
+{
     x as usize
 }
 
 // Signal a, k units ago.
-fn signal_of(signals: &[u32; 1024], a: usize, k: u32) -> Value {
+fn signal_of(signals: &[u32; 1024], a: usize, k: u32) -> Value
+    requires { ⌜ (a < 32) × (k ≤ 31) ⌝ }
+    ensures { λ r. ⌜ r ≡ Of (getD (now (signals .entry)) (32 * a + k) 0) ⌝ }
+{
     Value::Of(signals[32 * a + wide(k)])
 }
 
@@ -46,7 +69,11 @@ pub fn eval<'a>(
     variables: &'a [u32; 64],
     signals: &'a [u32; 1024],
     n: usize,
-) -> Value {
+) -> Value
+    requires { ⌜ Runs (now m) (now index) ⌝ }
+    requires { ⌜ n < length (modelOf (now m) .nodes) ⌝ }
+    ensures { λ r. ⌜ r ≡ evalOf (modelOf (now (m .entry))) (arrays (now (variables .entry)) (now (signals .entry))) n ⌝ }
+{
     let d = node_at(m, index, n);
     let kind = d.kind;
     let a = d.a;

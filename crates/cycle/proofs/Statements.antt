@@ -1,0 +1,55 @@
+-- What the program finds of a statement: its operands, its driver and its delay. Assumes nothing.
+use mathlib.Core.Path.{_≡_}
+use mathlib.Core.Bool.{true, false}
+use mathlib.Core.List.{List}
+use Prim.Native.Nat.{ℕ, _+_, _<_}
+use native.Mathlib.Omega.{arith}
+use lib.ListN.{length}
+use lib.IntN.{ℤ, pos}
+use lib.Signed.{ltZ}
+use mir.Syntax.{w64}
+use mir.Val.{toZ, ofZ}
+use Rattle.base.proofs.Below.{NoneOf, none-of}
+use Rattle.model.specs.Records.{modelOf, statementAt}
+use Rattle.model.specs.Fields.{ownerOf}
+use Rattle.model.specs.Owners.{driverFor}
+use Rattle.model.specs.Facts.{StatementFits}
+use Rattle.model.specs.Index.{Usable}
+use Rattle.model.specs.declared.records.StatementRecord.{StatementRecord}
+use Rattle.cycle.specs.declared.eval.Value.{Value}
+use Rattle.cycle.specs.declared.eval.Value.the-variants.{Of, Fault}
+use Rattle.cycle.specs.declared.effect.Effect.{Effect}
+use Rattle.cycle.specs.declared.effect.Effect.the-variants.{Stop}
+use Rattle.cycle.specs.Evaluation.{int}
+use Rattle.cycle.specs.Statements.{withDelay}
+use Rattle.cycle.specs.View.{Runs}
+use Rattle.cycle.proofs.Signed.{not-negative, int-read}
+
+-- a delay, r being what `int` returned
+pub delay-fault : {v : Value} {f : ℕ} (next : ℕ → Effect) → v ≡ Fault f → Stop f ≡ withDelay v next
+unfolding withDelay
+delay-fault next h = rw h
+
+module _ {v : Value} {x : ℕ} {r : ℤ} (next : ℕ → Effect) (h : v ≡ Of x) (l : x < 4294967296) (e : r ≡ int x) where
+  pub delay-negative : ltZ (toZ w64 (ofZ w64 r)) (pos 0) ≡ true → Stop 2 ≡ withDelay v next
+  unfolding withDelay
+  delay-negative t = rw (h, simp (int-read x l e) at t)
+
+  pub delay-kept : ltZ (toZ w64 (ofZ w64 r)) (pos 0) ≡ false → next x ≡ withDelay v next
+  unfolding withDelay
+  delay-kept t = let s : ltZ (int x) (pos 0) ≡ false = rw (int-read x l e) at t in rw (h, s, not-negative x s)
+
+-- statement n, which the program read as s
+module _ {m index : List ℕ} {n : ℕ} (call : Runs m index × (n < length (modelOf m .statements))) {s : StatementRecord} (read : s ≡ statementAt (modelOf m) n) where
+  pub statement-fits : StatementFits (modelOf m) (ownerOf (modelOf m) n) s
+  statement-fits = rw read (call .0 .facts .statement n (call .1) .fits)
+
+  -- the driver that the index has
+  pub sender-known : {k : ℕ} → s .kind ≡ 2
+      → ((m : List ℕ) → Usable m index → n < length (modelOf m .statements) → statementAt (modelOf m) n .kind ≡ 2 → k ≡ driverFor (modelOf m) (ownerOf (modelOf m) n) (statementAt (modelOf m) n .a))
+      → k ≡ driverFor (modelOf m) (ownerOf (modelOf m) n) (s .a)
+  sender-known e f = rw read (f m (call .0 .usable) (call .1) (rw read at e))
+
+  -- the last arm is never taken
+  pub no-statement : {A : Type 0} → NoneOf (s .kind) 0 6 → A
+  no-statement h = absurd (none-of 0 6 (s .kind) h (omega arith) (omega (arith, statement-fits .kind)))
