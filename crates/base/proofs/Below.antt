@@ -105,6 +105,21 @@ module _ (f : ℕ → Bool) where
   any-found zero i h t = absurd (not-suc-le-zero h)
   any-found (suc n) i h t = ⊎-elim (λ (e : i ≡ n). or-second (anyBelow f n) (f n) (rw e at t)) (λ (l : i < n). rw (any-found n i l t)) (eq-or-lt-of-le (le-of-suc-le-suc h))
 
+  -- each number fails
+  pub any-fails : (n : ℕ) → ((i : ℕ) → i < n → f i ≡ false) → anyBelow f n ≡ false
+  unfolding anyBelow
+  any-fails zero h = refl
+  any-fails (suc n) h = rw (any-fails n (λ i l. h i (omega arith)), h n (omega arith))
+
+  -- one turn more
+  pub any-more : (i : ℕ) → anyBelow f i ≡ false → f i ≡ false → anyBelow f (i + 1) ≡ false
+  unfolding anyBelow
+  any-more i h t = rw (add-one, h, t)
+
+  -- all turns are done
+  pub any-done : (n i : ℕ) → i ≤ n → n ≤ i → anyBelow f i ≡ false → false ≡ anyBelow f n
+  any-done n i h k t = rw (le-antisymm h k) at (sym t)
+
 -- a test that holds of no number below n
 pub any-none : (f : ℕ → Bool) (n : ℕ) → anyBelow f n ≡ false → (i : ℕ) → i < n → f i ≡ false
 unfolding anyBelow
@@ -153,6 +168,12 @@ module _ {A : Type 0} (f : ℕ → A) where
       at-append (λ (x : A). x ≡ f j) (listBelow f n) (f n ∷ []) d j
       (λ l. let g : j < n = rw (list-length n) at l in list-at d n j g)
       (λ k e. let g : k ≡ 0 = omega (arith, list-length n) in let i : j ≡ n = omega (arith, list-length n) in rw (g, i))
+
+  -- the first element, then the rest
+  pub list-first : (n : ℕ) → listBelow f (suc n) ≡ f 0 ∷ listBelow (λ j. f (suc j)) n
+  unfolding listBelow
+  list-first zero = refl
+  list-first (suc n) = rw (list-first n)
 
 module _ {A : Type 0} (f g : ℕ → A) where
   -- lists of the same elements

@@ -8,10 +8,14 @@ use Prim.Native.Nat.{ℕ, zero, suc, _+_, _<_, _≤_}
 use native.Mathlib.Nat.{eq-or-lt-of-le, le-of-suc-le-suc, not-suc-le-zero}
 use native.Mathlib.Numerals.{add-one}
 use native.Mathlib.Omega.{arith}
+use lib.Dec.{ltb}
 use lib.ListN.{length, getD, length-append, List·getD-append}
 use lib.Seq.{getD-at}
+use borrow.Author.Tests.{lt-ltb, le-ltb}
+use Rattle.base.specs.Below.{anyBelow}
 use Rattle.base.specs.Cases.{pick}
 use Rattle.base.specs.Course.{upTo, course, firstWith}
+use Rattle.base.proofs.Below.{split, any-found, any-fails}
 
 module _ {A : Type 0} (f : ℕ → List A → A) where
   -- there are n entries of the first n numbers
@@ -101,3 +105,11 @@ pub first-within : (f : ℕ → Bool) (n : ℕ) → firstWith f n ≤ n
 unfolding firstWith
 first-within f zero = omega arith
 first-within f (suc n) = elim (f 0) as (λ x. pick x 0 (suc (firstWith (λ i. f (suc i)) n)) ≤ suc n) [ true ↦ omega arith | false ↦ omega (arith, first-within (λ i. f (suc i)) n) ]
+
+-- some number below n passes where the first that does is below n
+pub any-first : (f : ℕ → Bool) (n : ℕ) → anyBelow f n ≡ ltb (firstWith f n) n
+any-first f n =
+    ⊎-elim
+    (λ (l : firstWith f n < n). any-found f n (firstWith f n) l (first-at f n l) ∙ sym (lt-ltb (firstWith f n) n l))
+    (λ (g : n ≤ firstWith f n). any-fails f n (λ k h. first-before f n k (omega arith)) ∙ sym (le-ltb (firstWith f n) n g))
+    (split (firstWith f n) n)

@@ -1,13 +1,14 @@
 -- The earliest of the times at which something is due. Assumes nothing.
-use mathlib.Core.Path.{_≡_}
+use mathlib.Core.Path.{_≡_, refl}
 use mathlib.Core.Logic.{⊎-elim}
 use mathlib.Core.List.{List, [], _∷_, _++_}
 use mathlib.Core.Option.{some}
-use Prim.Native.Nat.{ℕ, _≤_, _<_, min}
+use Prim.Native.Nat.{ℕ, _+_, _≤_, _<_, min}
+use native.Mathlib.Nat.{le-antisymm}
 use native.Mathlib.Omega.{arith}
 use lib.ListN.{length}
-use Rattle.base.proofs.Below.{split}
-use Rattle.base.specs.Below.{joinBelow}
+use Rattle.base.proofs.Below.{split, list-none, list-more}
+use Rattle.base.specs.Below.{joinBelow, listBelow}
 use Rattle.cycle.specs.Orders.{least, earliest, timesIn, optional, dueTimes}
 use Rattle.cycle.specs.Configuration.{Configuration, driverIn, processIn}
 use Rattle.model.specs.Records.{Model}
@@ -21,6 +22,22 @@ from-least s t (u ∷ us) h = let r = from-least s (min t u) us h in (omega (ari
 pub none-earlier : (ts : List ℕ) (t : ℕ) → earliest ts ≡ some t → All (λ u. t ≤ u) ts
 none-earlier [] t e = tt
 none-earlier (u ∷ us) t e = let q : least u us ≡ t = cc in from-least t u us (omega arith)
+
+-- one time more
+least-more : (s : ℕ) (ts : List ℕ) (t : ℕ) → least s (ts ++ (t ∷ [])) ≡ min (least s ts) t
+least-more s [] t = refl
+least-more s (u ∷ us) t = least-more (min s u) us t
+
+-- a loop that takes the least of f 0, f 1, .. and s
+module _ (s : ℕ) (f : ℕ → ℕ) where
+  pub least-start : s ≡ least s (listBelow f 0)
+  least-start = rw list-none
+
+  pub least-next : (i t u : ℕ) → t ≡ least s (listBelow f i) → u ≡ min t (f i) → u ≡ least s (listBelow f (i + 1))
+  least-next i t u h e = rw (list-more, least-more, ← h) e
+
+  pub least-done : (n i t : ℕ) → i ≤ n → n ≤ i → t ≡ least s (listBelow f i) → t ≡ least s (listBelow f n)
+  least-done n i t h k e = rw (le-antisymm h k) at e
 
 -- the earliest is one of them
 min-is : (P : ℕ → Type 0) (t u : ℕ) → P t → P u → P (min t u)

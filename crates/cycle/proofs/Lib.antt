@@ -8,11 +8,12 @@ pub mod Logical
 pub mod Earliest
 pub mod Waves
 pub mod Drivers
+pub mod ViewLaws
 pub mod Driving
 pub mod FirstReachable
 pub mod StepReachable
 pub mod AdvanceReachable
-pub mod Due
+pub mod DueTimes
 pub mod Invariant
 pub mod Plays
 pub mod Outcomes

@@ -1,0 +1,102 @@
+-- The view of the struct: its lengths and elements, and what a change of the struct does to it. Assumes nothing.
+use mathlib.Core.Path.{_≡_, refl, sym, ap, _∙_}
+use mathlib.Core.List.{List, []}
+use mathlib.Core.Option.{Option}
+use Prim.Native.Nat.{ℕ, _+_, _*_, _≤_, _<_}
+use native.Mathlib.Omega.{arith}
+use lib.ListN.{length, getD, set}
+use lib.Seq.{getD-set-same, getD-set-other}
+use Rattle.base.specs.Below.{listBelow}
+use Rattle.base.proofs.Below.{list-length, list-at, list-same, list-change}
+use Rattle.model.specs.Records.{Model}
+use Rattle.model.specs.Facts.{TotalsFit}
+use Rattle.cycle.specs.Configuration.{DriverState, ProcessState, Configuration, driverIn, processIn, pastOf}
+use Rattle.cycle.specs.Invariant.{Reachable}
+use Rattle.cycle.specs.View.{pendingOf, noDriver, deadlineOf, historyOf, driverView, processView, viewOf}
+use Rattle.cycle.specs.declared.config.Config.{Config}
+use Rattle.cycle.specs.declared.driver.Driver.{Driver}
+
+-- the lists of the view are as long as the struct says, and their elements are those of the arrays
+module _ (c : Config) where
+  pub signals-long : length (viewOf c .signals) ≡ c .ns
+  unfolding viewOf
+  signals-long = list-length (historyOf (c .signals)) (c .ns)
+
+  pub drivers-long : length (viewOf c .drivers) ≡ c .nd
+  unfolding viewOf
+  drivers-long = list-length (driverView c) (c .nd)
+
+  pub processes-long : length (viewOf c .processes) ≡ c .np
+  unfolding viewOf
+  processes-long = list-length (processView c) (c .np)
+
+  pub variables-long : length (viewOf c .variables) ≡ c .nv
+  unfolding viewOf
+  variables-long = list-length (λ a. getD (c .variables) a 0) (c .nv)
+
+  pub history-in : (s : ℕ) → s < c .ns → getD (viewOf c .signals) s [] ≡ historyOf (c .signals) s
+  unfolding viewOf
+  history-in s h = list-at (historyOf (c .signals)) [] (c .ns) s h
+
+  pub past-in : (s k : ℕ) → s < c .ns → k < 32 → pastOf (viewOf c .signals) s k ≡ getD (c .signals) (32 * s + k) 0
+  unfolding historyOf
+  past-in s k h l = rw (history-in s h) (list-at (λ k. getD (c .signals) (32 * s + k) 0) 0 32 k l)
+
+  pub driver-in : (k : ℕ) → k < c .nd → driverIn (viewOf c .drivers) k ≡ driverView c k
+  unfolding viewOf
+  driver-in k h = list-at (driverView c) _ (c .nd) k h
+
+  pub pending-in : (k : ℕ) → k < c .nd → driverIn (viewOf c .drivers) k .pending ≡ pendingOf (getD (c .drivers) k noDriver)
+  unfolding driverView
+  pending-in k h = ap (λ (d : DriverState). d .pending) (driver-in k h)
+
+  pub process-in : (p : ℕ) → p < c .np → processIn (viewOf c .processes) p ≡ processView c p
+  unfolding viewOf
+  process-in p h = list-at (processView c) _ (c .np) p h
+
+  pub place-in : (p : ℕ) → p < c .np → processIn (viewOf c .processes) p .place ≡ getD (c .places) p 0
+  unfolding processView
+  place-in p h = ap (λ (q : ProcessState). q .place) (process-in p h)
+
+  pub standing-in : (p : ℕ) → p < c .np → processIn (viewOf c .processes) p .standing ≡ getD (c .standings) p 0
+  unfolding processView
+  standing-in p h = ap (λ (q : ProcessState). q .standing) (process-in p h)
+
+  pub deadline-in : (p : ℕ) → p < c .np → processIn (viewOf c .processes) p .deadline ≡ deadlineOf (getD (c .deadlines) p 0)
+  unfolding processView
+  deadline-in p h = ap (λ (q : ProcessState). q .deadline) (process-in p h)
+
+  pub fault-in : (p : ℕ) → p < c .np → processIn (viewOf c .processes) p .fault ≡ getD (c .faults) p 0
+  unfolding processView
+  fault-in p h = ap (λ (q : ProcessState). q .fault) (process-in p h)
+
+  pub variable-in : (a : ℕ) → a < c .nv → getD (viewOf c .variables) a 0 ≡ getD (c .variables) a 0
+  unfolding viewOf
+  variable-in a h = list-at (λ a. getD (c .variables) a 0) 0 (c .nv) a h
+
+-- the totals of the struct are the model's
+module _ (M : Model) (c : Config) (r : Reachable M (viewOf c)) where
+  pub ns-is : c .ns ≡ length (M .signals)
+  ns-is = sym (signals-long c) ∙ r .signals
+
+  pub nd-is : c .nd ≡ length (M .drivers)
+  nd-is = sym (drivers-long c) ∙ r .drivers
+
+  pub np-is : c .np ≡ length (M .processes)
+  np-is = sym (processes-long c) ∙ r .processes
+
+  pub nv-is : c .nv ≡ length (M .variables)
+  nv-is = sym (variables-long c) ∙ r .variables
+
+-- a change of one variable
+pub variables-set : (vs : List ℕ) (n a v : ℕ) → a < length vs → listBelow (λ j. getD (set vs a v) j 0) n ≡ set (listBelow (λ j. getD vs j 0) n) a v
+variables-set vs n a v h =
+    list-change (λ j. getD vs j 0) (λ j. getD (set vs a v) j 0) n a (λ j o. getD-set-other vs a j v 0 o) ∙ rw (getD-set-same vs a v 0 h)
+
+-- a change of one driver or of one process: the view of another is as it was
+module _ (c c' : Config) where
+  pub drivers-set : (k : ℕ) → c' .nd ≡ c .nd → ((j : ℕ) → (j ≡ k → ⊥) → driverView c' j ≡ driverView c j) → listBelow (driverView c') (c' .nd) ≡ set (listBelow (driverView c) (c .nd)) k (driverView c' k)
+  drivers-set k e h = ap (listBelow (driverView c')) e ∙ list-change (driverView c) (driverView c') (c .nd) k h
+
+  pub processes-set : (p : ℕ) → c' .np ≡ c .np → ((j : ℕ) → (j ≡ p → ⊥) → processView c' j ≡ processView c j) → listBelow (processView c') (c' .np) ≡ set (listBelow (processView c) (c .np)) p (processView c' p)
+  processes-set p e h = ap (listBelow (processView c')) e ∙ list-change (processView c) (processView c') (c .np) p h

@@ -1,0 +1,11 @@
+use mathlib.Core.Path.{refl}
+use Rattle.cycle.proofs.Drivers.{pending-none}
+use borrow.Author.Needs.{needs}
+use Rattle.cycle.proofs.driver.Driver.none.Statement.{statement}
+use Rattle.cycle.proofs.driver.Driver.none.Tie as tie
+
+returns : tie.Need-returns
+returns c = pending-none _ refl
+
+pub none-spec : {M : Type 1} → statement M
+none-spec = tie.close (tie.spec returns)
