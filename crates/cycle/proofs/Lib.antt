@@ -19,3 +19,6 @@ pub mod Invariant
 pub mod Plays
 pub mod Outcomes
 pub mod Picks
+pub mod Arrays
+pub mod Resolving
+pub mod First

@@ -6,3 +6,4 @@ pub mod Orders
 pub mod Invariant
 pub mod View
 pub mod Waveform
+pub mod Arrays
