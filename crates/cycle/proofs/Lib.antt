@@ -1,4 +1,5 @@
 pub mod Lists
+pub mod SignalSets
 pub mod Evaluation
 pub mod Effects
 pub mod ArraysAgree
@@ -21,4 +22,6 @@ pub mod Outcomes
 pub mod Picks
 pub mod Arrays
 pub mod Resolving
+pub mod DeltaSignals
+pub mod DeltaProcesses
 pub mod First

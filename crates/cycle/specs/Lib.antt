@@ -7,3 +7,4 @@ pub mod Invariant
 pub mod View
 pub mod Waveform
 pub mod Arrays
+pub mod Delta
