@@ -225,6 +225,18 @@ module _ {A : Type 0} (f : ℕ → List A) where
       (λ g. join-each P d n (λ i m. h i (omega arith)) j g)
       (λ k e. h n (omega arith) k (omega (arith, length-append (joinBelow f n) (f n))))
 
+-- the same parts make the same list
+pub join-same : {A : Type 0} (f g : ℕ → List A) (n : ℕ) → ((i : ℕ) → i < n → f i ≡ g i) → joinBelow f n ≡ joinBelow g n
+unfolding joinBelow
+join-same f g zero h = refl
+join-same f g (suc n) h = rw (join-same f g n (λ i l. h i (omega arith)), h n (omega arith))
+
+-- a list of n elements, by each of them
+pub list-is : {A : Type 0} (f : ℕ → A) (l : List A) (d : A) (n : ℕ) → length l ≡ n → ((j : ℕ) → j < n → f j ≡ getD l j d) → listBelow f n ≡ l
+list-is f l d n e h =
+    ext-getD d (listBelow f n) l (list-length f n ∙ sym e)
+    (λ j m. let g : j < n = omega (arith, list-length f n) in list-at f d n j g ∙ h j g)
+
 -- one element more is written behind those that are there
 pub put-next : {A : Type 0} (p d : List A) (n : ℕ) (v : A) → length p ≡ n → n < length d → set (p ++ drop n d) n v ≡ (p ++ (v ∷ [])) ++ drop (n + 1) d
 put-next p d n v e h = rw (add-one, drop-cons d n v h, append-assoc) (set-at p (getD d n v) (drop (suc n) d) v n e)

@@ -16,7 +16,7 @@ use Rattle.cycle.proofs.Driving.{resolved-typed}
 
 module _ (M : Model) (fs : Facts M) where
   -- a driver that has just started
-  driver-at : (k : ℕ) → k < length (M .drivers) → driverIn (firstDrivers M) k ≡ record { current = signalAt M (driverAt M k .signal) .start; pending = [] }
+  pub driver-at : (k : ℕ) → k < length (M .drivers) → driverIn (firstDrivers M) k ≡ record { current = signalAt M (driverAt M k .signal) .start; pending = [] }
   unfolding firstDrivers
   driver-at k h = map-at _ (M .drivers) k _ _ h
 
@@ -37,7 +37,7 @@ module _ (M : Model) (fs : Facts M) where
   past-typed : (s k : ℕ) → s < length (M .signals) → k < 32 → ValueOf (signalAt M s .ty) (pastOf (first M .signals) s k)
   past-typed s k h l = rw (signal-at s h, getD-replicate 32 k (firstSignal M s) 0 l) (first-typed s h)
 
-  process-at : (p : ℕ) → p < length (M .processes) → processIn (first M .processes) p ≡ record { place = processAt M p .first; standing = ready; deadline = none; fault = 0 }
+  pub process-at : (p : ℕ) → p < length (M .processes) → processIn (first M .processes) p ≡ record { place = processAt M p .first; standing = ready; deadline = none; fault = 0 }
   unfolding first
   process-at p h = map-at _ (M .processes) p _ _ h
 
@@ -55,7 +55,7 @@ module _ (M : Model) (fs : Facts M) where
         deadline = tt;
       })
 
-  variable-at : (a : ℕ) → a < length (M .variables) → getD (first M .variables) a 0 ≡ variableAt M a .start
+  pub variable-at : (a : ℕ) → a < length (M .variables) → getD (first M .variables) a 0 ≡ variableAt M a .start
   unfolding first
   variable-at a h = map-at _ (M .variables) a _ _ h
 

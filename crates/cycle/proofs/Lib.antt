@@ -1,4 +1,5 @@
 pub mod Lists
+pub mod SignalSets
 pub mod Evaluation
 pub mod Effects
 pub mod ArraysAgree
@@ -23,3 +24,8 @@ pub mod SettledIn
 pub mod Changes
 pub mod Turning
 pub mod OrderLaws
+pub mod Arrays
+pub mod Resolving
+pub mod DeltaSignals
+pub mod DeltaProcesses
+pub mod First

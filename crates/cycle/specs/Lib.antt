@@ -7,3 +7,5 @@ pub mod Invariant
 pub mod View
 pub mod Waveform
 pub mod Turns
+pub mod Arrays
+pub mod Delta

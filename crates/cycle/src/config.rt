@@ -1,4 +1,14 @@
 // The configuration, the empty one and the first one of a model.
+ghost use mathlib.Core.Path.{_≡_};
+ghost use Prim.Native.Nat.{_*_, _≤_, _<_};
+ghost use lib.ListN.{length};
+ghost use Rattle.base.specs.Cases.{pick};
+ghost use Rattle.values.specs.Resolve.{pairOf};
+ghost use Rattle.model.specs.Records.{modelOf};
+ghost use Rattle.model.specs.Index.{TotalsOf};
+ghost use Rattle.cycle.specs.Configuration.{resolvedOr, empty};
+ghost use Rattle.cycle.specs.View.{Runs, viewOf};
+ghost use Rattle.cycle.specs.Arrays.{drivingIn, Has, variableStart, processFirst, driverStart, firstValue, valueAt, FirstOf};
 use crate::driver::Driver;
 use model::index::Totals;
 use model::index::driver_at;
@@ -26,6 +36,19 @@ pub struct Config {
     pub variables: [u32; 64],
 }
 
+// The resolution v of the values found so far, with x where it drives.
+fn joined(drives: bool, found: bool, v: u32, x: u32) -> u32
+    ensures { λ r. ⌜ r ≡ pick drives (pick found (pairOf v x) x) v ⌝ }
+{
+    if drives {
+        if found {
+            return values::pair(v, x);
+        }
+        return x;
+    }
+    v
+}
+
 // The resolution of the current values of the drivers of signal s, or other where it has none.
 pub fn resolved<'a>(
     m: &'a [u8],
@@ -34,24 +57,112 @@ pub fn resolved<'a>(
     nd: usize,
     s: usize,
     other: u32,
-) -> u32 {
+) -> u32
+    requires { ⌜ Runs (now m) (now index) ⌝ }
+    requires { ⌜ nd ≡ length (modelOf (now m) .drivers) ⌝ }
+    ensures { λ r. ⌜ r ≡ resolvedOr other (drivingIn (modelOf (now (m .entry))) (now (currents .entry)) s nd) ⌝ }
+{
     let mut found = false;
     let mut v = other;
     let mut k = 0;
     while k < nd {
         let d = driver_at(m, index, k);
-        if d.signal == s {
-            let x = currents[k];
-            v = if found { values::pair(v, x) } else { x };
-            found = true;
-        }
+        let drives = d.signal == s;
+        v = joined(drives, found, v, currents[k]);
+        found = found | drives;
         k += 1;
     }
     v
 }
 
+fn first_variables<'a>(m: &'a [u8], index: &'a [u16; 1376], n: usize) -> [u32; 64]
+    requires { ⌜ Runs (now m) (now index) ⌝ }
+    requires { ⌜ n ≡ length (modelOf (now m) .variables) ⌝ }
+    ensures { λ r. ⌜ Has (variableStart (modelOf (now (m .entry)))) n r ⌝ }
+{
+    let mut r = [0u32; 64];
+    let mut i = 0;
+    while i < n {
+        let v = variable_at(m, index, i);
+        r[i] = v.start;
+        i += 1;
+    }
+    r
+}
+
+fn first_places<'a>(m: &'a [u8], index: &'a [u16; 1376], n: usize) -> [usize; 16]
+    requires { ⌜ Runs (now m) (now index) ⌝ }
+    requires { ⌜ n ≡ length (modelOf (now m) .processes) ⌝ }
+    ensures { λ r. ⌜ Has (processFirst (modelOf (now (m .entry)))) n r ⌝ }
+{
+    let mut r = [0usize; 16];
+    let mut i = 0;
+    while i < n {
+        let p = process_at(m, index, i);
+        r[i] = p.first;
+        i += 1;
+    }
+    r
+}
+
+// "drivers have their signal's starting value"
+fn first_currents<'a>(m: &'a [u8], index: &'a [u16; 1376], n: usize) -> [u32; 64]
+    requires { ⌜ Runs (now m) (now index) ⌝ }
+    requires { ⌜ n ≡ length (modelOf (now m) .drivers) ⌝ }
+    ensures { λ r. ⌜ Has (driverStart (modelOf (now (m .entry)))) n r ⌝ }
+{
+    let mut r = [0u32; 64];
+    let mut i = 0;
+    while i < n {
+        let d = driver_at(m, index, i);
+        let s = signal_at(m, index, d.signal);
+        r[i] = s.start;
+        i += 1;
+    }
+    r
+}
+
+// The first value of each of the n signals, resolved over nd current values.
+fn first_values<'a>(
+    m: &'a [u8],
+    index: &'a [u16; 1376],
+    currents: &'a [u32; 64],
+    nd: usize,
+    n: usize,
+) -> [u32; 32]
+    requires { ⌜ Runs (now m) (now index) ⌝ }
+    requires { ⌜ nd ≡ length (modelOf (now m) .drivers) ⌝ }
+    requires { ⌜ n ≡ length (modelOf (now m) .signals) ⌝ }
+    ensures { λ r. ⌜ Has (firstValue (modelOf (now (m .entry))) (now (currents .entry)) nd) n r ⌝ }
+{
+    let mut r = [0u32; 32];
+    let mut i = 0;
+    while i < n {
+        let s = signal_at(m, index, i);
+        r[i] = resolved(m, index, currents, nd, i, s.start);
+        i += 1;
+    }
+    r
+}
+
+// Histories in which each of the first n values stands 32 times.
+fn histories(values: &[u32; 32], n: usize) -> [u32; 1024]
+    requires { ⌜ n ≤ 32 ⌝ }
+    ensures { λ r. ⌜ Has (valueAt (now (values .entry))) (32 * n) r ⌝ }
+{
+    let mut r = [0u32; 1024];
+    let mut i = 0;
+    while i < 32 * n {
+        r[i] = values[i / 32];
+        i += 1;
+    }
+    r
+}
+
 impl Config {
-    pub fn empty() -> Config {
+    pub fn empty() -> Config
+        ensures { λ r. ⌜ viewOf r ≡ empty ⌝ }
+    {
         let d = Driver::none();
         Config {
             time: 0,
@@ -72,42 +183,33 @@ impl Config {
         }
     }
 
-    pub fn first(m: &[u8], index: &[u16; 1376], t: Totals) -> Config {
-        let mut c = Config::empty();
-        c.ns = t.signals;
-        c.nv = t.variables;
-        c.nd = t.drivers;
-        c.np = t.processes;
-        let mut i = 0;
-        while i < t.variables {
-            let v = variable_at(m, index, i);
-            c.variables[i] = v.start;
-            i += 1;
+    pub fn first<'a>(m: &'a [u8], index: &'a [u16; 1376], t: Totals) -> Config
+        requires { ⌜ Runs (now m) (now index) ⌝ }
+        requires { ⌜ TotalsOf (modelOf (now m)) t ⌝ }
+        ensures { λ r. ⌜ FirstOf (modelOf (now (m .entry))) r ⌝ }
+    {
+        let d = Driver::none();
+        let variables = first_variables(m, index, t.variables);
+        let places = first_places(m, index, t.processes);
+        let currents = first_currents(m, index, t.drivers);
+        let values = first_values(m, index, &currents, t.drivers, t.signals);
+        let signals = histories(&values, t.signals);
+        Config {
+            time: 0,
+            deltas: 0,
+            ns: t.signals,
+            nv: t.variables,
+            nd: t.drivers,
+            np: t.processes,
+            signals,
+            currents,
+            due: [18446744073709551615; 64],
+            drivers: [d; 64],
+            places,
+            standings: [0; 16],
+            deadlines: [18446744073709551615; 16],
+            faults: [0; 16],
+            variables,
         }
-        i = 0;
-        while i < t.processes {
-            let p = process_at(m, index, i);
-            c.places[i] = p.first;
-            i += 1;
-        }
-        i = 0;
-        while i < t.drivers {
-            let d = driver_at(m, index, i);
-            let s = signal_at(m, index, d.signal);
-            c.currents[i] = s.start;
-            i += 1;
-        }
-        i = 0;
-        while i < t.signals {
-            let s = signal_at(m, index, i);
-            let v = resolved(m, index, &c.currents, t.drivers, i, s.start);
-            let mut k = 0;
-            while k < 32 {
-                c.signals[32 * i + k] = v;
-                k += 1;
-            }
-            i += 1;
-        }
-        c
     }
 }

@@ -1,144 +1,281 @@
-// The delta step and the time step.
+// The delta step.
+ghost use mathlib.Core.Path.{_≡_};
+ghost use Prim.Native.Nat.{_≤_, _<_};
+ghost use lib.ListN.{length};
+ghost use Rattle.model.specs.Records.{modelOf};
+ghost use Rattle.model.specs.Fields.{absent};
+ghost use Rattle.model.specs.Facts.{Spans};
+ghost use Rattle.cycle.specs.Statements.{stops};
+ghost use Rattle.cycle.specs.Steps.{wakes, wokenBy, deltaStep};
+ghost use Rattle.cycle.specs.Orders.{advanceDone};
+ghost use Rattle.cycle.specs.Invariant.{lastTime, ProcessFine};
+ghost use Rattle.cycle.specs.View.{arrays, viewOf, Runs, Fine, Answers};
+ghost use Rattle.cycle.specs.Delta.{SetOf, activeIn, ResolvedTo, stateOf, wokenFor, afterDelta, ProcessesFine, WokenTo};
 use crate::config::Config;
 use crate::config::resolved;
 use crate::eval::Value;
 use crate::eval::eval;
+use crate::sets::has;
+use crate::sets::meet;
+use crate::sets::with;
 use crate::turns::Answered;
 use crate::turns::next_place;
 use model::index::driver_at;
 use model::index::statement_at;
 
-// Which signals have a transaction due at the time.
-fn actives<'a>(
-    m: &'a [u8],
-    index: &'a [u16; 1376],
-    due: &'a [u64; 64],
-    nd: usize,
-    time: u64,
-) -> [bool; 32] {
-    let mut active = [false; 32];
+// The set of the signals that have a driver with a transaction due at the time.
+fn actives<'a>(m: &'a [u8], index: &'a [u16; 1376], due: &'a [u64; 64], nd: usize, time: u64) -> u32
+    requires { ⌜ Runs (now m) (now index) ⌝ }
+    requires { ⌜ nd ≡ length (modelOf (now m) .drivers) ⌝ }
+    ensures { λ r. ⌜ SetOf (activeIn (modelOf (now (m .entry))) (now (due .entry)) time nd) r ⌝ }
+{
+    let mut active: u32 = 0;
     let mut k = 0;
     while k < nd {
         if due[k] == time {
             let d = driver_at(m, index, k);
-            let s = d.signal;
-            active[s] = true;
+            active = with(active, d.signal, true);
+            k += 1;
+            continue;
         }
         k += 1;
     }
     active
 }
 
-// Whether a signal of the set, of those from lo on and below hi, changed.
-fn changed_in(set: u32, changed: &[bool; 32], lo: usize, hi: usize) -> bool {
-    let mut s = lo;
-    while s < hi {
-        if changed[s] & ((set >> s) % 2 == 1) {
-            return true;
+// Each active signal becomes the resolution of its drivers' current values. The result is the set of those that changed.
+fn resolve<'a>(
+    m: &'a [u8],
+    index: &'a [u16; 1376],
+    currents: &'a [u32; 64],
+    nd: usize,
+    active: u32,
+    signals: &'a mut [u32; 1024],
+    ns: usize,
+) -> u32
+    requires { ⌜ Runs (now m) (now index) ⌝ }
+    requires { ⌜ nd ≡ length (modelOf (now m) .drivers) ⌝ }
+    requires { ⌜ ns ≤ 32 ⌝ }
+    requires { ⌜ length (now signals) ≡ 1024 ⌝ }
+    ensures { λ r. ⌜ ResolvedTo (modelOf (now (m .entry))) (now (currents .entry)) nd active (now (signals .entry)) ns (now (signals .exit)) r ⌝ }
+{
+    let mut changed: u32 = 0;
+    let mut s = 0;
+    while s < ns {
+        if has(active, s) {
+            let old = signals[32 * s];
+            let v = resolved(m, index, currents, nd, s, old);
+            signals[32 * s] = v;
+            changed = with(changed, s, old != v);
+            s += 1;
+            continue;
         }
         s += 1;
     }
-    false
+    changed
+}
+
+// A process, and the processes, as the configuration holds them.
+pub struct Process {
+    pub place: usize,
+    pub standing: usize,
+    pub deadline: u64,
+    pub fault: u32,
+}
+
+pub struct Processes {
+    pub places: [usize; 16],
+    pub standings: [usize; 16],
+    pub deadlines: [u64; 16],
+    pub faults: [u32; 16],
+}
+
+// Process p becomes ready, past its wait.
+fn woken<'a>(m: &'a [u8], index: &'a [u16; 1376], p: usize, q: Process) -> Process
+    requires { ⌜ Runs (now m) (now index) ⌝ }
+    requires { ⌜ p < length (modelOf (now m) .processes) ⌝ }
+    requires { ⌜ Spans (modelOf (now m)) p (q .place) ⌝ }
+    ensures { λ r. ⌜ stateOf r ≡ wakes (modelOf (now (m .entry))) p (stateOf q) ⌝ }
+{
+    Process {
+        place: next_place(m, index, p, q.place),
+        standing: 0,
+        deadline: 18446744073709551615,
+        fault: q.fault,
+    }
+}
+
+// Process p, by the value of its wait's condition.
+fn woken_by<'a>(m: &'a [u8], index: &'a [u16; 1376], p: usize, q: Process, v: Value) -> Process
+    requires { ⌜ Runs (now m) (now index) ⌝ }
+    requires { ⌜ p < length (modelOf (now m) .processes) ⌝ }
+    requires { ⌜ Spans (modelOf (now m)) p (q .place) ⌝ }
+    ensures { λ r. ⌜ stateOf r ≡ wokenBy (modelOf (now (m .entry))) p (stateOf q) v ⌝ }
+{
+    match v {
+        Value::Fault(f) => Process {
+            place: q.place,
+            standing: 2,
+            deadline: q.deadline,
+            fault: f,
+        },
+        Value::Of(x) => {
+            if x == 1 {
+                return woken(m, index, p, q);
+            }
+            q
+        }
+    }
+}
+
+// Process p after a change of a signal of its set: b is the condition of its wait.
+fn woken_if<'a>(
+    m: &'a [u8],
+    index: &'a [u16; 1376],
+    variables: &'a [u32; 64],
+    signals: &'a [u32; 1024],
+    p: usize,
+    q: Process,
+    b: usize,
+) -> Process
+    requires { ⌜ Runs (now m) (now index) ⌝ }
+    requires { ⌜ p < length (modelOf (now m) .processes) ⌝ }
+    requires { ⌜ Spans (modelOf (now m)) p (q .place) ⌝ }
+    requires { ⌜ ((b ≡ absent → ⊥) → b < length (modelOf (now m) .nodes)) ⌝ }
+    ensures { λ r. ⌜ stateOf r ≡ wokenFor (modelOf (now (m .entry))) p (arrays (now (variables .entry)) (now (signals .entry))) b (stateOf q) ⌝ }
+{
+    if b == 65535 {
+        return woken(m, index, p, q);
+    }
+    let v = eval(m, index, variables, signals, b);
+    woken_by(m, index, p, q, v)
+}
+
+// Process p after a delta step at the time, in which the signals of the set changed.
+fn after_delta<'a>(
+    m: &'a [u8],
+    index: &'a [u16; 1376],
+    variables: &'a [u32; 64],
+    signals: &'a [u32; 1024],
+    changed: u32,
+    time: u64,
+    p: usize,
+    q: Process,
+) -> Process
+    requires { ⌜ Runs (now m) (now index) ⌝ }
+    requires { ⌜ p < length (modelOf (now m) .processes) ⌝ }
+    requires { ⌜ time ≤ lastTime ⌝ }
+    requires { ⌜ ProcessFine (modelOf (now m)) p time (stateOf q) ⌝ }
+    ensures { λ r. ⌜ stateOf r ≡ afterDelta (modelOf (now (m .entry))) p time changed (arrays (now (variables .entry)) (now (signals .entry))) (stateOf q) ⌝ }
+{
+    if q.standing != 1 {
+        return q;
+    }
+    if q.deadline == time {
+        return woken(m, index, p, q);
+    }
+    let w = statement_at(m, index, q.place);
+    if meet(w.set, changed) {
+        return woken_if(m, index, variables, signals, p, q, w.b);
+    }
+    q
+}
+
+// The np processes after a delta step.
+fn wake<'a>(
+    m: &'a [u8],
+    index: &'a [u16; 1376],
+    variables: &'a [u32; 64],
+    signals: &'a [u32; 1024],
+    changed: u32,
+    time: u64,
+    np: usize,
+    mut ps: Processes,
+) -> Processes
+    requires { ⌜ Runs (now m) (now index) ⌝ }
+    requires { ⌜ np ≡ length (modelOf (now m) .processes) ⌝ }
+    requires { ⌜ time ≤ lastTime ⌝ }
+    requires { ⌜ ProcessesFine (modelOf (now m)) time np ps ⌝ }
+    ensures { λ r. ⌜ WokenTo (modelOf (now (m .entry))) time changed (arrays (now (variables .entry)) (now (signals .entry))) np ps r ⌝ }
+{
+    let mut p = 0;
+    while p < np {
+        let q = Process {
+            place: ps.places[p],
+            standing: ps.standings[p],
+            deadline: ps.deadlines[p],
+            fault: ps.faults[p],
+        };
+        let r = after_delta(m, index, variables, signals, changed, time, p, q);
+        ps.places[p] = r.place;
+        ps.standings[p] = r.standing;
+        ps.deadlines[p] = r.deadline;
+        ps.faults[p] = r.fault;
+        p += 1;
+    }
+    ps
 }
 
 impl Config {
-    pub fn delta_step(mut self, m: &[u8], index: &[u16; 1376]) -> Answered {
-        let active = actives(m, index, &self.due, self.nd, self.time);
+    // Each due transaction becomes its driver's current value and leaves; then the signals, then the processes.
+    pub fn delta_step<'a>(mut self, m: &'a [u8], index: &'a [u16; 1376]) -> Answered
+        requires { ⌜ Runs (now m) (now index) ⌝ }
+        requires { ⌜ Fine (modelOf (now m)) self ⌝ }
+        requires { ⌜ self .deltas < 1000 ⌝ }
+        ensures { λ r. ⌜ Answers (modelOf (now (m .entry))) r (advanceDone 1 (deltaStep (modelOf (now (m .entry))) (viewOf self))) ⌝ }
+    {
+        let ns = self.ns;
+        let nd = self.nd;
+        let np = self.np;
+        let time = self.time;
+        let active = actives(m, index, &self.due, nd, time);
         let mut k = 0;
-        while k < self.nd {
-            if self.due[k] == self.time {
+        while k < nd {
+            if self.due[k] == time {
                 let d = self.drivers[k];
-                let v = d.values[0];
                 let e = d.without_first();
-                self.currents[k] = v;
+                self.currents[k] = d.values[0];
                 self.due[k] = e.first_time();
                 self.drivers[k] = e;
+                k += 1;
+                continue;
             }
             k += 1;
         }
-        let mut changed = [false; 32];
-        let mut lo = 0;
-        let mut hi = 0;
-        let mut s = 0;
-        while s < self.ns {
-            if active[s] {
-                let old = self.signals[32 * s];
-                let v = resolved(m, index, &self.currents, self.nd, s, old);
-                changed[s] = v != old;
-                if v != old {
-                    if hi == 0 {
-                        lo = s;
-                    }
-                    hi = s + 1;
-                }
-                self.signals[32 * s] = v;
-            }
-            s += 1;
-        }
-        let mut p = 0;
-        while p < self.np {
-            let standing = self.standings[p];
-            if standing == 1 {
-                let place = self.places[p];
-                if self.deadlines[p] == self.time {
-                    self.standings[p] = 0;
-                    self.deadlines[p] = 18446744073709551615;
-                    self.places[p] = next_place(m, index, p, place);
-                } else if lo < hi {
-                    let w = statement_at(m, index, place);
-                    if changed_in(w.set, &changed, lo, hi) {
-                        let mut v = Value::Of(1);
-                        if w.b != 65535 {
-                            v = eval(m, index, &self.variables, &self.signals, w.b);
-                        }
-                        match v {
-                            Value::Fault(f) => {
-                                self.standings[p] = 2;
-                                self.faults[p] = f;
-                            }
-                            Value::Of(x) => {
-                                if x == 1 {
-                                    self.standings[p] = 0;
-                                    self.deadlines[p] = 18446744073709551615;
-                                    self.places[p] = next_place(m, index, p, place);
-                                }
-                            }
-                        }
-                    }
-                }
-            }
-            p += 1;
-        }
+        let currents = self.currents;
+        let changed = resolve(m, index, &currents, nd, active, &mut self.signals, ns);
+        let places = self.places;
+        let standings = self.standings;
+        let deadlines = self.deadlines;
+        let faults = self.faults;
+        let ps = Processes {
+            places,
+            standings,
+            deadlines,
+            faults,
+        };
+        let r = wake(
+            m,
+            index,
+            &self.variables,
+            &self.signals,
+            changed,
+            time,
+            np,
+            ps,
+        );
+        let woken_places = r.places;
+        let woken_standings = r.standings;
+        let woken_deadlines = r.deadlines;
+        let woken_faults = r.faults;
+        self.places = woken_places;
+        self.standings = woken_standings;
+        self.deadlines = woken_deadlines;
+        self.faults = woken_faults;
         self.deltas = self.deltas + 1;
         Answered {
             refusal: 0,
             byte: 1,
-            picks: 0,
-            value: 0,
-            config: self,
-        }
-    }
-
-    pub fn time_step(mut self, t: u64) -> Answered {
-        let n = t - self.time;
-        let mut s = 0;
-        while s < self.ns {
-            let mut k = 31;
-            while k > 0 {
-                if (k as u64) < n {
-                    self.signals[32 * s + k] = self.signals[32 * s];
-                } else {
-                    self.signals[32 * s + k] = self.signals[32 * s + k - n as usize];
-                }
-                k -= 1;
-            }
-            s += 1;
-        }
-        self.time = t;
-        self.deltas = 0;
-        Answered {
-            refusal: 0,
-            byte: 2,
             picks: 0,
             value: 0,
             config: self,

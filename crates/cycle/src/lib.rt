@@ -7,4 +7,5 @@ pub mod effect;
 pub mod eval;
 pub mod operators;
 pub mod orders;
+pub mod sets;
 pub mod turns;

@@ -1,0 +1,185 @@
+-- The processes of a delta step: what wakes one, and the loop over all of them. Assumes nothing.
+use mathlib.Core.Path.{_≡_, refl, sym, ap, _∙_, subst}
+use mathlib.Core.Bool.{Bool, true, false, _&&_}
+use mathlib.Core.List.{List}
+use mathlib.Core.Option.{Option, none, some}
+use Prim.Native.Nat.{ℕ, _+_, _≤_, _<_}
+use native.Mathlib.Decide.{ℕ-discrete}
+use native.Mathlib.Omega.{arith}
+use lib.Dec.{eqb}
+use lib.ListN.{length, getD, set, length-set}
+use lib.Seq.{getD-set-same, getD-set-other}
+use borrow.Author.Tests.{eqb-true, eq-eqb, ne-eqb}
+use Rattle.base.specs.Below.{anyBelow}
+use Rattle.base.proofs.Cases.{by-test}
+use Rattle.model.specs.Records.{Model, statementAt}
+use Rattle.model.specs.Fields.{absent}
+use Rattle.model.specs.Facts.{Facts, Spans}
+use Rattle.model.specs.declared.records.StatementRecord.{StatementRecord}
+use Rattle.cycle.specs.declared.eval.Value.{Value}
+use Rattle.cycle.specs.declared.eval.Value.the-variants.{Of, Fault}
+use Rattle.cycle.specs.Configuration.{ProcessState, ready, waiting}
+use Rattle.cycle.specs.Evaluation.{Environment, evalOf}
+use Rattle.cycle.specs.Statements.{nextPlace, stops}
+use Rattle.cycle.specs.Steps.{inSet, deadlineAt, deadlineDue, wakes, wokenBy}
+use Rattle.cycle.specs.Invariant.{lastTime, ProcessFine}
+use Rattle.cycle.specs.View.{never, deadlineOf}
+use Rattle.cycle.specs.Delta.{stateOf, entryOf, wokenFor, wokenIn, afterDelta, ProcessesFine, WokenTo}
+use Rattle.cycle.specs.declared.delta.Process.{Process}
+use Rattle.cycle.specs.declared.delta.Processes.{Processes}
+use Rattle.cycle.proofs.Effects.{own-statement}
+
+-- a deadline of the struct is due where it is the time: no time is the number that stands for none
+pub due-is : (t d : ℕ) → t ≤ lastTime → deadlineAt t (deadlineOf d) ≡ eqb d t
+due-is t d h =
+    by-test (λ (o : Option ℕ). deadlineAt t o ≡ eqb d t) (eqb d never) none (some d)
+    (λ e. sym (ne-eqb d t (λ q. omega (arith, eqb-true d never e))))
+    (λ e. refl)
+
+-- ready, past the wait
+pub woken-is : (M : Model) (p place : ℕ) (q : Process) → place ≡ nextPlace M p (q .place) → stateOf (record { place = place; standing = ready; deadline = never; fault = q .fault }) ≡ wakes M p (stateOf q)
+woken-is M p place q e = rw e
+
+-- by the value of the condition
+module _ (M : Model) (p : ℕ) (q : ProcessState) (v : Value) where
+  pub by-fault : (f : ℕ) → v ≡ Fault f → stops q f ≡ wokenBy M p q v
+  by-fault f e = rw e
+
+  pub by-true : (x : ℕ) → v ≡ Of x → x ≡ 1 → wakes M p q ≡ wokenBy M p q v
+  by-true x e h = rw (e, eq-eqb x 1 h)
+
+  pub by-false : (x : ℕ) → v ≡ Of x → (x ≡ 1 → ⊥) → q ≡ wokenBy M p q v
+  by-false x e h = rw (e, ne-eqb x 1 h)
+
+-- by the condition b of the wait
+module _ (M : Model) (p : ℕ) (e : Environment) (b : ℕ) (q : ProcessState) where
+  pub for-absent : b ≡ absent → wakes M p q ≡ wokenFor M p e b q
+  unfolding wokenFor
+  for-absent h = rw (eq-eqb b absent h)
+
+  pub for-value : (v : Value) → (b ≡ absent → ⊥) → v ≡ evalOf M e b → wokenBy M p q v ≡ wokenFor M p e b q
+  unfolding wokenFor
+  for-value v h is = rw (ne-eqb b absent h, is)
+
+-- a process that waits is at a wait of its own
+module _ (M : Model) (fs : Facts M) (p t : ℕ) (h : p < length (M .processes)) (q : Process) (f : ProcessFine M p t (stateOf q)) where
+  pub at-place : Spans M p (q .place)
+  at-place = record { from = f .from; below = f .within }
+
+  pub place-there : q .place < length (M .statements)
+  place-there = omega (arith, f .within, fs .process p h .within)
+
+  pub condition-there : (w : StatementRecord) → w ≡ statementAt M (q .place) → q .standing ≡ waiting → (w .b ≡ absent → ⊥) → w .b < length (M .nodes)
+  condition-there w e s b =
+      let x : statementAt M (q .place) .b < length (M .nodes) = own-statement M fs p h (q .place) at-place .wait (f .at-wait s) .condition (λ z. b (rw e z)) .node in
+      rw e x
+
+-- process p of state q in the five cases
+module _ (M : Model) (p t changed : ℕ) (e : Environment) (q : Process) where
+  abbrev After : ProcessState → Type 0
+  After r = r ≡ afterDelta M p t changed e (stateOf q)
+
+  pub not-waiting : (q .standing ≡ waiting → ⊥) → After (stateOf q)
+  unfolding afterDelta
+  not-waiting h = rw (ne-eqb (q .standing) waiting h)
+
+  module _ (h : t ≤ lastTime) (w : q .standing ≡ waiting) where
+    pub at-deadline : q .deadline ≡ t → After (wakes M p (stateOf q))
+    unfolding afterDelta wokenIn deadlineDue
+    at-deadline d = rw (eq-eqb (q .standing) waiting w, due-is t (q .deadline) h, eq-eqb (q .deadline) t d)
+
+    module _ (n : q .deadline ≡ t → ⊥) (s : StatementRecord) (is : s ≡ statementAt M (q .place)) where
+      abbrev meets : Bool
+      meets = anyBelow (λ n. inSet (s .set) n && inSet changed n) 32
+
+      pub after-change : meets ≡ true → After (wokenFor M p e (s .b) (stateOf q))
+      unfolding afterDelta wokenIn deadlineDue
+      after-change m = rw (eq-eqb (q .standing) waiting w, due-is t (q .deadline) h, ne-eqb (q .deadline) t n, ← is, m)
+
+      pub no-change : meets ≡ false → After (stateOf q)
+      unfolding afterDelta wokenIn deadlineDue
+      no-change m = rw (eq-eqb (q .standing) waiting w, due-is t (q .deadline) h, ne-eqb (q .deadline) t n, ← is, m)
+
+-- the arrays have room for 16
+pub record Sixteen (ps : Processes) : Type 0 where
+  pub places : length (ps .places) ≡ 16
+  pub standings : length (ps .standings) ≡ 16
+  pub deadlines : length (ps .deadlines) ≡ 16
+  pub faults : length (ps .faults) ≡ 16
+
+-- the first p processes are those after the step, the others as they were
+pub record Waking (M : Model) (t changed : ℕ) (e : Environment) (ps : Processes) (p : ℕ) (r : Processes) : Type 0 where
+  pub long : Sixteen r
+  pub done : WokenTo M t changed e p ps r
+  pub left : (i : ℕ) → p ≤ i → entryOf r i ≡ entryOf ps i
+
+-- the processes with process p changed to q
+abbrev pub withEntry : Processes → ℕ → Process → Processes
+withEntry ps p q =
+    record {
+      places = set (ps .places) p (q .place);
+      standings = set (ps .standings) p (q .standing);
+      deadlines = set (ps .deadlines) p (q .deadline);
+      faults = set (ps .faults) p (q .fault);
+    }
+
+module _ (ps : Processes) (p : ℕ) (q : Process) where
+  with-long : Sixteen ps → Sixteen (withEntry ps p q)
+  with-long l =
+      record {
+        places = length-set (ps .places) p (q .place) ∙ l .places;
+        standings = length-set (ps .standings) p (q .standing) ∙ l .standings;
+        deadlines = length-set (ps .deadlines) p (q .deadline) ∙ l .deadlines;
+        faults = length-set (ps .faults) p (q .fault) ∙ l .faults;
+      }
+
+  with-same : Sixteen ps → p < 16 → entryOf (withEntry ps p q) p ≡ q
+  with-same l h =
+      let a : p < length (ps .places) = omega (arith, l .places) in
+      let b : p < length (ps .standings) = omega (arith, l .standings) in
+      let c : p < length (ps .deadlines) = omega (arith, l .deadlines) in
+      let d : p < length (ps .faults) = omega (arith, l .faults) in
+      rw (
+        getD-set-same (ps .places) p (q .place) 0 a,
+        getD-set-same (ps .standings) p (q .standing) 0 b,
+        getD-set-same (ps .deadlines) p (q .deadline) 0 c,
+        getD-set-same (ps .faults) p (q .fault) 0 d,
+      )
+
+  with-other : (i : ℕ) → (i ≡ p → ⊥) → entryOf (withEntry ps p q) i ≡ entryOf ps i
+  with-other i n =
+      rw (
+        getD-set-other (ps .places) p i (q .place) 0 n,
+        getD-set-other (ps .standings) p i (q .standing) 0 n,
+        getD-set-other (ps .deadlines) p i (q .deadline) 0 n,
+        getD-set-other (ps .faults) p i (q .fault) 0 n,
+      )
+
+module _ (M : Model) (t changed : ℕ) (e : Environment) (ps : Processes) where
+  pub waking-none : Sixteen ps → Waking M t changed e ps 0 ps
+  waking-none l = record { long = l; done = record { at = λ i h. absurd (omega arith) }; left = λ i h. refl }
+
+  -- the next process is one as it was
+  pub waking-fine : (p n : ℕ) (r : Processes) → p < n → ProcessesFine M t n ps → Waking M t changed e ps p r → ProcessFine M p t (stateOf (entryOf r p))
+  waking-fine p n r h f w = subst (λ (x : Process). ProcessFine M p t (stateOf x)) (sym (w .left p (omega arith))) (f .at p h)
+
+  pub waking-more : (p : ℕ) (r : Processes) (q : Process) → p < 16 → stateOf q ≡ afterDelta M p t changed e (stateOf (entryOf r p)) → Waking M t changed e ps p r → Waking M t changed e ps (p + 1) (withEntry r p q)
+  waking-more p r q h is w =
+      record {
+        long = with-long r p q (w .long);
+        done = record { at = at };
+        left = λ i l. with-other r p q i (λ z. omega arith) ∙ w .left i (omega arith);
+      }
+    where
+      here : stateOf (entryOf (withEntry r p q) p) ≡ afterDelta M p t changed e (stateOf (entryOf ps p))
+      here = ap stateOf (with-same r p q (w .long) h) ∙ is ∙ ap (λ (x : Process). afterDelta M p t changed e (stateOf x)) (w .left p (omega arith))
+
+      at : (i : ℕ) → i < p + 1 → stateOf (entryOf (withEntry r p q) i) ≡ afterDelta M i t changed e (stateOf (entryOf ps i))
+      at i l =
+          elim (ℕ-discrete i p) [
+            | yes z ↦ rw z here
+            | no z ↦ ap stateOf (with-other r p q i z) ∙ w .done .at i (omega (arith, z))
+          ]
+
+  pub waking-all : (p n : ℕ) (r : Processes) → n ≤ p → Waking M t changed e ps p r → WokenTo M t changed e n ps r
+  waking-all p n r h w = record { at = λ i l. w .done .at i (omega arith) }

@@ -1,0 +1,14 @@
+-- `woken` is `wakes`. Assumes nothing.
+use borrow.Author.Needs.{needs}
+use Rattle.cycle.proofs.DeltaProcesses.{woken-is}
+use Rattle.cycle.proofs.delta.woken.Statement.{statement}
+use Rattle.cycle.proofs.delta.woken.Tie as tie
+
+pub woken-spec : {M : Type 1} → statement M
+woken-spec =
+    tie.close
+    (tie.spec
+    -- next-place-requires
+    (λ c κs. search needs)
+    -- returns
+    (λ c. woken-is _ _ _ (c .before .before .args .q) (c .next-place .ensures)))
