@@ -1,0 +1,124 @@
+-- The past of the signals after a time step: what a loop over the entries leaves is each history shifted. Assumes nothing.
+use mathlib.Core.Path.{_≡_, refl, sym, ap, _∙_}
+use mathlib.Core.List.{List, [], _∷_, _++_, map}
+use mathlib.Core.Option.{some}
+use Prim.Native.Nat.{ℕ, zero, suc, _+_, _-_, _*_, _%_, _≤_, _<_, min}
+use native.Mathlib.Nat.{eq-or-lt-of-le, le-of-suc-le-suc}
+use native.Mathlib.Decide.{decLt, ℕ-discrete}
+use native.Mathlib.Numerals.{add-one}
+use native.Mathlib.Omega.{arith}
+use lib.ListN.{length, getD, set, take, replicate, length-take, length-append, length-replicate, length-map, getD-replicate, List·getD-append}
+use lib.Seq.{getD-take, ext-getD, getD-append-add, getD-set-same, getD-set-other}
+use Rattle.base.specs.Below.{listBelow}
+use Rattle.base.proofs.Below.{list-length, list-at, list-same}
+use Rattle.model.specs.Records.{Model}
+use Rattle.cycle.specs.Configuration.{Configuration}
+use Rattle.cycle.specs.Steps.{shifted, timeStep}
+use Rattle.cycle.specs.Orders.{advanceDone, earliest, dueTimes}
+use Rattle.cycle.specs.Invariant.{lastTime}
+use Rattle.cycle.specs.View.{historyOf, driverView, processView, viewOf, Fine, outcomeOf, Answers}
+use Rattle.cycle.specs.Shift.{ShiftedBy}
+use Rattle.cycle.specs.declared.config.Config.{Config}
+use Rattle.cycle.proofs.AdvanceReachable.{time-reachable}
+use Rattle.cycle.proofs.Lists.{map-at}
+
+-- one entry more
+pub shift-turn : (old new : List ℕ) (n i v : ℕ) → i < length new → v ≡ getD old (i - min (i % 32) n) 0 → ShiftedBy old n i new → ShiftedBy old n (i + 1) (set new i v)
+shift-turn old new n i v l e h j m =
+    elim (ℕ-discrete j i) [
+      | yes q ↦ rw (q, getD-set-same new i v 0 l) e
+      | no q ↦ rw (getD-set-other new i j v 0 q) (h j (omega arith))
+    ]
+
+-- the value of k units ago, after n units
+shifted-at : (n : ℕ) (h : List ℕ) (k : ℕ) → k < 32 → getD (shifted n h) k 0 ≡ getD h (k - min k n) 0
+unfolding shifted
+shifted-at n h k l = getD-take 32 (replicate (min n 32) first ++ h) k 0 l ∙ elim (decLt k n) [ yes p ↦ fresh p | no q ↦ stale (omega (arith, q)) ]
+  where
+    first : ℕ
+    first = getD h 0 0
+
+    fresh : k < n → getD (replicate (min n 32) first ++ h) k 0 ≡ getD h (k - min k n) 0
+    fresh p =
+        let z : k - min k n ≡ 0 = omega arith in
+        List·getD-append (replicate (min n 32) first) h 0 k (omega (arith, length-replicate (min n 32) first))
+        ∙ getD-replicate (min n 32) k first 0 (omega arith) ∙ rw z
+
+    stale : n ≤ k → getD (replicate (min n 32) first ++ h) k 0 ≡ getD h (k - min k n) 0
+    stale p =
+        let e : k ≡ length (replicate (min n 32) first) + (k - min k n) = omega (arith, length-replicate (min n 32) first) in
+        ap (λ (i : ℕ). getD (replicate (min n 32) first ++ h) i 0) e ∙ getD-append-add (replicate (min n 32) first) h (k - min k n) 0
+
+shifted-length : (n : ℕ) (h : List ℕ) → length h ≡ 32 → length (shifted n h) ≡ 32
+unfolding shifted
+shifted-length n h e = simp (length-take, length-append, length-replicate) (omega arith)
+
+history-length : (a : List ℕ) (s : ℕ) → length (historyOf a s) ≡ 32
+unfolding historyOf
+history-length a s = list-length (λ k. getD a (32 * s + k) 0) 32
+
+history-at : (a : List ℕ) (s k : ℕ) → k < 32 → getD (historyOf a s) k 0 ≡ getD a (32 * s + k) 0
+unfolding historyOf
+history-at a s k l = list-at (λ k. getD a (32 * s + k) 0) 0 32 k l
+
+history-shifted : (old new : List ℕ) (n ns s : ℕ) → ShiftedBy old n (32 * ns) new → s < ns → historyOf new s ≡ shifted n (historyOf old s)
+history-shifted old new n ns s h l =
+    ext-getD 0 (historyOf new s) (shifted n (historyOf old s)) (history-length new s ∙ sym (shifted-length n (historyOf old s) (history-length old s)))
+    (λ k m. each k (rw (history-length new s) at m))
+  where
+    each : (k : ℕ) → k < 32 → getD (historyOf new s) k 0 ≡ getD (shifted n (historyOf old s)) k 0
+    each k m =
+        let r : (32 * s + k) % 32 ≡ k = omega arith in
+        let p : 32 * s + k - min k n ≡ 32 * s + (k - min k n) = omega arith in
+        history-at new s k m
+        ∙ h (32 * s + k) (omega arith)
+        ∙ rw (r, p)
+        (sym (shifted-at n (historyOf old s) k m ∙ history-at old s (k - min k n) (omega arith)))
+
+-- all histories are shifted
+pub all-shifted : (old new : List ℕ) (n ns : ℕ) → ShiftedBy old n (32 * ns) new → listBelow (historyOf new) ns ≡ map (shifted n) (listBelow (historyOf old) ns)
+all-shifted old new n ns h =
+    ext-getD [] (listBelow (historyOf new) ns) (map (shifted n) (listBelow (historyOf old) ns))
+    (list-length (historyOf new) ns ∙ sym (length-map (listBelow (historyOf old) ns) (shifted n) ∙ list-length (historyOf old) ns))
+    (λ s l. each s (rw (list-length (historyOf new) ns) at l))
+  where
+    each : (s : ℕ) → s < ns → getD (listBelow (historyOf new) ns) s [] ≡ getD (map (shifted n) (listBelow (historyOf old) ns)) s []
+    each s l =
+        list-at (historyOf new) [] ns s l
+        ∙ history-shifted old new n ns s h l
+        ∙ sym (map-at (shifted n) (listBelow (historyOf old) ns) s [] [] (rw list-length l) ∙ ap (shifted n) (list-at (historyOf old) [] ns s l))
+
+-- the struct after a time step
+abbrev pub later : Config → ℕ → List ℕ → Config
+later c t new =
+    record {
+      time = t;
+      deltas = 0;
+      ns = c .ns;
+      nv = c .nv;
+      nd = c .nd;
+      np = c .np;
+      signals = new;
+      currents = c .currents;
+      due = c .due;
+      drivers = c .drivers;
+      places = c .places;
+      standings = c .standings;
+      deadlines = c .deadlines;
+      faults = c .faults;
+      variables = c .variables;
+    }
+
+module _ (c : Config) (t : ℕ) (new : List ℕ) (h : ShiftedBy (c .signals) (t - c .time) (32 * c .ns) new) where
+  later-view : viewOf (later c t new) ≡ timeStep t (viewOf c)
+  unfolding viewOf timeStep driverView processView
+  later-view = rw (all-shifted (c .signals) new (t - c .time) (c .ns) h)
+
+  pub time-stepped : (M : Model) → Fine M c → earliest (dueTimes M (viewOf c)) ≡ some t → t ≤ lastTime
+      → Answers M (record { refusal = 0; byte = 2; picks = 0; value = 0; config = later c t new }) (advanceDone 2 (timeStep t (viewOf c)))
+  unfolding outcomeOf
+  time-stepped M f e l =
+      record {
+        is = rw later-view;
+        fine = record { reachable = rw later-view (time-reachable M (viewOf c) (f .reachable) t e l); due = f .due };
+      }

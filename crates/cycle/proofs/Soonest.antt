@@ -1,0 +1,208 @@
+-- The earliest due time of a configuration, found among numbers: each driver's first time and each process's deadline, the
+-- largest number standing for none. Assumes nothing.
+use mathlib.Core.Path.{_≡_, refl, sym, ap, _∙_}
+use mathlib.Core.Bool.{Bool, true, false, _||_}
+use mathlib.Core.List.{List, [], _∷_, _++_}
+use mathlib.Core.Option.{Option, none, some}
+use Prim.Native.Nat.{ℕ, zero, suc, _+_, _≤_, _<_, min}
+use native.Mathlib.Nat.{eq-or-lt-of-le}
+use native.Mathlib.Omega.{arith}
+use mathlib.Core.Logic.{⊎-elim}
+use lib.Dec.{eqb}
+use lib.ListN.{length, getD}
+use borrow.Author.Tests.{eqb-true, ne-eqb, eq-eqb}
+use Rattle.base.specs.Below.{anyBelow, joinBelow, listBelow}
+use Rattle.base.specs.Cases.{pick}
+use Rattle.base.proofs.Below.{any-fails, list-at, list-none, list-more, join-none, join-more, list-length}
+use Rattle.base.proofs.Cases.{by-test}
+use Rattle.model.specs.Records.{Model}
+use Rattle.cycle.specs.Configuration.{Transaction, DriverState, ProcessState, Configuration, driverIn, processIn}
+use Rattle.cycle.specs.Steps.{dueIn, transactionDue, deadlineAt, deadlineDue}
+use Rattle.cycle.specs.Orders.{timesIn, optional, least, earliest, dueTimes, dueNow}
+use Rattle.cycle.specs.Invariant.{lastDue, lastTime, Rising, DeadlineFine, Reachable}
+use Rattle.cycle.specs.View.{never, firstTime, deadlineOf, pendingOf, noDriver, driverView, processView, viewOf, Fine}
+use Rattle.cycle.specs.declared.config.Config.{Config}
+use Rattle.cycle.proofs.Lists.{All, all-left, all-right, all-part}
+use Rattle.cycle.proofs.Earliest.{none-earlier, due-each}
+use Rattle.cycle.proofs.ViewLaws.{np-is, nd-is, pending-in, deadline-in, standing-in}
+use Rattle.cycle.proofs.DueTimes.{due-within, due-after}
+
+-- the time, or never
+abbrev pub orNever : Option ℕ → ℕ
+orNever none = never
+orNever (some t) = t
+
+least-append : (s : ℕ) (ts us : List ℕ) → least s (ts ++ us) ≡ least (least s ts) us
+least-append s [] us = refl
+least-append s (t ∷ ts) us = least-append (min s t) ts us
+
+least-most : (s : ℕ) (ts : List ℕ) → least s ts ≤ s
+least-most s [] = omega arith
+least-most s (t ∷ ts) = omega (arith, least-most (min s t) ts)
+
+-- from a start a, and from never
+least-from : (a : ℕ) (ts : List ℕ) → a ≤ never → least a ts ≡ min a (least never ts)
+least-from a [] h = omega arith
+least-from a (t ∷ ts) h =
+    let p : least (min a t) ts ≡ min (min a t) (least never ts) = least-from (min a t) ts (omega arith) in
+    let q : least (min never t) ts ≡ min (min never t) (least never ts) = least-from (min never t) ts (omega arith) in
+    omega (arith, least-most never ts)
+
+-- a part has one time at most, and t is that time or never
+abbrev Stands : ℕ → List ℕ → Type 0
+Stands t [] = t ≡ never
+Stands t (u ∷ []) = t ≡ u
+Stands t (u ∷ (v ∷ us)) = ⊥
+
+one-more : (a t : ℕ) (us : List ℕ) → a ≤ never → Stands t us → min a t ≡ least a us
+one-more a t [] h e = omega arith
+one-more a t (u ∷ []) h e = rw e
+one-more a t (u ∷ (v ∷ us)) h e = absurd e
+
+stand-least : (f : ℕ → ℕ) (g : ℕ → List ℕ) (n : ℕ) → ((k : ℕ) → k < n → Stands (f k) (g k)) → least never (listBelow f n) ≡ least never (joinBelow g n)
+unfolding listBelow joinBelow
+stand-least f g zero h = refl
+stand-least f g (suc n) h =
+    let e = stand-least f g n (λ k l. h k (omega arith)) in
+    rw (least-append, least-append, e)
+    (one-more (least never (joinBelow g n)) (f n) (g n) (least-most never (joinBelow g n)) (h n (omega arith)))
+
+earliest-least : (ts : List ℕ) → All (λ u. u ≤ never) ts → orNever (earliest ts) ≡ least never ts
+earliest-least [] a = refl
+earliest-least (t ∷ ts) a =
+    let h : t ≤ never = a .0 in
+    let e : min never t ≡ t = omega arith in
+    rw e
+
+-- a first transaction, and a deadline, stand for their times
+first-stands : (w : List Transaction) → Stands (firstTime w) (timesIn w)
+first-stands [] = refl
+first-stands (x ∷ w) = refl
+
+deadline-stands : (t : ℕ) → Stands t (optional (deadlineOf t))
+deadline-stands t = by-test (λ o. Stands t (optional o)) (eqb t never) _ _ (λ e. eqb-true t never e) (λ e. refl)
+
+module _ (M : Model) (c : Config) (f : Fine M c) where
+  abbrev v : Configuration
+  v = viewOf c
+
+  np : c .np ≡ length (M .processes)
+  np = np-is M c (f .reachable)
+
+  nd : c .nd ≡ length (M .drivers)
+  nd = nd-is M c (f .reachable)
+
+  abbrev firsts : ℕ
+  firsts = least never (listBelow (λ k. getD (c .due) k 0) (c .nd))
+
+  abbrev lasts : ℕ
+  lasts = least never (listBelow (λ p. getD (c .deadlines) p 0) (c .np))
+
+  abbrev pendings : List ℕ
+  pendings = joinBelow (λ k. timesIn (driverIn (v .drivers) k .pending)) (c .nd)
+
+  abbrev waits : List ℕ
+  waits = joinBelow (λ p. optional (processIn (v .processes) p .deadline)) (c .np)
+
+  drivers-least : firsts ≡ least never pendings
+  drivers-least =
+      stand-least (λ k. getD (c .due) k 0) (λ k. timesIn (driverIn (v .drivers) k .pending)) (c .nd)
+      (λ k h. rw (f .due k h, pending-in c k h) (first-stands (pendingOf (getD (c .drivers) k noDriver))))
+
+  deadlines-least : lasts ≡ least never waits
+  deadlines-least =
+      stand-least (λ p. getD (c .deadlines) p 0) (λ p. optional (processIn (v .processes) p .deadline)) (c .np)
+      (λ p h. rw (deadline-in c p h) (deadline-stands (getD (c .deadlines) p 0)))
+
+  times-are : dueTimes M v ≡ pendings ++ waits
+  unfolding dueTimes
+  times-are = rw (np, nd)
+
+  times-least : min firsts lasts ≡ least never (dueTimes M v)
+  times-least =
+      rw (times-are, least-append never pendings waits, drivers-least, deadlines-least)
+      (sym (least-from (least never pendings) waits (least-most never pendings)))
+
+  within-never : (o : Option ℕ) → earliest (dueTimes M v) ≡ o → orNever o ≤ never
+  within-never none e = omega arith
+  within-never (some t) e = let w = due-within M v (f .reachable) t e in omega (arith, w .most)
+
+  -- the earliest of the numbers is the earliest due time
+  pub soonest : min firsts lasts ≡ orNever (earliest (dueTimes M v))
+  unfolding viewOf
+  soonest = times-least ∙ sym (earliest-least (dueTimes M v) (due-each M v (λ u. u ≤ never) drivers-low deadlines-low))
+    where
+      drivers-low : (k : ℕ) → k < length (M .drivers) → All (λ u. u ≤ never) (timesIn (driverIn (v .drivers) k .pending))
+      drivers-low k h = low (driverIn (v .drivers) k .pending) (f .reachable .each-driver k h .rising)
+        where
+          low : (w : List Transaction) → Rising (c .time) w → All (λ u. u ≤ never) (timesIn w)
+          low [] r = tt
+          low (x ∷ w) r = (omega (arith, r .1), tt)
+
+      deadlines-low : (p : ℕ) → p < length (M .processes) → All (λ u. u ≤ never) (optional (processIn (v .processes) p .deadline))
+      deadlines-low p h = low (processIn (v .processes) p .deadline) (f .reachable .each-process p h .deadline)
+        where
+          low : (o : Option ℕ) → DeadlineFine (c .time) o → All (λ u. u ≤ never) (optional o)
+          low none d = tt
+          low (some u) d = (omega (arith, d .1), tt)
+
+  -- nothing is due now where every due time is later
+  none-now : All (λ u. c .time < u) (dueTimes M v) → dueNow M v ≡ false
+  unfolding dueNow transactionDue deadlineDue viewOf
+  none-now a =
+      let both : All (λ u. c .time < u) (pendings ++ waits) = rw times-are at a in
+      let left = all-left (λ u. c .time < u) pendings waits both in
+      let right = all-right (λ u. c .time < u) pendings waits both in
+      let p = any-fails (λ k. dueIn (c .time) (driverIn (v .drivers) k .pending)) (length (M .drivers)) (λ k h. later (driverIn (v .drivers) k .pending) (all-part (λ u. c .time < u) (λ k. timesIn (driverIn (v .drivers) k .pending)) (c .nd) k (rw nd h) left)) in
+      let q = any-fails (λ p. deadlineAt (c .time) (processIn (v .processes) p .deadline)) (length (M .processes)) (λ p h. after (processIn (v .processes) p .deadline) (all-part (λ u. c .time < u) (λ p. optional (processIn (v .processes) p .deadline)) (c .np) p (rw np h) right)) in
+      rw (p, q)
+    where
+      later : (w : List Transaction) → All (λ u. c .time < u) (timesIn w) → dueIn (c .time) w ≡ false
+      later [] h = refl
+      later (x ∷ w) h = ne-eqb (x .time) (c .time) (λ e. omega (arith, h .0))
+
+      after : (o : Option ℕ) → All (λ u. c .time < u) (optional o) → deadlineAt (c .time) o ≡ false
+      after none h = refl
+      after (some u) h = ne-eqb u (c .time) (λ e. omega (arith, h .0))
+
+  all-later : (t : ℕ) → earliest (dueTimes M v) ≡ some t → c .time < t → All (λ u. c .time < u) (dueTimes M v)
+  all-later t e l = up (dueTimes M v) (none-earlier (dueTimes M v) t e)
+    where
+      up : (ts : List ℕ) → All (λ u. t ≤ u) ts → All (λ u. c .time < u) ts
+      up [] h = tt
+      up (u ∷ us) h = (omega (arith, h .0), up us (h .1))
+
+  none-at-all : (ts : List ℕ) → earliest ts ≡ none → All (λ u. c .time < u) ts
+  none-at-all [] e = tt
+  none-at-all (t ∷ ts) e = let z : _≡_ {A = ℕ} 0 1 = cc in absurd (omega arith)
+
+  -- something is due now exactly where the earliest due time is now
+  now-by : (o : Option ℕ) → earliest (dueTimes M v) ≡ o → dueNow M v ≡ eqb (orNever o) (c .time)
+  unfolding viewOf
+  now-by none e =
+      none-now (none-at-all (dueTimes M v) e) ∙ sym (ne-eqb never (c .time) (λ q. omega (arith, f .reachable .time)))
+  now-by (some t) e = ⊎-elim at-now later (eq-or-lt-of-le (due-within M v (f .reachable) t e .from))
+    where
+      at-now : c .time ≡ t → dueNow M v ≡ eqb t (c .time)
+      at-now q = (elim (dueNow M v) as (λ b. dueNow M v ≡ b → dueNow M v ≡ eqb t (c .time)) [
+        | true ↦ λ d. d ∙ sym (eq-eqb t (c .time) (sym q))
+        | false ↦ λ d. let l = due-after M v (f .reachable) t e d in absurd (omega arith)
+      ]) refl
+
+      later : c .time < t → dueNow M v ≡ eqb t (c .time)
+      later l = none-now (all-later t e l) ∙ sym (ne-eqb t (c .time) (λ q. omega arith))
+
+  pub due-now : dueNow M v ≡ eqb (min firsts lasts) (c .time)
+  due-now = now-by (earliest (dueTimes M v)) refl ∙ rw soonest
+
+any-same : (f g : ℕ → Bool) (n : ℕ) → ((i : ℕ) → i < n → f i ≡ g i) → anyBelow f n ≡ anyBelow g n
+unfolding anyBelow
+any-same f g zero h = refl
+any-same f g (suc n) h = rw (any-same f g n (λ i l. h i (omega arith)), h n (omega arith))
+
+-- a process of some standing, found among the numbers
+pub standing-is : (M : Model) (c : Config) (x : ℕ) → Fine M c
+    → anyBelow (λ p. eqb (getD (c .standings) p 0) x) (c .np) ≡ anyBelow (λ p. eqb (processIn (viewOf c .processes) p .standing) x) (length (M .processes))
+standing-is M c x f =
+    rw (← np M c f)
+    (any-same _ _ (c .np) (λ p h. ap (λ (y : ℕ). eqb y x) (sym (standing-in c p h))))
