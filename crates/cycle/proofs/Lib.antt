@@ -29,3 +29,6 @@ pub mod Resolving
 pub mod DeltaSignals
 pub mod DeltaProcesses
 pub mod First
+pub mod Advances
+pub mod Shifts
+pub mod Soonest

@@ -13,7 +13,7 @@ use lib.ListN.{length, getD}
 use borrow.Author.Tests.{eqb-true, ne-eqb, eq-eqb}
 use Rattle.base.specs.Below.{anyBelow, joinBelow, listBelow}
 use Rattle.base.specs.Cases.{pick}
-use Rattle.base.proofs.Below.{any-fails, list-at, list-none, list-more, join-none, join-more, list-length}
+use Rattle.base.proofs.Below.{any-fails, any-same, list-at, list-none, list-more, join-none, join-more, list-length}
 use Rattle.base.proofs.Cases.{by-test}
 use Rattle.model.specs.Records.{Model}
 use Rattle.cycle.specs.Configuration.{Transaction, DriverState, ProcessState, Configuration, driverIn, processIn}
@@ -194,11 +194,6 @@ module _ (M : Model) (c : Config) (f : Fine M c) where
 
   pub due-now : dueNow M v ≡ eqb (min firsts lasts) (c .time)
   due-now = now-by (earliest (dueTimes M v)) refl ∙ rw soonest
-
-any-same : (f g : ℕ → Bool) (n : ℕ) → ((i : ℕ) → i < n → f i ≡ g i) → anyBelow f n ≡ anyBelow g n
-unfolding anyBelow
-any-same f g zero h = refl
-any-same f g (suc n) h = rw (any-same f g n (λ i l. h i (omega arith)), h n (omega arith))
 
 -- a process of some standing, found among the numbers
 pub standing-is : (M : Model) (c : Config) (x : ℕ) → Fine M c

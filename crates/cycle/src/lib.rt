@@ -1,4 +1,5 @@
 // The cycle layer: configurations, evaluation, statements, pick, advance and settle.
+pub mod advance;
 pub mod config;
 pub mod delta;
 pub mod driver;
@@ -8,4 +9,5 @@ pub mod eval;
 pub mod operators;
 pub mod orders;
 pub mod sets;
+pub mod time;
 pub mod turns;

@@ -1,13 +1,9 @@
-// Pick, advance, settle and read.
+// Pick, settle and read, and the refusal of an order.
 ghost use Prim.Native.Nat.{_≤_};
 ghost use Rattle.model.specs.Records.{modelOf};
 ghost use Rattle.cycle.specs.Orders.{refused, picked, settled, readOf};
 ghost use Rattle.cycle.specs.View.{viewOf, Runs, Fine, Answers, AnswersEach};
 use crate::config::Config;
-use crate::due::any_standing;
-use crate::due::earlier;
-use crate::due::earliest_deadline;
-use crate::due::earliest_driver;
 use crate::turns::Answered;
 
 impl Config {
@@ -70,31 +66,5 @@ impl Config {
             value: v,
             config: self,
         }
-    }
-
-    pub fn advance(self, m: &[u8], index: &[u16; 1376]) -> Answered {
-        let np = self.np;
-        if any_standing(&self.standings, np, 0) {
-            return self.refused(14);
-        }
-        if any_standing(&self.standings, np, 2) {
-            return self.refused(15);
-        }
-        let a = earliest_driver(&self.due, self.nd);
-        let b = earliest_deadline(&self.deadlines, np);
-        let t = earlier(a, b);
-        if t == self.time {
-            if self.deltas >= 1000 {
-                return self.refused(16);
-            }
-            return self.delta_step(m, index);
-        }
-        if t == 18446744073709551615 {
-            return self.refused(17);
-        }
-        if t > 1000000000000 {
-            return self.refused(18);
-        }
-        self.time_step(t)
     }
 }
