@@ -1,11 +1,11 @@
 -- The laws of `readsOwn`: what it says of a node of each kind, its operands being lower. Assumes nothing.
-use mathlib.Core.Path.{_≡_, refl, sym, ap, _∙_}
+use mathlib.Core.Path.{_≡_, refl, sym, _∙_}
 use mathlib.Core.Bool.{Bool, true, false, _&&_}
-use Prim.Native.Nat.{ℕ, _+_, _≤_, _<_}
+use Prim.Native.Nat.{ℕ, _≤_, _<_}
 use native.Mathlib.Omega.{arith}
 use borrow.Author.Tests.{ne-eqb, eqb-true}
 use lib.Dec.{eqb}
-use lib.ListN.{length, getD}
+use lib.ListN.{getD}
 use Rattle.base.specs.Course.{course, upTo}
 use Rattle.base.proofs.Below.{and-left, and-right}
 use Rattle.base.proofs.Course.{earlier}
@@ -63,16 +63,16 @@ module _ (M : Model) (p n : ℕ) where
   reads ok own =
       let d = nodeAt M n in
       let both : 7 ≤ d .kind → (d .kind ≡ 10 → ⊥) → (readsOwn M p (d .a) && readsOwn M p (d .b)) ≡ true =
-        λ l f.
-        let e = operands-two (d .kind) l f in
-        sym (reads-two d refl refl (λ q. omega arith) (λ q. omega arith) (λ q. omega arith) (lower-a d n ok (omega arith)) (lower-b d n ok l f)) ∙ own in
+      λ l f.
+      let e = operands-two (d .kind) l f in
+      sym (reads-two d refl refl (λ q. omega arith) (λ q. omega arith) (λ q. omega arith) (lower-a d n ok (omega arith)) (lower-b d n ok l f)) ∙ own in
       record {
         variable = λ e. eqb-true _ p (sym (reads-variable d refl e) ∙ own);
         ownA =
-          λ h.
-          operands-some (d .kind) (readsOwn M p (d .a) ≡ true) h
-          (λ e. sym (reads-one d refl refl (λ q. omega arith) e (lower-a d n ok h)) ∙ own)
-          (λ l f. and-left (readsOwn M p (d .a)) _ (both l f));
+            λ h.
+            operands-some (d .kind) (readsOwn M p (d .a) ≡ true) h
+            (λ e. sym (reads-one d refl refl (λ q. omega arith) e (lower-a d n ok h)) ∙ own)
+            (λ l f. and-left (readsOwn M p (d .a)) _ (both l f));
         ownB = λ l f. and-right (readsOwn M p (d .a)) _ (both l f);
       }
 

@@ -1,7 +1,7 @@
 -- `model::owners::fill_drivers` meets its contract: the entries of the statements passed are their drivers, and the starts and
 -- the types are kept. Assumes nothing.
-use mathlib.Core.Path.{_≡_, sym, ap, _∙_}
-use Prim.Native.Nat.{ℕ, _+_, _-_, _≤_, _<_}
+use mathlib.Core.Path.{_∙_}
+use Prim.Native.Nat.{_+_, _-_, _≤_, _<_}
 use native.Mathlib.Nat.{le-antisymm, not-suc-le-zero}
 use native.Mathlib.Omega.{arith}
 use borrow.Author.Needs.{needs}
@@ -59,14 +59,15 @@ loop-again c =
     let i = 1176 + h .n in
     let k = c .statement-driver .result in
     let types = h .inv .1 in
-    let room : i < length (h .index) = omega (arith, types .size, small (c .before .before)) in
-    ( search needs
-    , record {
+    let room : i < length (h .index) = omega (arith, types .size, small (c .before .before)) in (
+      search needs,
+      record {
         size = simp length-set (types .size);
         starts = starts-set _ (h .index) i k (omega arith) (types .starts);
         type = types-kept _ (h .index) i k _ (omega (arith, nodes-most (modelOf (now (s .args .m))) (types .starts .totals))) (types .type);
-      }
-    , drivers-next _ (h .index) (h .n) k room (λ e. c .statement-driver .ensures .0) (h .inv .2))
+      },
+      drivers-next _ (h .index) (h .n) k room (λ e. c .statement-driver .ensures .0) (h .inv .2),
+    )
 
 returns : tie.Need-returns Inv-loop μ-loop
 returns c =
