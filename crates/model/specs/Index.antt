@@ -5,12 +5,13 @@ use mathlib.Core.Bool.{true}
 use mathlib.Core.List.{List, _++_}
 use Prim.Native.Nat.{ℕ, _+_, _<_}
 use lib.ListN.{length, getD, take, drop}
+use Rattle.base.specs.Below.{firstFailing}
 use Rattle.base.specs.Cases.{pick, _∣_, _is_⇒_}
 use Rattle.model.specs.Blocks.{headsOk, startsOf, totalOf}
 use Rattle.model.specs.Records.{Model, modelOf, statementAt}
 use Rattle.model.specs.Fields.{ownerOf, totalsOk}
 use Rattle.model.specs.Trees.{typeOf}
-use Rattle.model.specs.Owners.{Accepted, driverFor, refusalOf}
+use Rattle.model.specs.Owners.{Accepted, driverFor, rulesOf, refusalOf}
 use Rattle.model.specs.declared.index.Totals.{Totals}
 use Rattle.model.specs.declared.index.Loaded.{Loaded}
 
@@ -66,6 +67,11 @@ pub record Usable (m index : List ℕ) : Type 0 where
   pub type : (n : ℕ) → n < length (modelOf m .nodes) → getD index (776 + n) 0 ≡ typeOf (modelOf m) n
   pub driver : (n : ℕ) → n < length (modelOf m .statements) → statementAt (modelOf m) n .kind ≡ 2
       → getD index (1176 + n) 0 ≡ driverFor (modelOf m) (ownerOf (modelOf m) n) (statementAt (modelOf m) n .a)
+
+-- what the rules 5 to 8 give where 1 to 4 hold: the number of the first that applies, and with 0 an index to use
+pub record Judged (m index : List ℕ) (r : ℕ) : Type 0 where
+  pub refusal : r ≡ firstFailing 5 (drop 4 (rulesOf m))
+  pub usable : r ≡ 0 → Usable m index
 
 -- what loading gives: the number of the refusal, and with 0 the totals and the index
 pub record LoadedIs (m : List ℕ) (r : Loaded) : Type 0 where

@@ -7,18 +7,10 @@ use Rattle.model.specs.Owners.{rulesOf}
 use borrow.Author.Needs.{needs}
 use Rattle.model.proofs.load.blocks_refusal.Statement.{statement}
 use Rattle.model.proofs.load.blocks_refusal.Tie as tie
-use Rattle.model.proofs.load.blocks_refusal.Reads as reads
-use Rattle.model.proofs.load.blocks_refusal.Lts as lts
-use Rattle.model.proofs.blocks.heads_ok.Reads as heads-ok-reads
-use Rattle.model.proofs.blocks.length_ok.Reads as length-ok-reads
-use Rattle.model.proofs.blocks.sums_ok.Reads as sums-ok-reads
-use Rattle.model.proofs.blocks.totals_ok.Reads as totals-ok-reads
 
--- src/load.rt:22:9
 length-ok-requires : tie.Need-length-ok-requires
 length-ok-requires c κs = search needs
 
--- src/load.rt:23:9
 returns : tie.Need-returns
 unfolding rulesOf firstFailing
 returns c = rw (sym (c .before .length-ok .ensures) ∙ not-true _ (c .if1 .taken))
@@ -39,30 +31,24 @@ third c = sym (c .before .heads-ok .ensures) ∙ not-false _ (c .if3 .left)
 sums-ok-requires : tie.Need-sums-ok-requires
 sums-ok-requires c κs = search needs
 
--- src/load.rt:26:9
 returns-2 : tie.Need-returns-2
 unfolding rulesOf firstFailing
 returns-2 c = rw (first (c .before .before), sym (c .before .sums-ok .ensures) ∙ not-true _ (c .if2 .taken))
 
--- src/load.rt:28:9
 heads-ok-requires : tie.Need-heads-ok-requires
 heads-ok-requires c κs = search needs
 
--- src/load.rt:29:9
 returns-3 : tie.Need-returns-3
 unfolding rulesOf firstFailing
 returns-3 c = let c2 = c .before .before in rw (first (c2 .before .before), second c2, sym (c .before .heads-ok .ensures) ∙ not-true _ (c .if3 .taken))
 
--- src/load.rt:31:9
 totals-ok-requires : tie.Need-totals-ok-requires
 totals-ok-requires c κs = search needs
 
--- src/load.rt:32:9
 returns-4 : tie.Need-returns-4
 unfolding rulesOf firstFailing
 returns-4 c = let c3 = c .before .before in let c2 = c3 .before .before in rw (first (c2 .before .before), second c2, third c3, sym (c .before .totals-ok .ensures _ (start (c2 .before .before) .pre)) ∙ not-true _ (c .if4 .taken))
 
--- src/load.rt:18:1
 returns-5 : tie.Need-returns-5
 unfolding rulesOf firstFailing
 returns-5 c = let c3 = c .before .before in let c2 = c3 .before .before in rw (first (c2 .before .before), second c2, third c3, sym (c .before .totals-ok .ensures _ (start (c2 .before .before) .pre)) ∙ not-false _ (c .if4 .left))

@@ -1,0 +1,76 @@
+use mathlib.Core.Path.{_≡_, sym, _∙_}
+use mathlib.Core.Bool.{true}
+use borrow.Author.Needs.{needs}
+use borrow.Author.Tests.{not-true, not-false}
+use Rattle.model.specs.Records.{modelOf}
+use Rattle.model.specs.Fields.{fieldsOk}
+use Rattle.model.specs.Trees.{treesOk, typesOk}
+use Rattle.model.proofs.Rules.{fields-fail, trees-fail, types-fail, owners-fail, none-fails}
+use Rattle.model.proofs.load.model_refusal.Statement.{statement}
+use Rattle.model.proofs.load.model_refusal.Tie as tie
+
+fields-ok-requires : tie.Need-fields-ok-requires
+fields-ok-requires c κs = search needs
+
+returns : tie.Need-returns
+returns c = fields-fail _ _ (sym (c .before .fields-ok .ensures) ∙ not-true _ (c .if1 .taken))
+
+fields : (c : tie.Else1) → fieldsOk (modelOf (c .before .before .before .before .args .m .now)) ≡ true
+fields c = sym (c .before .fields-ok .ensures) ∙ not-false _ (c .if1 .left)
+
+trees-ok-requires : tie.Need-trees-ok-requires
+trees-ok-requires c κs = search needs
+
+returns-2 : tie.Need-returns-2
+returns-2 c = trees-fail _ _ (fields (c .before .before .before)) (sym (c .before .trees-ok .ensures) ∙ not-true _ (c .if2 .taken))
+
+trees : (c : tie.Else2) → treesOk (modelOf (c .before .before .before .before .before .before .before .args .m .now)) ≡ true
+trees c = sym (c .before .trees-ok .ensures) ∙ not-false _ (c .if2 .left)
+
+types-ok-requires : tie.Need-types-ok-requires
+types-ok-requires c κs =
+    let c1 = c .before .before .before .before in
+    let p = c1 .before .before .before .before .pre in
+    (p .0, (p .1 .0, (p .1 .1, fields c1)))
+
+returns-3 : tie.Need-returns-3
+returns-3 c =
+    let c2 = c .before .before .before in
+    types-fail _ _ (fields (c2 .before .before .before)) (trees c2) (sym (c .before .types-ok .ensures .0) ∙ not-true _ (c .if3 .taken))
+
+types : (c : tie.Else3) → typesOk (modelOf (c .before .before .before .before .before .before .before .before .before .before .args .m .now)) ≡ true
+types c = sym (c .before .types-ok .ensures .0) ∙ not-false _ (c .if3 .left)
+
+owners-ok-requires : tie.Need-owners-ok-requires
+owners-ok-requires c κs =
+    let c3 = c .before in
+    let c2 = c3 .before .before .before in
+    let c1 = c2 .before .before .before in
+    let p = c1 .before .before .before .before .pre in
+    (c3 .before .types-ok .ensures .1, (p .1 .1, (fields c1, trees c2)))
+
+returns-4 : tie.Need-returns-4
+returns-4 c =
+    let c3 = c .before .before .before in
+    let c2 = c3 .before .before .before in
+    owners-fail _ _ (fields (c2 .before .before .before)) (trees c2) (types c3) (sym (c .before .owners-ok .ensures .0) ∙ not-true _ (c .if4 .taken))
+
+returns-5 : tie.Need-returns-5
+returns-5 c =
+    let c3 = c .before .before .before in
+    let c2 = c3 .before .before .before in
+    none-fails _ _ (fields (c2 .before .before .before)) (trees c2) (types c3) (sym (c .before .owners-ok .ensures .0) ∙ not-false _ (c .if4 .left)) (c .before .owners-ok .ensures .1)
+
+pub model-refusal-spec : {M : Type 1} → statement M
+model-refusal-spec =
+    tie.close
+    (tie.spec
+    fields-ok-requires
+    returns
+    trees-ok-requires
+    returns-2
+    types-ok-requires
+    returns-3
+    owners-ok-requires
+    returns-4
+    returns-5)

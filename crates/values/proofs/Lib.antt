@@ -1,0 +1,3 @@
+pub mod Tables
+pub mod Resolution
+pub mod Operators

@@ -1,0 +1,96 @@
+-- What one computed test over the codes 0 to 8 says of all numbers, since a table and a rule see a number's code alone.
+-- Assumes nothing.
+use mathlib.Core.Path.{_≡_, refl, sym, _∙_}
+use mathlib.Core.Bool.{Bool, true, false}
+use mathlib.Core.List.{List, []}
+use Prim.Native.Nat.{ℕ, _<_}
+use lib.Dec.{eqb, ltb, lit<}
+use lib.ListN.{getD}
+use borrow.Author.Tests.{ltb-true, lt-ltb, eqb-true}
+use Rattle.base.specs.Below.{allBelow}
+use Rattle.base.specs.Cases.{pick}
+use Rattle.base.proofs.Below.{all-at}
+use Rattle.values.specs.Nine.{codeOf}
+use Rattle.values.specs.Resolve.{inRow, pairIn, closed, symmetric, associative, PairLaws}
+
+pub code-below : (x : ℕ) → codeOf x < 9
+unfolding codeOf
+code-below x = by-test (ltb x 9) refl
+  where
+    by-test : (b : Bool) → ltb x 9 ≡ b → pick b x 1 < 9
+    by-test true e = ltb-true x 9 e
+    by-test false e = lit< tt
+
+pub code-self : (x : ℕ) → x < 9 → codeOf x ≡ x
+unfolding codeOf
+code-self x h = rw (lt-ltb x 9 h)
+
+pub code-twice : (x : ℕ) → codeOf (codeOf x) ≡ codeOf x
+code-twice x = code-self (codeOf x) (code-below x)
+
+-- f sees the codes alone
+abbrev pub Coded : (ℕ → ℕ → ℕ) → Type 0
+Coded f = (x y : ℕ) → f (codeOf x) (codeOf y) ≡ f x y
+
+pub table-coded : (t : List (List ℕ)) → Coded (pairIn t)
+unfolding pairIn inRow
+table-coded t x y = rw (code-twice x, code-twice y)
+
+-- a test at each pair of codes
+pub two : (f : ℕ → ℕ → Bool) → allBelow (λ x. allBelow (f x) 9) 9 ≡ true → (x y : ℕ) → f (codeOf x) (codeOf y) ≡ true
+two f t x y = all-at (f (codeOf x)) 9 (codeOf y) (code-below y) (all-at (λ x. allBelow (f x) 9) 9 (codeOf x) (code-below x) t)
+
+-- and at each three of them
+pub three : (f : ℕ → ℕ → ℕ → Bool) → allBelow (λ x. allBelow (λ y. allBelow (f x y) 9) 9) 9 ≡ true → (x y z : ℕ) → f (codeOf x) (codeOf y) (codeOf z) ≡ true
+three f t x y z = two (f (codeOf x)) (all-at (λ x. allBelow (λ y. allBelow (f x y) 9) 9) 9 (codeOf x) (code-below x) t) y z
+
+-- two functions agree at each pair of codes
+unfoldable pub same : (ℕ → ℕ → ℕ) → (ℕ → ℕ → ℕ) → Bool
+same f g = allBelow (λ x. allBelow (λ y. eqb (f x y) (g x y)) 9) 9
+
+pub agree : (f g : ℕ → ℕ → ℕ) → Coded f → Coded g → same f g ≡ true → (x y : ℕ) → f x y ≡ g x y
+unfolding same
+agree f g p q t x y = sym (p x y) ∙ eqb-true (f (codeOf x) (codeOf y)) (g (codeOf x) (codeOf y)) (two (λ x y. eqb (f x y) (g x y)) t x y) ∙ q x y
+
+-- a table that agrees with a rule at the codes has the rule's values
+pub rule : (t : List (List ℕ)) (x y : ℕ) {r : ℕ} (g : ℕ → ℕ → ℕ) → Coded g → r ≡ pairIn t x y → same (λ x y. getD (getD t x []) y 0) g ≡ true → r ≡ g x y
+unfolding pairIn inRow same
+rule t x y g p h e = h ∙ eqb-true (getD (getD t (codeOf x) []) (codeOf y) 0) (g (codeOf x) (codeOf y)) (two (λ x y. eqb (getD (getD t x []) y 0) (g x y)) e x y) ∙ p x y
+
+-- the same of a table of one row
+pub row-rule : (t : List ℕ) (x : ℕ) {r : ℕ} (g : ℕ → ℕ) → ((x : ℕ) → g (codeOf x) ≡ g x) → r ≡ inRow t x → allBelow (λ x. eqb (getD t x 0) (g x)) 9 ≡ true → r ≡ g x
+unfolding inRow
+row-rule t x g p h e = h ∙ eqb-true (getD t (codeOf x) 0) (g (codeOf x)) (all-at (λ x. eqb (getD t x 0) (g x)) 9 (codeOf x) (code-below x) e) ∙ p x
+
+-- a function that gives codes at the codes gives codes
+pub below : (g : ℕ → ℕ → ℕ) → Coded g → allBelow (λ x. allBelow (λ y. ltb (g x y) 9) 9) 9 ≡ true → (x y : ℕ) → g x y < 9
+below g p e x y = rw (← p x y) (ltb-true (g (codeOf x) (codeOf y)) 9 (two (λ x y. ltb (g x y) 9) e x y))
+
+-- the laws of any table that passes the tests
+module _ (t : List (List ℕ)) where
+  in-code : closed t ≡ true → (x y : ℕ) → pairIn t x y < 9
+  unfolding closed
+  in-code h = below (pairIn t) (table-coded t) h
+
+  commute : symmetric t ≡ true → (x y : ℕ) → pairIn t x y ≡ pairIn t y x
+  unfolding symmetric same
+  commute h x y = agree (pairIn t) (λ x y. pairIn t y x) (table-coded t) (λ x y. table-coded t y x) h x y
+
+  left-code : (x y : ℕ) → pairIn t (codeOf x) y ≡ pairIn t x y
+  unfolding pairIn inRow
+  left-code x y = rw (code-twice x)
+
+  right-code : (x y : ℕ) → pairIn t x (codeOf y) ≡ pairIn t x y
+  unfolding pairIn inRow
+  right-code x y = rw (code-twice y)
+
+  associate : associative t ≡ true → (x y z : ℕ) → pairIn t (pairIn t x y) z ≡ pairIn t x (pairIn t y z)
+  unfolding associative
+  associate h x y z =
+      let p : ℕ → ℕ → ℕ → ℕ = λ x y z. pairIn t (pairIn t x y) z in
+      let q : ℕ → ℕ → ℕ → ℕ = λ x y z. pairIn t x (pairIn t y z) in
+      let e = eqb-true (p (codeOf x) (codeOf y) (codeOf z)) (q (codeOf x) (codeOf y) (codeOf z)) (three (λ x y z. eqb (p x y z) (q x y z)) h x y z) in
+      simp (left-code, right-code) at e
+
+  pub pair-laws : closed t ≡ true → symmetric t ≡ true → associative t ≡ true → PairLaws (pairIn t)
+  pair-laws c s a = record { code = in-code c; commutes = commute s; associates = associate a }

@@ -1,0 +1,4 @@
+pub mod Nine
+pub mod Resolve
+pub mod Operators
+pub mod Bench
