@@ -1,25 +1,23 @@
 -- The laws of drivers: their pairs strictly rise, so that each pair has one driver. Assumes nothing.
-use mathlib.Core.Path.{_≡_, refl, sym, ap, _∙_}
-use mathlib.Core.Bool.{Bool, true, false, _&&_, _||_}
+use mathlib.Core.Path.{_≡_, refl}
+use mathlib.Core.Bool.{Bool, true, false, _&&_}
 use mathlib.Core.Logic.{⊎-elim}
 use Prim.Native.Nat.{ℕ, zero, suc, _+_, _-_, _≤_, _<_}
 use native.Mathlib.Nat.{not-suc-le-zero, eq-or-lt-of-le, le-of-suc-le-suc}
 use native.Mathlib.Numerals.{add-one}
 use native.Mathlib.Omega.{arith}
 use borrow.Author.Tests.{eqb-true, ltb-true, leb-true, eq-eqb}
-use lib.Dec.{eqb, ltb, leb}
+use lib.Dec.{eqb, ltb}
 use lib.ListN.{length}
-use Rattle.base.specs.Below.{allBelow, sumBelow}
 use Rattle.base.specs.Cases.{pick}
 use Rattle.base.specs.Course.{firstWith}
-use Rattle.base.proofs.Below.{every-at, all-at, and-left, and-right, split, sum-below}
+use Rattle.base.proofs.Below.{every-at, all-at, and-left, and-right, sum-below}
 use Rattle.base.proofs.Course.{first-found, first-at, first-within}
 use Rattle.model.specs.Records.{Model, signalAt, driverAt}
 use Rattle.model.specs.Fields.{driverOk, fieldsOk}
 use Rattle.model.specs.Trees.{integer}
 use Rattle.model.specs.Owners.{pairBelow, driversRise, driversOf, singleOk, driverFor, ownersOk}
-use Rattle.model.specs.Facts.{DriverFits, Drives, PairsRise}
-use Rattle.model.specs.declared.records.DriverRecord.{DriverRecord}
+use Rattle.model.specs.Facts.{Drives, PairsRise}
 use Rattle.model.proofs.NodeTypes.{or-cases}
 
 and-fails : (a b : Bool) → (a ≡ true → b ≡ true → ⊥) → (a && b) ≡ false

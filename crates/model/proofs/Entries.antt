@@ -1,5 +1,5 @@
 -- The laws of the index's further entries: writing one keeps the starts. Assumes nothing.
-use mathlib.Core.Path.{_≡_, refl, sym, _∙_}
+use mathlib.Core.Path.{_≡_, _∙_}
 use mathlib.Core.List.{List}
 use Prim.Native.Nat.{ℕ, _+_, _≤_, _<_}
 use native.Mathlib.Omega.{arith}
@@ -9,8 +9,8 @@ use lib.Seq.{getD-set-same, getD-set-other}
 use Rattle.model.specs.Records.{modelOf, statementAt}
 use Rattle.model.specs.Fields.{ownerOf}
 use Rattle.model.specs.Trees.{typeOf}
-use Rattle.model.specs.Owners.{driverFor}
-use Rattle.model.specs.Index.{Starts, TypesBelow, DriversBelow}
+use Rattle.model.specs.Owners.{Accepted, driverFor}
+use Rattle.model.specs.Index.{Starts, TypesBelow, DriversBelow, DriversIn, Usable}
 use Rattle.model.proofs.Sections.{starts-kept}
 
 module _ (m index : List ℕ) (i v : ℕ) where
@@ -33,3 +33,7 @@ module _ (m index : List ℕ) (n v : ℕ) where
       n
       (λ k l q. getD-set-other index (1176 + n) (1176 + k) v 0 (λ u. omega arith) ∙ t k l q)
       (λ q. getD-set-same index (1176 + n) v 0 h ∙ e q)
+
+-- what loading an accepted model gives
+pub usable : {m index : List ℕ} → Accepted (modelOf m) → DriversIn m index → Usable m index
+usable a d = record { starts = d .types .starts; accepted = a; type = d .types .type; driver = d .driver }

@@ -1,6 +1,6 @@
 -- What acceptance gives: the facts of an accepted model, from the rules 4 to 8. Assumes nothing.
 use mathlib.Core.Path.{_≡_, refl, sym, _∙_}
-use mathlib.Core.Bool.{Bool, true}
+use mathlib.Core.Bool.{true}
 use mathlib.Core.Logic.{⊎-elim}
 use Prim.Native.Nat.{ℕ, _≤_, _<_}
 use native.Mathlib.Nat.{eq-or-lt-of-le}
@@ -12,14 +12,14 @@ use lib.ListN.{length}
 use Rattle.base.specs.Below.{allBelow}
 use Rattle.base.proofs.Below.{every-at, all-at, and-left, and-right, split}
 use Rattle.model.specs.Records.{Model, signalAt, driverAt, nodeAt, statementAt}
-use Rattle.model.specs.Fields.{ownerOf, valueOk, nodeOk, fieldsOk}
-use Rattle.model.specs.Trees.{integer, logic, boolean, lowerOk, typeOf, statementTyped, typesOk}
+use Rattle.model.specs.Fields.{ownerOf, valueOk, nodeOk}
+use Rattle.model.specs.Trees.{integer, boolean, lowerOk, typeOf, statementTyped, typesOk}
 use Rattle.model.specs.Owners.{Accepted, statementOwned, ownersOk}
-use Rattle.model.specs.Facts.{TotalsFit, DriverFits, NodeFits, NodeTyped, StatementOf, Facts}
+use Rattle.model.specs.Facts.{TotalsFit, NodeFits, NodeTyped, StatementOf, Facts}
 use Rattle.model.proofs.Lookup.{signals-most, variables-most, processes-some, processes-most, drivers-most, nodes-most, statements-some, statements-most}
 use Rattle.model.proofs.Spans.{process-fits, owner-below, owner-spans}
 use Rattle.model.proofs.Operands.{lower-a, lower-b, lower-ok, size-most}
-use Rattle.model.proofs.NodeTypes.{type-integer, type-logic, type-variable, type-signal, type-not, type-logical, type-negate, type-arithmetic, type-equal, type-less, logicalType, arithmeticType, logical-known, arithmetic-known, equal-known, less-known}
+use Rattle.model.proofs.NodeTypes.{type-integer, type-logic, type-variable, type-signal, type-not, type-logical, type-negate, type-arithmetic, type-equal, type-less, logical-known, arithmetic-known, equal-known, less-known}
 use Rattle.model.proofs.NodeFields.{signal-fits, variable-fits, node-ok, kind-least, kind-most, constant-integer, constant-logic, names-variable, names-signal, delay-most}
 use Rattle.model.proofs.Own.{reads}
 use Rattle.model.proofs.Drivers.{drives, rise, found, single, driver-process, driver-signal}

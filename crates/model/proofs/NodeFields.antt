@@ -1,12 +1,11 @@
 -- The laws of record fields: what rule 5 says of signals, variables and nodes by their kinds. Assumes nothing.
-use mathlib.Core.Path.{_≡_, refl, sym, ap, _∙_}
-use mathlib.Core.Bool.{Bool, true, false}
+use mathlib.Core.Path.{_≡_, refl}
+use mathlib.Core.Bool.{true, false}
 use mathlib.Core.Logic.{⊎-elim}
-use Prim.Native.Nat.{ℕ, _+_, _≤_, _<_}
+use Prim.Native.Nat.{ℕ, _≤_, _<_}
 use native.Mathlib.Omega.{arith}
-use borrow.Author.Tests.{ne-eqb, ltb-true, leb-true, eqb-true}
+use borrow.Author.Tests.{ne-eqb, ltb-true, leb-true}
 use lib.ListN.{length}
-use Rattle.base.specs.Below.{every}
 use Rattle.base.proofs.Below.{every-at, all-at, among, split}
 use Rattle.model.specs.Records.{Model, signalAt, variableAt, nodeAt}
 use Rattle.model.specs.Fields.{valueOk, signalOk, variableOk, nodeOk, fieldsOk}

@@ -1,13 +1,13 @@
 -- The laws of node types: what `typeOf` says of a node of each kind, its operands being lower. Assumes nothing.
-use mathlib.Core.Path.{_≡_, refl, sym, ap, _∙_}
+use mathlib.Core.Path.{_≡_, refl, sym, _∙_}
 use mathlib.Core.Bool.{Bool, true, false, _&&_, _||_}
 use mathlib.Core.List.{List}
 use mathlib.Core.Logic.{⊎-elim, _⊎_, inl, inr}
-use Prim.Native.Nat.{ℕ, zero, suc, _+_, _≤_, _<_}
+use Prim.Native.Nat.{ℕ, _+_, _≤_, _<_}
 use native.Mathlib.Omega.{arith}
 use borrow.Author.Tests.{eqb-true, eq-eqb, lt-ltb, le-ltb}
-use lib.Dec.{eqb, ltb}
-use lib.ListN.{length, getD, List·getD-eq-default}
+use lib.Dec.{eqb, leb, ltb}
+use lib.ListN.{getD, List·getD-eq-default}
 use Rattle.base.specs.Cases.{pick}
 use Rattle.base.specs.Course.{course, upTo}
 use Rattle.base.proofs.Below.{among, and-left, and-right, split}
@@ -16,7 +16,7 @@ use Rattle.model.specs.Records.{Model, signalAt, variableAt, nodeAt}
 use Rattle.model.specs.Fields.{nodeOk, fieldsOk}
 use Rattle.model.specs.Trees.{integer, logic, boolean, mistyped, typeBy, nextType, typeOf}
 use Rattle.model.specs.declared.records.NodeRecord.{NodeRecord}
-use Rattle.model.proofs.NodeFields.{variable-fits, signal-fits, kind-least, kind-most, names-variable, names-signal}
+use Rattle.model.proofs.NodeFields.{variable-fits, signal-fits, names-variable, names-signal}
 
 -- what a node's type is, given those of its operands
 abbrev pub logicalType : ℕ → ℕ → ℕ
@@ -147,60 +147,29 @@ module _ (p q t : ℕ) (known : t ≤ 2) where
       let g = passed (eqb p integer && eqb q integer) boolean (rw e at known) in
       (rw g at e, (eqb-true p integer (and-left (eqb p integer) _ g), eqb-true q integer (and-right (eqb p integer) _ g)))
 
--- a type is at most that of a mistyped node
-pick-small : (t : Bool) (x : ℕ) → (t ≡ true → x ≤ 2) → pick t x mistyped ≤ 3
-pick-small true x h = omega (arith, h refl)
-pick-small false x h = omega arith
+-- a type is at most that of a mistyped node: case by case
+pick-small : (t : Bool) (x y : ℕ) → (t ≡ true → x ≤ 3) → y ≤ 3 → pick t x y ≤ 3
+pick-small true x y h g = h refl
+pick-small false x y h g = g
 
-either-small : (p a b : ℕ) → a ≤ 2 → b ≤ 2 → (eqb p a || eqb p b) ≡ true → p ≤ 2
-either-small p a b h g t =
-    ⊎-elim (λ (u : eqb p a ≡ true). omega (arith, eqb-true p a u)) (λ (u : eqb p b ≡ true). omega (arith, eqb-true p b u)) (or-cases (eqb p a) _ t)
+case-small : (k j x y : ℕ) → (k ≡ j → x ≤ 3) → y ≤ 3 → pick (eqb k j) x y ≤ 3
+case-small k j x y h g = pick-small (eqb k j) x y (λ t. h (eqb-true k j t)) g
+
+either-small : (p : ℕ) → (eqb p logic || eqb p boolean) ≡ true → p ≤ 3
+either-small p t =
+    ⊎-elim (λ (u : eqb p logic ≡ true). omega (arith, eqb-true p logic u)) (λ (u : eqb p boolean ≡ true). omega (arith, eqb-true p boolean u)) (or-cases (eqb p logic) _ t)
 
 pub type-small : (M : Model) (d : NodeRecord) (p q : ℕ) → fieldsOk M ≡ true → nodeOk M d ≡ true → typeBy M d p q ≤ 3
 unfolding typeBy
 type-small M d p q f h =
-    let two : (eqb p logic || eqb p boolean) ≡ true → p ≤ 2 = either-small p 1 2 (omega arith) (omega arith) in
-    among (λ k. d .kind ≡ k → typeBy M d p q ≤ 3) 1 14 (d .kind) (
-      (λ e. rw e (omega arith)),
-      (
-        (λ e. rw e (omega arith)),
-        (
-          (λ e. rw e (omega (arith, variable-fits M f (d .a) (names-variable M d h e) .ty))),
-          (
-            (λ e. rw e (omega (arith, signal-fits M f (d .a) (names-signal M d h (omega arith) (omega arith)) .ty))),
-            (
-              (λ e. rw e (omega (arith, signal-fits M f (d .a) (names-signal M d h (omega arith) (omega arith)) .ty))),
-              (
-                (λ e. rw e (pick-small (eqb p logic || eqb p boolean) p two)),
-                (
-                  (λ e. rw e (pick-small (eqb p q && (eqb p logic || eqb p boolean)) p (λ t. two (and-right (eqb p q) _ t)))),
-                  (
-                    (λ e. rw e (pick-small (eqb p q && (eqb p logic || eqb p boolean)) p (λ t. two (and-right (eqb p q) _ t)))),
-                    (
-                      (λ e. rw e (pick-small (eqb p q && (eqb p logic || eqb p boolean)) p (λ t. two (and-right (eqb p q) _ t)))),
-                      (
-                        (λ e. rw e (pick-small (eqb p integer) integer (λ t. omega arith))),
-                        (
-                          (λ e. rw e (pick-small (eqb p integer && eqb q integer) integer (λ t. omega arith))),
-                          (
-                            (λ e. rw e (pick-small (eqb p integer && eqb q integer) integer (λ t. omega arith))),
-                            (
-                              (λ e. rw e (pick-small (eqb p q && (eqb p integer || eqb p logic)) boolean (λ t. omega arith))),
-                              (
-                                (λ e. rw e (pick-small (eqb p integer && eqb q integer) boolean (λ t. omega arith))),
-                                tt,
-                              ),
-                            ),
-                          ),
-                        ),
-                      ),
-                    ),
-                  ),
-                ),
-              ),
-            ),
-          ),
-        ),
-      ),
-    )
-    (kind-least M d h) (omega (arith, kind-most M d h)) refl
+    case-small (d .kind) 1 _ _ (λ e. omega arith)
+    (case-small (d .kind) 2 _ _ (λ e. omega arith)
+    (case-small (d .kind) 3 _ _ (λ e. omega (arith, variable-fits M f (d .a) (names-variable M d h e) .ty))
+    (case-small (d .kind) 4 _ _ (λ e. omega (arith, signal-fits M f (d .a) (names-signal M d h (omega arith) (omega arith)) .ty))
+    (case-small (d .kind) 5 _ _ (λ e. omega (arith, signal-fits M f (d .a) (names-signal M d h (omega arith) (omega arith)) .ty))
+    (case-small (d .kind) 6 _ _ (λ e. pick-small _ p mistyped (either-small p) (omega arith))
+    (case-small (d .kind) 10 _ _ (λ e. pick-small (eqb p integer) integer mistyped (λ t. omega arith) (omega arith))
+    (case-small (d .kind) 13 _ _ (λ e. pick-small (eqb p q && (eqb p integer || eqb p logic)) boolean mistyped (λ t. omega arith) (omega arith))
+    (case-small (d .kind) 14 _ _ (λ e. pick-small (eqb p integer && eqb q integer) boolean mistyped (λ t. omega arith) (omega arith))
+    (pick-small (leb (d .kind) 9) _ _ (λ e. pick-small (eqb p q && (eqb p logic || eqb p boolean)) p mistyped (λ t. either-small p (and-right (eqb p q) _ t)) (omega arith))
+    (pick-small (eqb p integer && eqb q integer) integer mistyped (λ t. omega arith) (omega arith)))))))))))

@@ -1,11 +1,10 @@
 -- What acceptance gives of a statement, by its kind, from the rules 5, 7 and 8. Assumes nothing.
 use mathlib.Core.Path.{_≡_}
 use mathlib.Core.Bool.{Bool, true, _||_}
-use Prim.Native.Nat.{ℕ, _≤_, _<_}
+use Prim.Native.Nat.{ℕ}
 use native.Mathlib.Omega.{arith}
 use borrow.Author.Tests.{ne-eqb, ltb-true, eqb-true}
 use lib.Dec.{eqb}
-use lib.ListN.{length}
 use Rattle.base.proofs.Below.{every-at, and-left, and-right}
 use Rattle.model.specs.Records.{Model, signalAt, variableAt}
 use Rattle.model.specs.Fields.{absent, isNodeOrAbsent, ownerOf, statementOk}

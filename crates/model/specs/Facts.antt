@@ -1,7 +1,6 @@
 -- What acceptance says of each part of a model, as plain facts: all that the layers above know of an accepted model.
 use mathlib.Core.Path.{_≡_}
 use mathlib.Core.Bool.{true}
-use mathlib.Core.Logic.{_⊎_}
 use Prim.Native.Nat.{ℕ, _+_, _^_, _≤_, _<_}
 use lib.ListN.{length}
 use Rattle.model.specs.Records.{Model, signalAt, variableAt, processAt, driverAt, nodeAt, statementAt}

@@ -3,7 +3,10 @@ ghost use mathlib.Core.Path.{_≡_};
 ghost use Prim.Native.Nat.{_+_, _<_};
 ghost use lib.ListN.{length, getD};
 ghost use Rattle.model.specs.Records.{modelOf, signalAt, variableAt, processAt, driverAt, nodeAt, statementAt};
-ghost use Rattle.model.specs.Index.{Starts};
+ghost use Rattle.model.specs.Fields.{ownerOf};
+ghost use Rattle.model.specs.Trees.{typeOf};
+ghost use Rattle.model.specs.Owners.{driverFor};
+ghost use Rattle.model.specs.Index.{Starts, TypesBelow, DriversBelow};
 use crate::records::DriverRecord;
 use crate::records::NodeRecord;
 use crate::records::ProcessRecord;
@@ -100,4 +103,25 @@ pub fn statement_at<'a>(m: &'a [u8], index: &'a [u16; 1376], n: usize) -> Statem
 {
     let start = wide(index[576 + n]);
     read_statement(&m[start..start + 12])
+}
+
+// The type of node n.
+pub fn type_at<'a>(m: &'a [u8], index: &'a [u16; 1376], n: usize) -> usize
+    requires { ⌜ Starts (now m) (now index) ⌝ }
+    requires { ⌜ TypesBelow (now m) (now index) (length (modelOf (now m) .nodes)) ⌝ }
+    requires { ⌜ n < length (modelOf (now m) .nodes) ⌝ }
+    ensures { λ r. ⌜ r ≡ typeOf (modelOf (now (m .entry))) n ⌝ }
+{
+    entry(index, 776 + n)
+}
+
+// The driver of statement n, a signal assignment.
+pub fn assignment_driver<'a>(m: &'a [u8], index: &'a [u16; 1376], n: usize) -> usize
+    requires { ⌜ Starts (now m) (now index) ⌝ }
+    requires { ⌜ DriversBelow (now m) (now index) (length (modelOf (now m) .statements)) ⌝ }
+    requires { ⌜ n < length (modelOf (now m) .statements) ⌝ }
+    requires { ⌜ statementAt (modelOf (now m)) n .kind ≡ 2 ⌝ }
+    ensures { λ r. ⌜ r ≡ driverFor (modelOf (now (m .entry))) (ownerOf (modelOf (now (m .entry))) n) (statementAt (modelOf (now (m .entry))) n .a) ⌝ }
+{
+    entry(index, 1176 + n)
 }

@@ -12,8 +12,8 @@ ghost use Rattle.model.specs.Owners.{pairBelow, driversRise, driversOf, 
 ghost use Rattle.model.specs.Index.{Starts, TotalsOf, TypesIn, DriversIn};
 use crate::fields::owner_of;
 use crate::index::Totals;
+use crate::index::assignment_driver;
 use crate::index::driver_at;
-use crate::index::entry;
 use crate::index::node_at;
 use crate::index::statement_at;
 use crate::index::variable_at;
@@ -189,7 +189,7 @@ fn statement_owned<'a>(m: &'a [u8], index: &'a [u16; 1376], t: Totals, n: usize)
     let kind = s.kind;
     match kind {
         1 => (variable_process(m, index, s.a) == p) & reads_own(m, index, s.b, p),
-        2 => (entry(index, 1176 + n) < t.drivers)
+        2 => (assignment_driver(m, index, n) < t.drivers)
             & reads_own(m, index, s.b, p)
             & reads_own(m, index, s.c, p),
         3 => reads_own(m, index, s.b, p),

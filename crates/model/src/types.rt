@@ -1,12 +1,12 @@
 // Rule 7: the type of each node, and the types that statements ask for.
 ghost use mathlib.Core.Path.{_≡_};
 ghost use mathlib.Core.Bool.{true, _||_};
-ghost use Prim.Native.Nat.{ℕ, _+_, _≤_, _<_};
+ghost use Prim.Native.Nat.{_+_, _≤_, _<_};
 ghost use lib.Dec.{eqb, leb, ltb};
 ghost use lib.ListN.{length, getD};
 ghost use Rattle.base.specs.Below.{allBelow};
 ghost use Rattle.base.specs.Cases.{pick};
-ghost use Rattle.model.specs.Records.{Model, modelOf, signalAt, variableAt, nodeAt, statementAt};
+ghost use Rattle.model.specs.Records.{modelOf, signalAt, variableAt, statementAt};
 ghost use Rattle.model.specs.Fields.{absent, isNodeOrAbsent, nodeOk, fieldsOk};
 ghost use Rattle.model.specs.Trees.{mistyped, typeBy, typeOf, statementTyped, typesOk};
 ghost use Rattle.model.specs.Index.{Starts, TotalsOf, TypesBelow, TypesIn};
@@ -15,6 +15,7 @@ use crate::index::entry;
 use crate::index::node_at;
 use crate::index::signal_at;
 use crate::index::statement_at;
+use crate::index::type_at;
 use crate::index::variable_at;
 use crate::records::NodeRecord;
 use base::choose;
@@ -122,15 +123,6 @@ fn fill_types(m: &[u8], index: &mut [u16; 1376], t: Totals) -> bool
         n += 1;
     }
     ok
-}
-
-// The type of node n.
-fn type_at<'a>(m: &'a [u8], index: &'a [u16; 1376], n: usize) -> usize
-    requires { ⌜ TypesIn (now m) (now index) ⌝ }
-    requires { ⌜ n < length (modelOf (now m) .nodes) ⌝ }
-    ensures { λ r. ⌜ r ≡ typeOf (modelOf (now (m .entry))) n ⌝ }
-{
-    entry(index, 776 + n)
 }
 
 // Whether node n is absent or has the type.

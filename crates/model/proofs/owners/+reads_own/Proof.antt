@@ -1,5 +1,5 @@
 -- `model::owners::reads_own` meets its contract: the node number falls at each call. Assumes nothing.
-use mathlib.Core.Path.{_≡_, sym, _∙_}
+use mathlib.Core.Path.{sym, _∙_}
 use Prim.Native.Nat.{ℕ, _<_}
 use denote.Ref.{now}
 use borrow.Fn.Kinds.{In}

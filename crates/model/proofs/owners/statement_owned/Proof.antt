@@ -1,5 +1,5 @@
 -- `model::owners::statement_owned` meets its contract: each arm is a case of `statementOwned`. Assumes nothing.
-use mathlib.Core.Path.{_≡_, sym, ap, _∙_}
+use mathlib.Core.Path.{_≡_}
 use mathlib.Core.Bool.{true}
 use Prim.Native.Nat.{ℕ, _<_}
 use native.Mathlib.Omega.{arith}
@@ -11,9 +11,8 @@ use Rattle.base.specs.Below.{every}
 use Rattle.model.specs.Records.{modelOf}
 use Rattle.model.specs.Fields.{fieldsOk, statementOk}
 use Rattle.model.specs.Trees.{treesOk}
-use Rattle.model.specs.Owners.{driverFor, statementOwned}
+use Rattle.model.specs.Owners.{statementOwned}
 use Rattle.model.specs.Index.{Starts}
-use Rattle.model.proofs.Lookup.{statements-most}
 use Rattle.model.proofs.StatementFields.{statement-ok, names-variable, value-node, delay-node, wait-condition, wait-delay}
 use Rattle.model.proofs.owners.statement_owned.Statement.{statement}
 use Rattle.model.proofs.owners.statement_owned.Tie as tie
@@ -46,17 +45,11 @@ reads-own-requires c κs =
     let s = o .before .before .before in
     read o _ (value-node (modelOf (now (s .args .m))) (s .args .n) (o .before .statement-at .result) (ok o) (omega (arith, c .before .match .keys1)) (omega (arith, c .before .match .keys1)))
 
--- the statement's number is below the limit
-small : (c : tie.After-owner-of) → c .before .before .before .args .n < 200
-small c =
-    let s = c .before .before .before in
-    omega (arith, s .pre .1 .1 .1 .1, statements-most (modelOf (now (s .args .m))) (s .pre .0 .types .starts .totals))
-
-add-entry : tie.Need-add-entry
-add-entry c = omega (arith, small (c .before))
-
-entry-requires : tie.Need-entry-requires
-entry-requires c κs = omega (arith, small (c .before))
+assignment-driver-requires : tie.Need-assignment-driver-requires
+assignment-driver-requires c κs =
+    let o = c .before in
+    let p = o .before .before .before .pre in
+    (p .0 .types .starts, (p .0 .driver, (p .1 .1 .1 .1, rw (o .before .statement-at .ensures) at (c .match .keys2))))
 
 reads-own-requires-2 : tie.Need-reads-own-requires-2
 reads-own-requires-2 c κs =
@@ -97,21 +90,13 @@ returns c =
     let o = c .before .before .before in
     rw (← o .before .statement-at .ensures, ← o .owner-of .ensures, c .before .before .match .keys1) (cc)
 
--- the entry of a signal assignment is its driver
-driver : (c : tie.After-entry) → c .entry .result ≡ driverFor (modelOf (now (c .before .before .before .before .before .args .m))) (c .before .before .owner-of .result) (c .before .before .before .statement-at .result .a)
-driver c =
-    let o = c .before .before in
-    let s = o .before .before .before in
-    let st = o .before .statement-at .ensures in
-    rw (o .owner-of .ensures, st) (c .entry .ensures ∙ s .pre .0 .driver (s .args .n) (s .pre .1 .1 .1 .1) (rw st at (c .before .match .keys2)))
-
 returns-2 : tie.Need-returns-2
 unfolding statementOwned every
 returns-2 c =
     let e = c .before .before .before in
     let o = e .before .before in
     let s = o .before .before .before in
-    rw (← o .before .statement-at .ensures, ← o .owner-of .ensures, e .before .match .keys2, ← driver e, ← s .pre .1 .0 .drivers) (cc)
+    rw (← o .before .statement-at .ensures, ← o .owner-of .ensures, e .before .match .keys2, ← s .pre .1 .0 .drivers) (cc)
 
 returns-3 : tie.Need-returns-3
 unfolding statementOwned
@@ -140,8 +125,7 @@ statement-owned-spec =
     owner-of-requires
     variable-process-requires
     reads-own-requires
-    add-entry
-    entry-requires
+    assignment-driver-requires
     reads-own-requires-2
     reads-own-requires-3
     reads-own-requires-4

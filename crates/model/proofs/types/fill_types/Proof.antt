@@ -1,7 +1,7 @@
 -- `model::types::fill_types` meets its contract: the entries of the nodes passed are their types, and the starts are kept.
 -- Assumes nothing.
 use mathlib.Core.Path.{_≡_, sym, ap, _∙_}
-use Prim.Native.Nat.{ℕ, _+_, _-_, _≤_, _<_}
+use Prim.Native.Nat.{_+_, _-_, _≤_, _<_}
 use native.Mathlib.Nat.{le-antisymm, not-suc-le-zero}
 use native.Mathlib.Omega.{arith}
 use borrow.Author.Needs.{needs}
@@ -17,9 +17,6 @@ use Rattle.model.proofs.Lookup.{nodes-most}
 use Rattle.model.proofs.Entries.{starts-set, types-next}
 use Rattle.model.proofs.types.fill_types.Statement.{statement}
 use Rattle.model.proofs.types.fill_types.Tie as tie
-use Rattle.model.proofs.types.fill_types.Reads as reads
-use Rattle.model.proofs.types.fill_types.Lts as lts
-use Rattle.model.proofs.types.next_type.Reads as next-type-reads
 
 abbrev Inv-loop : tie.InvT-loop
 Inv-loop m index₀ t ok₀ n₀ index ok n =

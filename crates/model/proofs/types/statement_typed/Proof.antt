@@ -1,9 +1,7 @@
 -- `model::types::statement_typed` meets its contract: each arm is a case of `statementTyped`. Assumes nothing.
-use mathlib.Core.Path.{_≡_, sym, ap, _∙_}
+use mathlib.Core.Path.{_≡_}
 use mathlib.Core.Bool.{true}
-use Prim.Native.Nat.{ℕ}
 use native.Mathlib.Omega.{arith}
-use borrow.Author.Needs.{needs}
 use borrow.Author.Tests.{ne-eqb}
 use denote.Ref.{now}
 use Rattle.model.specs.Records.{modelOf}
@@ -25,7 +23,7 @@ ok c =
 type-at-requires : tie.Need-type-at-requires
 type-at-requires c κs =
     let s = c .before .before .before in
-    (s .pre .0, value-node (modelOf (now (s .args .m))) (s .args .n) (c .before .statement-at .result) (ok (c .before)) (omega arith) (omega arith))
+    (s .pre .0 .starts, (s .pre .0 .type, value-node (modelOf (now (s .args .m))) (s .args .n) (c .before .statement-at .result) (ok (c .before)) (omega arith) (omega arith)))
 
 variable-type-requires : tie.Need-variable-type-requires
 variable-type-requires c κs =
@@ -35,7 +33,7 @@ variable-type-requires c κs =
 type-at-requires-2 : tie.Need-type-at-requires-2
 type-at-requires-2 c κs =
     let s = c .before .before .before in
-    (s .pre .0, value-node (modelOf (now (s .args .m))) (s .args .n) (c .before .statement-at .result) (ok (c .before)) (omega arith) (omega arith))
+    (s .pre .0 .starts, (s .pre .0 .type, value-node (modelOf (now (s .args .m))) (s .args .n) (c .before .statement-at .result) (ok (c .before)) (omega arith) (omega arith)))
 
 signal-type-requires : tie.Need-signal-type-requires
 signal-type-requires c κs =
@@ -45,12 +43,12 @@ signal-type-requires c κs =
 type-at-requires-3 : tie.Need-type-at-requires-3
 type-at-requires-3 c κs =
     let s = c .before .before .before .before .before in
-    (s .pre .0, delay-node (modelOf (now (s .args .m))) (s .args .n) (c .before .before .before .statement-at .result) (ok (c .before .before .before)) (c .before .before .match .keys2))
+    (s .pre .0 .starts, (s .pre .0 .type, delay-node (modelOf (now (s .args .m))) (s .args .n) (c .before .before .before .statement-at .result) (ok (c .before .before .before)) (c .before .before .match .keys2)))
 
 type-at-requires-4 : tie.Need-type-at-requires-4
 type-at-requires-4 c κs =
     let s = c .before .before .before in
-    (s .pre .0, value-node (modelOf (now (s .args .m))) (s .args .n) (c .before .statement-at .result) (ok (c .before)) (omega arith) (omega arith))
+    (s .pre .0 .starts, (s .pre .0 .type, value-node (modelOf (now (s .args .m))) (s .args .n) (c .before .statement-at .result) (ok (c .before)) (omega arith) (omega arith)))
 
 typed-or-absent-requires : tie.Need-typed-or-absent-requires
 typed-or-absent-requires c κs =

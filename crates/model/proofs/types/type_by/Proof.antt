@@ -1,12 +1,10 @@
 -- `model::types::type_by` meets its contract: each arm is a case of `typeBy`. Assumes nothing.
-use mathlib.Core.Path.{_≡_, refl, sym, ap, _∙_}
-use mathlib.Core.Bool.{Bool, true, false, _&&_, _||_}
+use mathlib.Core.Path.{_≡_, refl}
+use mathlib.Core.Bool.{Bool, true, false, _&&_}
 use mathlib.Core.Logic.{⊎-elim}
-use Prim.Native.Nat.{ℕ, _≤_, _<_}
+use Prim.Native.Nat.{ℕ, _≤_}
 use native.Mathlib.Omega.{arith}
 use borrow.Author.Needs.{needs}
-use lib.Dec.{eqb}
-use Rattle.base.specs.Cases.{pick}
 use Rattle.base.proofs.Below.{among}
 use denote.Ref.{now}
 use Rattle.model.specs.Records.{modelOf}
@@ -15,8 +13,6 @@ use Rattle.model.proofs.FieldLaws.{at-least-seven}
 use Rattle.model.proofs.NodeFields.{kind-least, kind-most, names-variable, names-signal}
 use Rattle.model.proofs.types.type_by.Statement.{statement}
 use Rattle.model.proofs.types.type_by.Tie as tie
-use Rattle.model.proofs.types.type_by.Reads as reads
-use Rattle.model.proofs.types.type_by.Lts as lts
 
 variable-type-requires : tie.Need-variable-type-requires
 variable-type-requires c κs = (c .before .before .pre .0, names-variable _ _ (c .before .before .pre .1) (c .match .keys3))

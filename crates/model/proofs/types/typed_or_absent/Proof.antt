@@ -9,6 +9,8 @@ pub typed-or-absent-spec : {M : Type 1} → statement M
 typed-or-absent-spec =
     tie.close
     (tie.spec
-    (λ c κs. (c .before .before .pre .0, present (modelOf (now (c .before .before .args .m))) _ (c .before .before .pre .1) (c .if1 .left)))
+    (λ c κs.
+    let s = c .before .before in
+    (s .pre .0 .starts, (s .pre .0 .type, present (modelOf (now (s .args .m))) _ (s .pre .1) (c .if1 .left))))
     (λ c. rw (eq-eqb _ _ (c .if1 .taken)))
     (λ c. rw (ne-eqb _ _ (c .before .if1 .left), c .type-at .ensures)))
