@@ -3,6 +3,7 @@ pub mod SignalSets
 pub mod Evaluation
 pub mod Effects
 pub mod ArraysAgree
+pub mod Runs
 pub mod Statements
 pub mod Recursion
 pub mod Signed

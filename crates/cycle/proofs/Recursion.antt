@@ -8,7 +8,7 @@ use Rattle.base.proofs.Below.{NoneOf, none-of}
 use Rattle.model.specs.Records.{modelOf, nodeAt}
 use Rattle.model.specs.Trees.{typeOf}
 use Rattle.model.specs.Facts.{NodeFits}
-use Rattle.model.specs.Index.{Usable}
+use Rattle.model.specs.Index.{Starts, TypesBelow}
 use Rattle.model.specs.declared.records.NodeRecord.{NodeRecord}
 use Rattle.cycle.specs.declared.eval.Value.{Value}
 use Rattle.cycle.specs.Evaluation.{Environment, valueBy, evalOf}
@@ -33,8 +33,8 @@ module _ {m index : List ℕ} {n t : ℕ} (call : (n ≡ t) × Call m index n) {
   pub call-b : 7 ≤ d .kind → (d .kind ≡ 10 → ⊥) → (d .b < t) × Call m index (d .b)
   call-b l k = rw node (lower (fits .lowerB (rw node at l) (rw node at k)))
 
-  pub node-below : n < 400
-  node-below = omega (arith, call .1 .0 .facts .totals .nodes)
+  pub type-call : Starts m index × (TypesBelow m index (length (modelOf m .nodes)) × (n < length (modelOf m .nodes)))
+  type-call = let u = call .1 .0 .usable in (u .starts, (u .type, call .1 .1))
 
   pub variable-below : d .kind ≡ 3 → d .a < 64
   variable-below k = rw node (omega (arith, fits .variable (rw node at k), call .1 .0 .facts .totals .variables))
@@ -51,10 +51,6 @@ module _ {m index : List ℕ} {n t : ℕ} (call : (n ≡ t) × Call m index n) {
       let l : 1 ≤ d .kind = rw node (fits .kindLeast) in
       let g : d .kind ≤ 14 = rw node (fits .kindMost) in
       absurd (none-of 1 14 (d .kind) h l (omega arith))
-
-  -- the type that the index has
-  pub type-known : {ty : ℕ} → ((m : List ℕ) → Usable m index → n < length (modelOf m .nodes) → ty ≡ typeOf (modelOf m) n) → ty ≡ typeOf (modelOf m) n
-  type-known f = f m (call .1 .0 .usable) (call .1 .1)
 
   module _ (e : Environment) {v : Value} {ty : ℕ} (type : ty ≡ typeOf (modelOf m) n) where
     pub leaf-value : ((p q : Value) → v ≡ valueBy e d ty p q) → v ≡ evalOf (modelOf m) e n

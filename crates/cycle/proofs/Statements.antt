@@ -12,9 +12,8 @@ use mir.Val.{toZ, ofZ}
 use Rattle.base.proofs.Below.{NoneOf, none-of}
 use Rattle.model.specs.Records.{modelOf, statementAt}
 use Rattle.model.specs.Fields.{ownerOf}
-use Rattle.model.specs.Owners.{driverFor}
 use Rattle.model.specs.Facts.{StatementFits}
-use Rattle.model.specs.Index.{Usable}
+use Rattle.model.specs.Index.{Starts, DriversBelow}
 use Rattle.model.specs.declared.records.StatementRecord.{StatementRecord}
 use Rattle.cycle.specs.declared.eval.Value.{Value}
 use Rattle.cycle.specs.declared.eval.Value.the-variants.{Of, Fault}
@@ -44,11 +43,9 @@ module _ {m index : List ℕ} {n : ℕ} (call : Runs m index × (n < length (mod
   pub statement-fits : StatementFits (modelOf m) (ownerOf (modelOf m) n) s
   statement-fits = rw read (call .0 .facts .statement n (call .1) .fits)
 
-  -- the driver that the index has
-  pub sender-known : {k : ℕ} → s .kind ≡ 2
-      → ((m : List ℕ) → Usable m index → n < length (modelOf m .statements) → statementAt (modelOf m) n .kind ≡ 2 → k ≡ driverFor (modelOf m) (ownerOf (modelOf m) n) (statementAt (modelOf m) n .a))
-      → k ≡ driverFor (modelOf m) (ownerOf (modelOf m) n) (s .a)
-  sender-known e f = rw read (f m (call .0 .usable) (call .1) (rw read at e))
+  -- what the call that reads the driver asks, and what it gives
+  pub driver-call : s .kind ≡ 2 → Starts m index × (DriversBelow m index (length (modelOf m .statements)) × ((n < length (modelOf m .statements)) × (statementAt (modelOf m) n .kind ≡ 2)))
+  driver-call e = let u = call .0 .usable in (u .starts, (u .driver, (call .1, rw read at e)))
 
   -- the last arm is never taken
   pub no-statement : {A : Type 0} → NoneOf (s .kind) 0 6 → A

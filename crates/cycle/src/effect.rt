@@ -1,21 +1,18 @@
 // What a statement does.
 ghost use mathlib.Core.Path.{_≡_};
-ghost use mathlib.Core.List.{List};
-ghost use Prim.Native.Nat.{ℕ, _<_};
+ghost use Prim.Native.Nat.{_<_};
 ghost use lib.Dec.{eqb};
 ghost use lib.ListN.{length};
 ghost use Rattle.base.specs.Cases.{pick};
 ghost use Rattle.model.specs.Records.{modelOf, statementAt};
 ghost use Rattle.model.specs.Fields.{ownerOf};
-ghost use Rattle.model.specs.Owners.{driverFor};
-ghost use Rattle.model.specs.Index.{Usable};
 ghost use Rattle.cycle.specs.declared.effect.Effect.the-variants.{Skip, Store, Schedule, Jump, WaitFor};
 ghost use Rattle.cycle.specs.Statements.{withValue, withDelay, effectBy};
 ghost use Rattle.cycle.specs.View.{arrays, Runs};
 use crate::eval::Value;
 use crate::eval::eval;
-use crate::eval::wide16;
 use crate::operators::int;
+use model::index::assignment_driver;
 use model::index::statement_at;
 
 // What one statement does to its process, its variables and its drivers.
@@ -34,15 +31,6 @@ pub enum Effect {
     WaitFor(u32),
     // stops with a fault
     Stop(u32),
-}
-
-// The driver of statement n, a signal assignment of the model that the index is of.
-fn sender_at(index: &[u16; 1376], n: usize) -> usize
-    requires { ⌜ n < 200 ⌝ }
-    ensures { λ r. ⌜ ((m : List ℕ) → Usable m (now (index .entry)) → n < length (modelOf m .statements) → statementAt (modelOf m) n .kind ≡ 2
-        → r ≡ driverFor (modelOf m) (ownerOf (modelOf m) n) (statementAt (modelOf m) n .a)) ⌝ }
-{
-    wide16(index[1176 + n])
 }
 
 fn store(a: usize, v: Value) -> Effect
@@ -123,7 +111,7 @@ pub fn does<'a>(
         2 => {
             let v = eval(m, index, variables, signals, s.b);
             send(
-                sender_at(index, n),
+                assignment_driver(m, index, n),
                 v,
                 eval(m, index, variables, signals, s.c),
             )

@@ -1,11 +1,8 @@
 // The value of an expression.
 ghost use mathlib.Core.Path.{_≡_};
-ghost use mathlib.Core.List.{List};
-ghost use Prim.Native.Nat.{ℕ, _+_, _*_, _≤_, _<_};
+ghost use Prim.Native.Nat.{_+_, _*_, _≤_, _<_};
 ghost use lib.ListN.{length, getD};
 ghost use Rattle.model.specs.Records.{modelOf};
-ghost use Rattle.model.specs.Trees.{typeOf};
-ghost use Rattle.model.specs.Index.{Usable};
 ghost use Rattle.cycle.specs.declared.eval.Value.the-variants.{Of};
 ghost use Rattle.cycle.specs.Evaluation.{evalOf};
 ghost use Rattle.cycle.specs.View.{arrays, Runs};
@@ -20,25 +17,12 @@ use crate::operators::or;
 use crate::operators::plus;
 use crate::operators::xor;
 use model::index::node_at;
+use model::index::type_at;
 
 // What a node evaluates to: a value as 32 bits, or the number of a fault.
 pub enum Value {
     Of(u32),
     Fault(u32),
-}
-
-pub fn wide16(x: u16) -> usize
-    ensures { λ r. ⌜ r ≡ x ⌝ }
-{
-    x as usize
-}
-
-// The type of node n of the model that the index is of.
-fn type_at(index: &[u16; 1376], n: usize) -> usize
-    requires { ⌜ n < 400 ⌝ }
-    ensures { λ r. ⌜ ((m : List ℕ) → Usable m (now (index .entry)) → n < length (modelOf m .nodes) → r ≡ typeOf (modelOf m) n) ⌝ }
-{
-    wide16(index[776 + n])
 }
 
 fn variable_of(variables: &[u32; 64], a: usize) -> Value
@@ -84,10 +68,10 @@ pub fn eval<'a>(
         3 => variable_of(variables, a),
         4 => signal_of(signals, a, 0),
         5 => signal_of(signals, a, d.k),
-        6 => not(type_at(index, n), eval(m, index, variables, signals, a)),
+        6 => not(type_at(m, index, n), eval(m, index, variables, signals, a)),
         7 => {
             let p = eval(m, index, variables, signals, a);
-            let ty = type_at(index, n);
+            let ty = type_at(m, index, n);
             if decided(ty, p, 0) {
                 return p;
             }
@@ -95,7 +79,7 @@ pub fn eval<'a>(
         }
         8 => {
             let p = eval(m, index, variables, signals, a);
-            let ty = type_at(index, n);
+            let ty = type_at(m, index, n);
             if decided(ty, p, 1) {
                 return p;
             }
@@ -103,7 +87,11 @@ pub fn eval<'a>(
         }
         9 => {
             let p = eval(m, index, variables, signals, a);
-            xor(type_at(index, n), p, eval(m, index, variables, signals, b))
+            xor(
+                type_at(m, index, n),
+                p,
+                eval(m, index, variables, signals, b),
+            )
         }
         10 => negate(eval(m, index, variables, signals, a)),
         11 => {

@@ -2,7 +2,7 @@
 use borrow.Author.Tests.{eq-eqb, ne-eqb}
 use borrow.Author.Needs.{needs}
 use Rattle.cycle.specs.Statements.{effectBy}
-use Rattle.cycle.proofs.Statements.{statement-fits, sender-known, no-statement}
+use Rattle.cycle.proofs.Statements.{statement-fits, driver-call, no-statement}
 use Rattle.cycle.proofs.effect.does.Statement.{statement}
 use Rattle.cycle.proofs.effect.does.Tie as tie
 
@@ -19,8 +19,10 @@ does-spec =
     (λ c κs. search needs)
     -- eval-requires-2
     (λ c κs. (c .before .before .before .pre .0, statement-fits (c .before .before .before .pre) (c .before .statement-at .ensures) .signalAssignment (c .match .keys3) .value .node))
-    -- sender-at-requires
-    (λ c κs. search needs)
+    -- assignment-driver-requires
+    (λ c κs.
+    let h = c .before in
+    driver-call (h .before .before .before .pre) (h .before .statement-at .ensures) (h .match .keys3))
     -- eval-requires-3
     (λ c κs.
     let h = c .before .before in
@@ -50,7 +52,8 @@ does-spec =
     -- returns-4
     (λ c.
     let h = c .before .before .before .before in
-    rw (← h .before .statement-at .ensures, h .match .keys3, ← c .before .before .before .eval2 .ensures, ← c .before .eval3 .ensures, ← sender-known (h .before .before .before .pre) (h .before .statement-at .ensures) (h .match .keys3) (c .before .before .sender-at .ensures)) (c .send .ensures))
+    let driver = rw (← h .before .statement-at .ensures) at (c .before .before .assignment-driver .ensures) in
+    rw (← h .before .statement-at .ensures, h .match .keys3, ← c .before .before .before .eval2 .ensures, ← c .before .eval3 .ensures, ← driver) (c .send .ensures))
     -- returns-5
     (λ c.
     let h = c .before .before in

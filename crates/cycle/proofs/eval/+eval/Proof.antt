@@ -6,7 +6,7 @@ use borrow.Author.Needs.{needs}
 use Rattle.values.specs.Operators.{andOf, orOf}
 use Rattle.cycle.specs.Evaluation.{valueBy}
 use Rattle.cycle.proofs.Logical.{decides}
-use Rattle.cycle.proofs.Recursion.{call-a, call-b, node-below, variable-below, signal-below, delay-below, no-other, type-known, leaf-value, unary-value, binary-value}
+use Rattle.cycle.proofs.Recursion.{call-a, call-b, type-call, variable-below, signal-below, delay-below, no-other, leaf-value, unary-value, binary-value}
 use Prim.Native.Nat.{ℕ, _<_}
 use borrow.Fn.Kinds.{In}
 use borrow.Fn.PlainCycle.{Measures, is, falls, and}
@@ -14,7 +14,7 @@ use Rattle.cycle.proofs.eval.eval.Reads as eval
 use Rattle.cycle.proofs.eval.eval.Kinds as eval-kinds
 use Rattle.cycle.proofs.eval.+eval.Lts-eval as eval-lts
 use Rattle.cycle.proofs.eval.signal_of.Reads as signal-of-reads
-use Rattle.cycle.proofs.eval.type_at.Reads as type-at-reads
+use Rattle.model.proofs.index.type_at.Reads as type-at-reads
 use Rattle.cycle.proofs.eval.variable_of.Reads as variable-of-reads
 use Rattle.cycle.proofs.operators.and.Reads as and-reads
 use Rattle.cycle.proofs.operators.decided.Reads as decided-reads
@@ -84,7 +84,7 @@ unfolding valueBy
     -- signal-of-requires-2
     (λ c κs. (signal-below (c .before .before .before .pre) (c .before .node-at .ensures) (omega arith) (omega arith), delay-below (c .before .before .before .pre) (c .before .node-at .ensures) (c .match .keys5)))
     -- type-at-requires
-    (λ c κs. node-below (c .before .before .before .pre) (c .before .node-at .ensures))
+    (λ c κs. type-call (c .before .before .before .pre) (c .before .node-at .ensures))
     -- eval-requires
     (λ c κs.
     let h = c .before in
@@ -96,7 +96,7 @@ unfolding valueBy
     -- type-at-requires-2
     (λ c κs.
     let h = c .before in
-    node-below (h .before .before .before .pre) (h .before .node-at .ensures))
+    type-call (h .before .before .before .pre) (h .before .node-at .ensures))
     -- decided-requires
     (λ c κs. search needs)
     -- returns
@@ -104,7 +104,7 @@ unfolding valueBy
     let y = c .before .before in
     let x = y .before in
     let h = x .before in
-    unary-value (h .before .before .before .pre) (h .before .node-at .ensures) _ (type-known (h .before .before .before .pre) (h .before .node-at .ensures) (y .type-at2 .ensures)) (x .eval2 .ensures)
+    unary-value (h .before .before .before .pre) (h .before .node-at .ensures) _ (y .type-at2 .ensures) (x .eval2 .ensures)
     (λ q. rw (h .match .keys7) (decides 0 andOf (y .type-at2 .result) (x .eval2 .result) q (sym (c .before .decided .ensures) ∙ c .if1 .taken))))
     -- eval-requires-3
     (λ c κs.
@@ -117,7 +117,7 @@ unfolding valueBy
     -- type-at-requires-3
     (λ c κs.
     let h = c .before in
-    node-below (h .before .before .before .pre) (h .before .node-at .ensures))
+    type-call (h .before .before .before .pre) (h .before .node-at .ensures))
     -- decided-requires-2
     (λ c κs. search needs)
     -- returns-2
@@ -125,7 +125,7 @@ unfolding valueBy
     let y = c .before .before in
     let x = y .before in
     let h = x .before in
-    unary-value (h .before .before .before .pre) (h .before .node-at .ensures) _ (type-known (h .before .before .before .pre) (h .before .node-at .ensures) (y .type-at3 .ensures)) (x .eval4 .ensures)
+    unary-value (h .before .before .before .pre) (h .before .node-at .ensures) _ (y .type-at3 .ensures) (x .eval4 .ensures)
     (λ q. rw (h .match .keys8) (decides 1 orOf (y .type-at3 .result) (x .eval4 .result) q (sym (c .before .decided2 .ensures) ∙ c .if2 .taken))))
     -- eval-requires-5
     (λ c κs.
@@ -138,7 +138,7 @@ unfolding valueBy
     -- type-at-requires-4
     (λ c κs.
     let h = c .before in
-    node-below (h .before .before .before .pre) (h .before .node-at .ensures))
+    type-call (h .before .before .before .pre) (h .before .node-at .ensures))
     -- eval-requires-7
     (λ c κs.
     let h = c .before .before in
@@ -200,23 +200,23 @@ unfolding valueBy
     -- returns-8
     (λ c.
     let h = c .before .before .before in
-    unary-value (h .before .before .before .pre) (h .before .node-at .ensures) _ (type-known (h .before .before .before .pre) (h .before .node-at .ensures) (c .before .before .type-at .ensures)) (c .before .eval .ensures) (λ q. rw (h .match .keys6) (c .not .ensures)))
+    unary-value (h .before .before .before .pre) (h .before .node-at .ensures) _ (c .before .before .type-at .ensures) (c .before .eval .ensures) (λ q. rw (h .match .keys6) (c .not .ensures)))
     -- returns-9
     (λ c.
     let y = c .before .before .before .before in
     let x = y .before in
     let h = x .before in
-    binary-value (h .before .before .before .pre) (h .before .node-at .ensures) _ (type-known (h .before .before .before .pre) (h .before .node-at .ensures) (y .type-at2 .ensures)) (x .eval2 .ensures) (c .before .eval3 .ensures) (rw (h .match .keys7) (c .and .ensures)))
+    binary-value (h .before .before .before .pre) (h .before .node-at .ensures) _ (y .type-at2 .ensures) (x .eval2 .ensures) (c .before .eval3 .ensures) (rw (h .match .keys7) (c .and .ensures)))
     -- returns-10
     (λ c.
     let y = c .before .before .before .before in
     let x = y .before in
     let h = x .before in
-    binary-value (h .before .before .before .pre) (h .before .node-at .ensures) _ (type-known (h .before .before .before .pre) (h .before .node-at .ensures) (y .type-at3 .ensures)) (x .eval4 .ensures) (c .before .eval5 .ensures) (rw (h .match .keys8) (c .or .ensures)))
+    binary-value (h .before .before .before .pre) (h .before .node-at .ensures) _ (y .type-at3 .ensures) (x .eval4 .ensures) (c .before .eval5 .ensures) (rw (h .match .keys8) (c .or .ensures)))
     -- returns-11
     (λ c.
     let h = c .before .before .before .before in
-    binary-value (h .before .before .before .pre) (h .before .node-at .ensures) _ (type-known (h .before .before .before .pre) (h .before .node-at .ensures) (c .before .before .type-at4 .ensures)) (c .before .before .before .eval6 .ensures) (c .before .eval7 .ensures) (rw (h .match .keys9) (c .xor .ensures)))
+    binary-value (h .before .before .before .pre) (h .before .node-at .ensures) _ (c .before .before .type-at4 .ensures) (c .before .before .before .eval6 .ensures) (c .before .eval7 .ensures) (rw (h .match .keys9) (c .xor .ensures)))
     -- returns-12
     (λ c.
     let h = c .before .before in
