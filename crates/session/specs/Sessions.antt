@@ -1,6 +1,7 @@
 -- A session over bytes: its number, its end configuration and the answer buffer.
 use mathlib.Core.Bool.{Bool, true, false, _&&_}
 use mathlib.Core.List.{List, [], _∷_, _++_}
+use mathlib.Core.Path.{_≡_}
 use Prim.Native.Nat.{ℕ, _*_, _%_}
 use lib.Dec.{eqb, leb}
 use lib.ListN.{length}
@@ -23,15 +24,20 @@ bufferOk orders buffer = eqb (length buffer) (4 * length orders)
 unfoldable pub numberOf : List ℕ → List ℕ → List ℕ → ℕ
 numberOf model orders buffer = firstFailing 1 (rulesOf model ++ (ordersOk orders ∷ bufferOk orders buffer ∷ []))
 
-pub record Session : Type 0 where
-  pub number : ℕ
-  pub end : Configuration
-  pub buffer : List ℕ
-
 -- the bytes of some answers, one after the other
 abbrev pub bytesOf : List (List ℕ) → List ℕ
 bytesOf [] = []
 bytesOf (a ∷ as') = a ++ bytesOf as'
+
+-- the list of orders that the bytes hold, played from c, ends in e and fills the buffer with its answers
+pub record PlayedTo (M : Model) (orders : List ℕ) (c e : Configuration) (buffer : List ℕ) : Type 0 where
+  pub end : e ≡ played M (ordersOf orders) c .end
+  pub answers : buffer ≡ bytesOf (played M (ordersOf orders) c .answers)
+
+pub record Session : Type 0 where
+  pub number : ℕ
+  pub end : Configuration
+  pub buffer : List ℕ
 
 abbrev pub accepted : Played → Session
 accepted r = record { number = 0; end = r .end; buffer = bytesOf (r .answers) }

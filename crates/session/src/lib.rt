@@ -1,4 +1,7 @@
 // The session layer: orders, answers, lists of orders and sessions; determinacy over whole lists.
+pub mod encode;
+pub mod play;
+
 ghost use mathlib.Core.Path.{_≡_};
 ghost use lib.ListN.{length};
 ghost use Rattle.values.specs.Bench.{Holds};
