@@ -7,7 +7,7 @@ use mathlib.Core.List.{List, [], _∷_, _++_, append-assoc, append-nil}
 use lib.ListN.{length, getD, take, drop, set, length-append, length-take, take-append-drop, List·getD-append}
 use lib.Seq.{drop-cons, set-at, getD-append-add, take-at, drop-append-add, drop-drop}
 use Prim.Native.Nat.{ℕ, zero, suc, _+_, _-_, _≤_, _<_}
-use native.Mathlib.Nat.{le-antisymm, not-suc-le-zero, eq-or-lt-of-le, le-of-suc-le-suc}
+use native.Mathlib.Nat.{add-zero, le-antisymm, not-suc-le-zero, eq-or-lt-of-le, le-of-suc-le-suc}
 use native.Mathlib.Numerals.{add-one}
 use native.Mathlib.Omega.{arith}
 use Rattle.base.specs.Below.{allBelow, anyBelow, sumBelow, joinBelow, listBelow, andAll, every, firstFailing}
@@ -193,6 +193,29 @@ module _ (n : ℕ) (t : Bool) (rest : List Bool) {r : Bool} where
   pub fails : r ≡ t → r ≡ false → n ≡ firstFailing n (t ∷ rest)
   unfolding firstFailing
   fails e h = rw (← e, h)
+
+-- rules joined: where none of the first fails, the later ones decide; where one of the first fails, it decides
+pub later-decide : (n : ℕ) (us vs : List Bool) → firstFailing (suc n) us ≡ 0 → firstFailing (suc n) (us ++ vs) ≡ firstFailing (suc n + length us) vs
+unfolding firstFailing
+later-decide n [] vs h = rw add-zero
+later-decide n (true ∷ us) vs h =
+    let e : suc (suc n) + length us ≡ suc n + suc (length us) = omega arith in
+    rw e at (later-decide (suc n) us vs h)
+later-decide n (false ∷ us) vs h = absurd (omega arith)
+
+pub first-decides : (n : ℕ) (us vs : List Bool) → (firstFailing n us ≡ 0 → ⊥) → firstFailing n (us ++ vs) ≡ firstFailing n us
+unfolding firstFailing
+first-decides n [] vs h = absurd (h refl)
+first-decides n (true ∷ us) vs h = first-decides (suc n) us vs h
+first-decides n (false ∷ us) vs h = refl
+
+-- no rule fails: each holds
+pub each-holds : (n : ℕ) (us : List Bool) (i : ℕ) → firstFailing (suc n) us ≡ 0 → getD us i true ≡ true
+unfolding firstFailing
+each-holds n [] i h = refl
+each-holds n (true ∷ us) zero h = refl
+each-holds n (true ∷ us) (suc i) h = each-holds (suc n) us i h
+each-holds n (false ∷ us) i h = absurd (omega arith)
 
 -- what holds of each of the n numbers from lo on, written out
 abbrev pub Each : (ℕ → Type 0) → ℕ → ℕ → Type 0

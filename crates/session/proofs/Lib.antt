@@ -3,3 +3,6 @@ pub mod Bench
 pub mod Demand3
 pub mod Runs
 pub mod PlayLaws
+pub mod SessionLaws
+pub mod ListLaws
+pub mod StandIn

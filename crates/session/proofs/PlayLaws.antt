@@ -1,22 +1,21 @@
 -- Laws of a list of orders played from its bytes: the next order, its answer written behind those before it, and the end.
 -- Assumes nothing.
-use mathlib.Core.Path.{_≡_, refl, sym, ap, _∙_}
+use mathlib.Core.Path.{_≡_, refl, ap, _∙_}
 use mathlib.Core.List.{List, [], _∷_, _++_, append-assoc, append-nil}
-use Prim.Native.Nat.{ℕ, zero, suc, _+_, _*_, _-_, _/_, _≤_, _<_}
-use native.Mathlib.Nat.{le-of-eq, add-assoc}
+use Prim.Native.Nat.{ℕ, _+_, _*_, _-_, _/_, _≤_, _<_}
+use native.Mathlib.Nat.{le-of-eq}
 use native.Mathlib.Numerals.{add-one}
 use native.Mathlib.Omega.{arith}
-use lib.ListN.{length, getD, take, drop, length-append, length-take, drop-of-length-le}
+use lib.ListN.{length, take, drop, length-append, length-take, drop-of-length-le}
 use lib.Seq.{take-all, take-at, drop-cons, getD-take, getD-drop}
 use Rattle.base.specs.Below.{listBelow}
 use Rattle.base.specs.Bytes.{byteAt, wordAt}
 use Rattle.base.proofs.Below.{list-length, list-at}
 use Rattle.model.specs.Records.{Model}
 use Rattle.cycle.specs.Configuration.{Configuration}
-use Rattle.cycle.specs.Orders.{Outcome}
-use Rattle.cycle.specs.View.{viewOf, outcomeOf, Answers}
+use Rattle.cycle.specs.View.{viewOf, outcomeOf}
 use Rattle.cycle.specs.declared.turns.Answered.{Answered}
-use Rattle.session.specs.Lists.{Order, order, orderOf, ordersOf, performed, answerBytes, answerOf, answered, Played, played}
+use Rattle.session.specs.Lists.{order, orderOf, ordersOf, performed, answerBytes, answerOf, played}
 use Rattle.session.specs.Sessions.{bytesOf}
 
 -- a whole copy

@@ -10,7 +10,9 @@ use Rattle.base.specs.Cases.{pick}
 use Rattle.model.specs.Records.{Model, modelOf}
 use Rattle.model.specs.Owners.{rulesOf}
 use Rattle.cycle.specs.Configuration.{Configuration, first, empty}
+use Rattle.cycle.specs.View.{viewOf}
 use Rattle.session.specs.Lists.{Played, ordersOf, played}
+use Rattle.session.specs.declared.Ended.{Ended}
 
 -- 9. "Orders' length is not a multiple of 4 up to 16,384."
 unfoldable pub ordersOk : List ℕ → Bool
@@ -20,9 +22,13 @@ ordersOk orders = eqb (length orders % 4) 0 && leb (length orders) 16384
 unfoldable pub bufferOk : List ℕ → List ℕ → Bool
 bufferOk orders buffer = eqb (length buffer) (4 * length orders)
 
+-- 9 and 10, in checking order
+abbrev pub lengthRules : List ℕ → List ℕ → List Bool
+lengthRules orders buffer = ordersOk orders ∷ bufferOk orders buffer ∷ []
+
 -- the first of 1 to 10 that applies, or 0
 unfoldable pub numberOf : List ℕ → List ℕ → List ℕ → ℕ
-numberOf model orders buffer = firstFailing 1 (rulesOf model ++ (ordersOk orders ∷ bufferOk orders buffer ∷ []))
+numberOf model orders buffer = firstFailing 1 (rulesOf model ++ lengthRules orders buffer)
 
 -- the bytes of some answers, one after the other
 abbrev pub bytesOf : List (List ℕ) → List ℕ
@@ -52,3 +58,9 @@ sessionOf model orders buffer =
     pick (eqb (numberOf model orders buffer) 0)
     (accepted (played (modelOf model) (ordersOf orders) (first (modelOf model))))
     (refusedWith (numberOf model orders buffer) buffer)
+
+-- what the program returned, and what the buffer, once `old`, holds then, is the session
+pub record SessionIs (model orders old new : List ℕ) (r : Ended) : Type 0 where
+  pub number : r .number ≡ sessionOf model orders old .number
+  pub end : viewOf (r .config) ≡ sessionOf model orders old .end
+  pub buffer : new ≡ sessionOf model orders old .buffer

@@ -8,31 +8,23 @@ ghost use Rattle.session.specs.Lists.{answerBytes};
 fn encoded(refusal: usize, byte: usize, picks: usize, value: u32, time: u64) -> [u8; 16]
     ensures { λ r. ⌜ r ≡ answerBytes refusal byte picks value time ⌝ }
 {
-    let v1 = value / 256;
-    let v2 = v1 / 256;
-    let t1 = time / 256;
-    let t2 = t1 / 256;
-    let t3 = t2 / 256;
-    let t4 = t3 / 256;
-    let t5 = t4 / 256;
-    let t6 = t5 / 256;
     [
         (refusal % 256) as u8,
         (byte % 256) as u8,
         (picks % 256) as u8,
-        ((picks / 256) % 256) as u8,
+        (picks / 256 % 256) as u8,
         (value % 256) as u8,
-        (v1 % 256) as u8,
-        (v2 % 256) as u8,
-        ((v2 / 256) % 256) as u8,
+        (value / 256 % 256) as u8,
+        (value / 65536 % 256) as u8,
+        (value / 16777216 % 256) as u8,
         (time % 256) as u8,
-        (t1 % 256) as u8,
-        (t2 % 256) as u8,
-        (t3 % 256) as u8,
-        (t4 % 256) as u8,
-        (t5 % 256) as u8,
-        (t6 % 256) as u8,
-        ((t6 / 256) % 256) as u8,
+        (time / 256 % 256) as u8,
+        (time / 65536 % 256) as u8,
+        (time / 16777216 % 256) as u8,
+        (time / 4294967296 % 256) as u8,
+        (time / 1099511627776 % 256) as u8,
+        (time / 281474976710656 % 256) as u8,
+        (time / 72057594037927936 % 256) as u8,
     ]
 }
 

@@ -6,9 +6,14 @@ ghost use Rattle.model.specs.Records.{modelOf};
 ghost use Rattle.cycle.specs.View.{Runs, Fine, Answers, viewOf};
 ghost use Rattle.session.specs.Lists.{performed, order};
 ghost use Rattle.session.specs.Sessions.{PlayedTo};
+use crate::encode::put_answer;
+use crate::stand_in::advance;
+use crate::stand_in::pick;
+use crate::stand_in::read;
+use crate::stand_in::refuse;
+use crate::stand_in::settle;
 use base::byte;
 use base::word;
-use crate::encode::put_answer;
 use cycle::config::Config;
 use cycle::turns::Answered;
 
@@ -25,23 +30,41 @@ fn perform(
     requires { ⌜ Fine (modelOf (now m)) c ⌝ }
     ensures { λ r. ⌜ Answers (modelOf (now (m .entry))) r (performed (modelOf (now (m .entry))) (order kind argument count) (viewOf c)) ⌝ }
 {
-    Answered {
-        refusal: 11,
-        byte: 0,
-        picks: 0,
-        value: 0,
-        config: c,
+    match kind {
+        1 => {
+            if count == 0 {
+                pick(c, m, index, argument)
+            } else {
+                refuse(c, 11)
+            }
+        }
+        2 => {
+            if (argument == 0) & (count == 0) {
+                advance(c, m, index)
+            } else {
+                refuse(c, 11)
+            }
+        }
+        3 => {
+            if argument == 0 {
+                settle(c, m, index, count)
+            } else {
+                refuse(c, 11)
+            }
+        }
+        4 => {
+            if count == 0 {
+                read(c, argument)
+            } else {
+                refuse(c, 11)
+            }
+        }
+        _ => refuse(c, 11),
     }
 }
 
 // Plays the orders, and writes each answer into its own part of the buffer.
-pub fn play(
-    c: Config,
-    m: &[u8],
-    index: &[u16; 1376],
-    orders: &[u8],
-    answers: &mut [u8],
-) -> Config
+pub fn play(c: Config, m: &[u8], index: &[u16; 1376], orders: &[u8], answers: &mut [u8]) -> Config
     requires { ⌜ Runs (now m) (now index) ⌝ }
     requires { ⌜ Fine (modelOf (now m)) c ⌝ }
     requires { ⌜ length (now answers) ≡ 16 * (length (now orders) / 4) ⌝ }

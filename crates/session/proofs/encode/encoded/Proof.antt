@@ -1,95 +1,78 @@
+-- Each byte is the one that the definition names; the lowest is divided by 1. Assumes nothing.
+use native.Mathlib.Nat.{div-one}
 use borrow.Author.Needs.{needs}
 use Rattle.session.proofs.encode.encoded.Statement.{statement}
 use Rattle.session.proofs.encode.encoded.Tie as tie
-use Rattle.session.proofs.encode.encoded.Reads as reads
-use Rattle.session.proofs.encode.encoded.Lts as lts
 
--- src/encode.rt:20:9
-cast-t15 : tie.Need-cast-t15
-cast-t15 c = search needs
+cast-t7 : tie.Need-cast-t7
+cast-t7 c = search needs
 
--- src/encode.rt:21:9
-cast-t17 : tie.Need-cast-t17
-cast-t17 c = search needs
+cast-t9 : tie.Need-cast-t9
+cast-t9 c = search needs
 
--- src/encode.rt:22:9
+cast-t11 : tie.Need-cast-t11
+cast-t11 c = search needs
+
+cast-t14 : tie.Need-cast-t14
+cast-t14 c = search needs
+
+cast-t16 : tie.Need-cast-t16
+cast-t16 c = search needs
+
 cast-t19 : tie.Need-cast-t19
 cast-t19 c = search needs
 
--- src/encode.rt:23:9
 cast-t22 : tie.Need-cast-t22
 cast-t22 c = search needs
 
--- src/encode.rt:24:9
-cast-t24 : tie.Need-cast-t24
-cast-t24 c = search needs
+cast-t25 : tie.Need-cast-t25
+cast-t25 c = search needs
 
--- src/encode.rt:25:9
-cast-t26 : tie.Need-cast-t26
-cast-t26 c = search needs
+cast-t27 : tie.Need-cast-t27
+cast-t27 c = search needs
 
--- src/encode.rt:26:9
-cast-t28 : tie.Need-cast-t28
-cast-t28 c = search needs
+cast-t30 : tie.Need-cast-t30
+cast-t30 c = search needs
 
--- src/encode.rt:27:9
-cast-t31 : tie.Need-cast-t31
-cast-t31 c = search needs
-
--- src/encode.rt:28:9
 cast-t33 : tie.Need-cast-t33
 cast-t33 c = search needs
 
--- src/encode.rt:29:9
-cast-t35 : tie.Need-cast-t35
-cast-t35 c = search needs
+cast-t36 : tie.Need-cast-t36
+cast-t36 c = search needs
 
--- src/encode.rt:30:9
-cast-t37 : tie.Need-cast-t37
-cast-t37 c = search needs
-
--- src/encode.rt:31:9
 cast-t39 : tie.Need-cast-t39
 cast-t39 c = search needs
 
--- src/encode.rt:32:9
-cast-t41 : tie.Need-cast-t41
-cast-t41 c = search needs
+cast-t42 : tie.Need-cast-t42
+cast-t42 c = search needs
 
--- src/encode.rt:33:9
-cast-t43 : tie.Need-cast-t43
-cast-t43 c = search needs
-
--- src/encode.rt:34:9
 cast-t45 : tie.Need-cast-t45
 cast-t45 c = search needs
 
--- src/encode.rt:35:9
 cast-t48 : tie.Need-cast-t48
 cast-t48 c = search needs
 
--- src/encode.rt:8:1
 returns : tie.Need-returns
-returns c = ?
+returns c = simp div-one
 
 pub encoded-spec : {M : Type 1} → statement M
 encoded-spec =
     tie.close
     (tie.spec
-    cast-t15
-    cast-t17
+    cast-t7
+    cast-t9
+    cast-t11
+    cast-t14
+    cast-t16
     cast-t19
     cast-t22
-    cast-t24
-    cast-t26
-    cast-t28
-    cast-t31
+    cast-t25
+    cast-t27
+    cast-t30
     cast-t33
-    cast-t35
-    cast-t37
+    cast-t36
     cast-t39
-    cast-t41
-    cast-t43
+    cast-t42
     cast-t45
     cast-t48
     returns)

@@ -1,30 +1,29 @@
+-- The whole part is copied over. Assumes nothing.
+use mathlib.Core.Path.{_≡_, refl, sym, ap, _∙_}
 use borrow.Author.Needs.{needs}
+use lib.ListN.{length}
+use Rattle.session.proofs.PlayLaws.{copied}
 use Rattle.session.proofs.encode.put_answer.Statement.{statement}
 use Rattle.session.proofs.encode.put_answer.Tie as tie
-use Rattle.session.proofs.encode.put_answer.Reads as reads
-use Rattle.session.proofs.encode.put_answer.Lts as lts
-use Rattle.bytes.proofs.copy.Reads as copy-reads
-use Rattle.session.proofs.encode.encoded.Reads as encoded-reads
 
--- src/encode.rt:44:13
 encoded-requires : tie.Need-encoded-requires
 encoded-requires c κs = search needs
 
--- src/encode.rt:45:17
 slice-aggregate-copy : tie.Need-slice-aggregate-copy
 slice-aggregate-copy c = search needs
 
--- src/encode.rt:45:5
 copy-requires : tie.Need-copy-requires
 copy-requires c κs = search needs
 
--- src/encode.rt:40:1
 same-length : tie.Need-same-length
 same-length c = search needs
 
--- src/encode.rt:40:1
 returns : tie.Need-returns
-returns c = ?
+returns c =
+    let start = c .before .before .before .before .before .before .before in
+    let made = c .before .before .before .before .before .encoded in
+    let k : length (made .result) ≡ 16 = ap length (made .ensures) in
+    copied (made .result) (start .args .out .now) _ (length (made .result)) refl (start .pre ∙ sym k) (c .before .before .copy .ensures .1) ∙ made .ensures
 
 pub put-answer-spec : {M : Type 1} → statement M
 put-answer-spec =
