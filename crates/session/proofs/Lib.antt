@@ -5,4 +5,5 @@ pub mod Runs
 pub mod PlayLaws
 pub mod SessionLaws
 pub mod ListLaws
+pub mod TextLaws
 pub mod StandIn

@@ -2,6 +2,7 @@
 pub mod encode;
 pub mod play;
 mod stand_in;
+pub mod text;
 
 ghost use mathlib.Core.Path.{_≡_};
 ghost use lib.ListN.{length};
