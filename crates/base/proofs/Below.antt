@@ -7,7 +7,7 @@ use mathlib.Core.List.{List, [], _∷_, _++_, append-assoc, append-nil}
 use lib.ListN.{length, getD, take, drop, set, length-append, length-set, length-take, take-append-drop, List·getD-append}
 use lib.Seq.{drop-cons, set-at, getD-append-add, getD-set-same, getD-set-other, ext-getD, take-at, drop-append-add, drop-drop}
 use Prim.Native.Nat.{ℕ, zero, suc, _+_, _-_, _≤_, _<_}
-use native.Mathlib.Nat.{le-antisymm, not-suc-le-zero, eq-or-lt-of-le, le-of-suc-le-suc}
+use native.Mathlib.Nat.{add-zero, le-antisymm, not-suc-le-zero, eq-or-lt-of-le, le-of-suc-le-suc}
 use native.Mathlib.Numerals.{add-one}
 use native.Mathlib.Omega.{arith}
 use Rattle.base.specs.Below.{allBelow, anyBelow, sumBelow, joinBelow, listBelow, andAll, every, firstFailing}
@@ -280,6 +280,21 @@ none-fails n [] h e i = refl
 none-fails n (true ∷ ts) h e zero = refl
 none-fails n (true ∷ ts) h e (suc i) = none-fails (suc n) ts (omega arith) e i
 none-fails n (false ∷ ts) h e i = absurd (omega arith)
+
+-- rules joined: where none of the first fails, the later ones decide; where one of the first fails, it decides
+pub later-decide : (n : ℕ) (us vs : List Bool) → firstFailing (suc n) us ≡ 0 → firstFailing (suc n) (us ++ vs) ≡ firstFailing (suc n + length us) vs
+unfolding firstFailing
+later-decide n [] vs h = rw add-zero
+later-decide n (true ∷ us) vs h =
+    let e : suc (suc n) + length us ≡ suc n + suc (length us) = omega arith in
+    rw e at (later-decide (suc n) us vs h)
+later-decide n (false ∷ us) vs h = absurd (omega arith)
+
+pub first-decides : (n : ℕ) (us vs : List Bool) → (firstFailing n us ≡ 0 → ⊥) → firstFailing n (us ++ vs) ≡ firstFailing n us
+unfolding firstFailing
+first-decides n [] vs h = absurd (h refl)
+first-decides n (true ∷ us) vs h = first-decides (suc n) us vs h
+first-decides n (false ∷ us) vs h = refl
 
 -- what holds of each of the n numbers from lo on, written out
 abbrev pub Each : (ℕ → Type 0) → ℕ → ℕ → Type 0

@@ -1,4 +1,5 @@
 pub mod Lists
 pub mod Sessions
+pub mod Text
 pub mod Demand3
 pub mod Bench

@@ -17,6 +17,9 @@ pub record Order : Type 0 where
   pub argument : ℕ
   pub count : ℕ
 
+abbrev pub order : ℕ → ℕ → ℕ → Order
+order kind argument count = record { kind = kind; argument = argument; count = count }
+
 unfoldable pub orderOf : List ℕ → Order
 orderOf r = record { kind = byteAt r 0; argument = byteAt r 1; count = wordAt r 2 }
 
@@ -40,15 +43,18 @@ byteOf i x = x / 256 ^ i % 256
 
 -- "Each answer has 16 bytes [..]: 0 refusal or 0; 1 [..]; 2-3 picks made; 4-7 the value read, or a pick's fault; 8-15 the time
 -- after the order."
-unfoldable pub answerOf : Outcome → List ℕ
-answerOf r =
-    byteOf 0 (r .refusal)
-    ∷ byteOf 0 (r .byte)
-    ∷ byteOf 0 (r .picks) ∷ byteOf 1 (r .picks)
-    ∷ byteOf 0 (r .value) ∷ byteOf 1 (r .value) ∷ byteOf 2 (r .value) ∷ byteOf 3 (r .value)
-    ∷ byteOf 0 (r .after .time) ∷ byteOf 1 (r .after .time) ∷ byteOf 2 (r .after .time) ∷ byteOf 3 (r .after .time)
-    ∷ byteOf 4 (r .after .time) ∷ byteOf 5 (r .after .time) ∷ byteOf 6 (r .after .time) ∷ byteOf 7 (r .after .time)
+abbrev pub answerBytes : ℕ → ℕ → ℕ → ℕ → ℕ → List ℕ
+answerBytes refusal byte picks value time =
+    byteOf 0 refusal
+    ∷ byteOf 0 byte
+    ∷ byteOf 0 picks ∷ byteOf 1 picks
+    ∷ byteOf 0 value ∷ byteOf 1 value ∷ byteOf 2 value ∷ byteOf 3 value
+    ∷ byteOf 0 time ∷ byteOf 1 time ∷ byteOf 2 time ∷ byteOf 3 time
+    ∷ byteOf 4 time ∷ byteOf 5 time ∷ byteOf 6 time ∷ byteOf 7 time
     ∷ []
+
+unfoldable pub answerOf : Outcome → List ℕ
+answerOf r = answerBytes (r .refusal) (r .byte) (r .picks) (r .value) (r .after .time)
 
 -- what a list of orders gives: an answer to each, and the end configuration
 pub record Played : Type 0 where

@@ -1,6 +1,7 @@
 -- A session over bytes: its number, its end configuration and the answer buffer.
 use mathlib.Core.Bool.{Bool, _&&_}
 use mathlib.Core.List.{List, [], _∷_, _++_}
+use mathlib.Core.Path.{_≡_}
 use Prim.Native.Nat.{ℕ, _*_, _%_}
 use lib.Dec.{eqb, leb}
 use lib.ListN.{length}
@@ -9,7 +10,9 @@ use Rattle.base.specs.Cases.{pick}
 use Rattle.model.specs.Records.{modelOf}
 use Rattle.model.specs.Owners.{rulesOf}
 use Rattle.cycle.specs.Configuration.{Configuration, first, empty}
+use Rattle.cycle.specs.View.{viewOf}
 use Rattle.session.specs.Lists.{Played, ordersOf, played}
+use Rattle.session.specs.declared.Ended.{Ended}
 
 -- 9. "Orders' length is not a multiple of 4 up to 16,384."
 unfoldable pub ordersOk : List ℕ → Bool
@@ -19,19 +22,28 @@ ordersOk orders = eqb (length orders % 4) 0 && leb (length orders) 16384
 unfoldable pub bufferOk : List ℕ → List ℕ → Bool
 bufferOk orders buffer = eqb (length buffer) (4 * length orders)
 
+-- 9 and 10, in checking order
+abbrev pub lengthRules : List ℕ → List ℕ → List Bool
+lengthRules orders buffer = ordersOk orders ∷ bufferOk orders buffer ∷ []
+
 -- the first of 1 to 10 that applies, or 0
 unfoldable pub numberOf : List ℕ → List ℕ → List ℕ → ℕ
-numberOf model orders buffer = firstFailing 1 (rulesOf model ++ (ordersOk orders ∷ bufferOk orders buffer ∷ []))
-
-pub record Session : Type 0 where
-  pub number : ℕ
-  pub end : Configuration
-  pub buffer : List ℕ
+numberOf model orders buffer = firstFailing 1 (rulesOf model ++ lengthRules orders buffer)
 
 -- the bytes of some answers, one after the other
 abbrev pub bytesOf : List (List ℕ) → List ℕ
 bytesOf [] = []
 bytesOf (a ∷ as') = a ++ bytesOf as'
+
+-- the list of orders that the bytes hold, played from c, ends in e and fills the buffer with its answers
+pub record PlayedTo (M : Model) (orders : List ℕ) (c e : Configuration) (buffer : List ℕ) : Type 0 where
+  pub end : e ≡ played M (ordersOf orders) c .end
+  pub answers : buffer ≡ bytesOf (played M (ordersOf orders) c .answers)
+
+pub record Session : Type 0 where
+  pub number : ℕ
+  pub end : Configuration
+  pub buffer : List ℕ
 
 abbrev pub accepted : Played → Session
 accepted r = record { number = 0; end = r .end; buffer = bytesOf (r .answers) }
@@ -46,3 +58,9 @@ sessionOf model orders buffer =
     pick (eqb (numberOf model orders buffer) 0)
     (accepted (played (modelOf model) (ordersOf orders) (first (modelOf model))))
     (refusedWith (numberOf model orders buffer) buffer)
+
+-- what the program returned, and what the buffer, once `old`, holds then, is the session
+pub record SessionIs (model orders old new : List ℕ) (r : Ended) : Type 0 where
+  pub number : r .number ≡ sessionOf model orders old .number
+  pub end : viewOf (r .config) ≡ sessionOf model orders old .end
+  pub buffer : new ≡ sessionOf model orders old .buffer

@@ -1,10 +1,68 @@
 // The session layer: orders, answers, lists of orders and sessions; determinacy over whole lists.
+pub mod encode;
+pub mod play;
+pub mod text;
+
 ghost use mathlib.Core.Path.{_≡_};
-ghost use mathlib.Core.Bool.{true};
 ghost use lib.ListN.{length};
+ghost use Rattle.base.specs.Below.{firstFailing};
 ghost use Rattle.values.specs.Bench.{Holds};
 ghost use Rattle.session.specs.Bench.{rows};
 ghost use Rattle.session.specs.Demand3.{Determinate};
+ghost use Rattle.session.specs.Sessions.{lengthRules, SessionIs};
+use crate::play::play;
+use cycle::config::Config;
+use model::load::load;
+
+// What a session returns: its number and its end configuration.
+pub struct Ended {
+    pub number: usize,
+    pub config: Config,
+}
+
+// The first of 9 and 10 that applies, or 0.
+fn lengths_refusal(orders: &[u8], answers: &[u8]) -> usize
+    ensures { λ r. ⌜ r ≡ firstFailing 9 (lengthRules (now (orders .entry)) (now (answers .entry))) ⌝ }
+{
+    let n = orders.len();
+    let whole = (n % 4 == 0) & (n <= 16384);
+    if !whole {
+        return 9;
+    }
+    if answers.len() != 4 * n {
+        return 10;
+    }
+    0
+}
+
+// Plays the orders on the model from its first configuration, and writes the answers. A refused session returns its number and
+// the empty configuration, and writes nothing.
+pub fn session(model: &[u8], orders: &[u8], answers: &mut [u8]) -> Ended
+    ensures { λ r. ⌜ SessionIs (now (model .entry)) (now (orders .entry)) (now (answers .entry)) (now (answers .exit)) r ⌝ }
+    ensures { λ r. ⌜ Determinate ⌝ }
+{
+    let loaded = load(model);
+    let refusal = loaded.refusal;
+    if refusal != 0 {
+        return Ended {
+            number: refusal,
+            config: Config::empty(),
+        };
+    }
+    let number = lengths_refusal(orders, answers);
+    if number != 0 {
+        return Ended {
+            number: number,
+            config: Config::empty(),
+        };
+    }
+    let index = loaded.index;
+    let c = Config::first(model, &index, loaded.totals);
+    Ended {
+        number: 0,
+        config: play(c, model, &index, orders, answers),
+    }
+}
 
 // How many rows the proved table of the bench has, and that they hold.
 pub fn bench_rows() -> usize
@@ -12,12 +70,4 @@ pub fn bench_rows() -> usize
     ensures { λ r. ⌜ Holds rows ⌝ }
 {
     17
-}
-
-// That the lists of orders of every accepted model are determinate, demand 3: a law of the rules, so that nothing is computed.
-pub fn lists_are_determinate() -> bool
-    ensures { λ r. ⌜ r ≡ true ⌝ }
-    ensures { λ r. ⌜ Determinate ⌝ }
-{
-    true
 }

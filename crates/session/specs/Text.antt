@@ -1,0 +1,58 @@
+-- The lines that the program prints: "a line per answer: refusal, byte 1, picks, value (bytes 4-7, signed), time, in base ten with
+-- one space between (a refused session: its number alone)".
+use mathlib.Core.Path.{_≡_}
+use mathlib.Core.List.{List, [], _∷_, _++_}
+use Prim.Native.Nat.{ℕ, suc, _+_, _*_, _-_, _^_}
+use lib.Dec.{ltb}
+use lib.ListN.{length, take}
+use Rattle.base.specs.Bytes.{byteAt, wordAt, longAt}
+use Rattle.base.specs.Cases.{pick}
+use Rattle.base.specs.Course.{firstWith}
+use Rattle.io.specs.Digits.{digits}
+
+-- how many digits a number below 10 ^ 20 has in base ten
+unfoldable pub placesOf : ℕ → ℕ
+placesOf n = suc (firstWith (λ k. ltb n (10 ^ suc k)) 19)
+
+-- a number below 10 ^ 20 in base ten
+unfoldable pub decimalOf : ℕ → List ℕ
+decimalOf n = digits 10 (placesOf n) n
+
+abbrev pub space : ℕ
+space = 32
+
+abbrev pub lineFeed : ℕ
+lineFeed = 10
+
+abbrev pub minus : ℕ
+minus = 45
+
+-- 32 bits as a signed number
+unfoldable pub signedOf : ℕ → List ℕ
+signedOf v = pick (ltb v 2147483648) (decimalOf v) (minus ∷ decimalOf (4294967296 - v))
+
+-- the time of an answer, 64 bits
+abbrev pub timeIn : List ℕ → ℕ
+timeIn a = longAt a 8 + 4294967296 * longAt a 12
+
+-- a text and the character behind it
+abbrev pub ended : List ℕ → ℕ → List ℕ
+ended text c = text ++ (c ∷ [])
+
+-- the line of an answer
+unfoldable pub lineOf : List ℕ → List ℕ
+lineOf a =
+    ended (decimalOf (byteAt a 0)) space
+    ++ ended (decimalOf (byteAt a 1)) space
+    ++ ended (decimalOf (wordAt a 2)) space
+    ++ ended (signedOf (longAt a 4)) space
+    ++ ended (decimalOf (timeIn a)) lineFeed
+
+-- the line of a refused session
+abbrev pub numberLineOf : ℕ → List ℕ
+numberLineOf n = ended (decimalOf n) lineFeed
+
+-- `old` became `new` by a text that was written at `at`, and r is the place behind it
+pub record Written (text old new : List ℕ) (at r : ℕ) : Type 0 where
+  pub place : r ≡ at + length text
+  pub bytes : take r new ≡ take at old ++ text
