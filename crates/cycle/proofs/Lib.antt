@@ -22,6 +22,8 @@ pub mod Outcomes
 pub mod Picks
 pub mod Arrays
 pub mod Resolving
+pub mod DeltaDrivers
+pub mod DeltaView
 pub mod DeltaSignals
 pub mod DeltaProcesses
 pub mod First
