@@ -1,5 +1,5 @@
 -- The laws of `allBelow`, `anyBelow`, `sumBelow` and `joinBelow` that a counting loop cites. Assumes nothing.
-use mathlib.Core.Path.{_≡_, refl, sym, ap, _∙_}
+use mathlib.Core.Path.{_≡_, refl, sym, _∙_}
 use mathlib.Core.Logic.{⊎-elim, _⊎_, inl, inr}
 use native.Mathlib.Decide.{decLt, ℕ-discrete}
 use mathlib.Core.Bool.{Bool, true, false, _&&_, _||_}
@@ -119,6 +119,12 @@ module _ (f : ℕ → Bool) where
   -- all turns are done
   pub any-done : (n i : ℕ) → i ≤ n → n ≤ i → anyBelow f i ≡ false → false ≡ anyBelow f n
   any-done n i h k t = rw (le-antisymm h k) at (sym t)
+
+-- two tests that agree below n
+pub any-same : (f g : ℕ → Bool) (n : ℕ) → ((i : ℕ) → i < n → f i ≡ g i) → anyBelow f n ≡ anyBelow g n
+unfolding anyBelow
+any-same f g zero h = refl
+any-same f g (suc n) h = rw (any-same f g n (λ i l. h i (omega arith)), h n (omega arith))
 
 -- a test that holds of no number below n
 pub any-none : (f : ℕ → Bool) (n : ℕ) → anyBelow f n ≡ false → (i : ℕ) → i < n → f i ≡ false

@@ -2,9 +2,9 @@
 -- Assumes nothing.
 use mathlib.Core.Path.{_≡_, refl, ap, sym, _∙_}
 use mathlib.Core.Bool.{Bool, true, false}
-use mathlib.Core.List.{List, [], _∷_, _++_}
+use mathlib.Core.List.{List, []}
 use mathlib.Core.Logic.{⊎-elim}
-use Prim.Native.Nat.{ℕ, zero, suc, _+_, _<_, _≤_}
+use Prim.Native.Nat.{ℕ, zero, suc, _<_, _≤_}
 use native.Mathlib.Nat.{eq-or-lt-of-le, le-of-suc-le-suc, not-suc-le-zero}
 use native.Mathlib.Numerals.{add-one}
 use native.Mathlib.Omega.{arith}
@@ -75,6 +75,12 @@ pub first-none : (f : ℕ → Bool) (n : ℕ) → ((k : ℕ) → k < n → f k �
 unfolding firstWith
 first-none f zero p = refl
 first-none f (suc n) p = rw (p 0 (omega arith), first-none (λ k. f (suc k)) n (λ k l. p (suc k) (omega arith)))
+
+-- two tests that agree below n
+pub first-same : (f g : ℕ → Bool) (n : ℕ) → ((k : ℕ) → k < n → f k ≡ g k) → firstWith f n ≡ firstWith g n
+unfolding firstWith
+first-same f g zero h = refl
+first-same f g (suc n) h = rw (h 0 (omega arith), first-same (λ i. f (suc i)) (λ i. g (suc i)) n (λ k l. h (suc k) (omega arith)))
 
 -- a first number below n passes
 pub first-at : (f : ℕ → Bool) (n : ℕ) → firstWith f n < n → f (firstWith f n) ≡ true

@@ -1,7 +1,7 @@
 -- The laws of a driver's struct: the waveform that its arrays hold, and what each of its functions has to show.
 -- Assumes nothing.
 use mathlib.Core.Path.{_≡_, refl, sym, ap, _∙_}
-use mathlib.Core.Bool.{Bool, true, false}
+use mathlib.Core.Bool.{true, false}
 use mathlib.Core.List.{List, [], _∷_, _++_, append-nil}
 use mathlib.Core.Logic.{⊎-elim}
 use Prim.Native.Nat.{ℕ, zero, suc, _+_, _-_, _≤_, _<_}
@@ -19,9 +19,8 @@ use Rattle.cycle.specs.Configuration.{Transaction}
 use Rattle.cycle.specs.Statements.{before, scheduled, overflows, driverAfter}
 use Rattle.cycle.specs.Invariant.{Rising}
 use Rattle.cycle.specs.View.{never, pendingOf, firstTime}
-use Rattle.cycle.specs.Waveform.{Waveform, Kept, driving, ScheduledTo}
+use Rattle.cycle.specs.Waveform.{Waveform, Kept, ScheduledTo}
 use Rattle.cycle.specs.declared.driver.Driver.{Driver}
-use Rattle.cycle.specs.declared.driver.Scheduled.{Scheduled}
 use Rattle.cycle.proofs.Waves.{scheduled-length}
 
 abbrev pub nothing : Transaction

@@ -27,3 +27,7 @@ pub mod DeltaView
 pub mod DeltaSignals
 pub mod DeltaProcesses
 pub mod First
+pub mod SettledIn
+pub mod Changes
+pub mod Turning
+pub mod OrderLaws

@@ -1,12 +1,12 @@
 -- What holds of each element of a list, and the elements of a list after a map or a change. Assumes nothing.
-use mathlib.Core.Path.{_≡_, refl}
+use mathlib.Core.Path.{_≡_, refl, sym, _∙_}
 use mathlib.Core.Logic.{⊎-elim}
 use mathlib.Core.List.{List, [], _∷_, _++_, map}
 use Prim.Native.Nat.{ℕ, zero, suc, _+_, _<_}
 use native.Mathlib.Nat.{not-suc-le-zero, eq-or-lt-of-le, le-of-suc-le-suc}
 use native.Mathlib.Decide.{ℕ-discrete}
 use native.Mathlib.Omega.{arith}
-use lib.ListN.{length, getD, set}
+use lib.ListN.{length, getD, set, length-map}
 use lib.Seq.{getD-set-same, getD-set-other}
 use Rattle.base.specs.Below.{joinBelow}
 
@@ -50,6 +50,10 @@ pub map-at : {A B : Type 0} (f : A → B) (l : List A) (n : ℕ) (d : A) (d' : B
 map-at f [] n d d' h = absurd (not-suc-le-zero h)
 map-at f (x ∷ l) zero d d' h = refl
 map-at f (x ∷ l) (suc n) d d' h = map-at f l n d d' (le-of-suc-le-suc h)
+
+-- a list is as long as what it is mapped to
+pub length-mapped : {A B : Type 0} (f : A → B) (l : List A) (n : ℕ) → length (map f l) ≡ n → length l ≡ n
+length-mapped f l n e = sym (length-map l f) ∙ e
 
 -- what holds of each element, and of a new one at its place, holds of each after the change
 pub set-each : {A : Type 0} (P : ℕ → A → Type 0) (l : List A) (n i : ℕ) (x d : A) → length l ≡ n → (i < n → P i x) → ((j : ℕ) → j < n → P j (getD l j d)) → (j : ℕ) → j < n → P j (getD (set l i x) j d)

@@ -1,16 +1,14 @@
 -- The view of the struct: its lengths and elements, and what a change of the struct does to it. Assumes nothing.
 use mathlib.Core.Path.{_≡_, refl, sym, ap, _∙_}
 use mathlib.Core.List.{List, []}
-use mathlib.Core.Option.{Option}
-use Prim.Native.Nat.{ℕ, _+_, _*_, _≤_, _<_}
-use native.Mathlib.Omega.{arith}
+use Prim.Native.Nat.{ℕ, _+_, _*_, _<_}
 use lib.ListN.{length, getD, set}
 use lib.Seq.{getD-set-same, getD-set-other}
 use Rattle.base.specs.Below.{listBelow}
-use Rattle.base.proofs.Below.{list-length, list-at, list-same, list-change}
+use Rattle.base.proofs.Below.{list-length, list-at, list-change}
 use Rattle.model.specs.Records.{Model}
-use Rattle.model.specs.Facts.{TotalsFit}
-use Rattle.cycle.specs.Configuration.{DriverState, ProcessState, Configuration, driverIn, processIn, pastOf}
+use Rattle.cycle.specs.Configuration.{DriverState, ProcessState, driverIn, processIn, pastOf}
+use Rattle.cycle.specs.Statements.{moved, waits, stops}
 use Rattle.cycle.specs.Invariant.{Reachable}
 use Rattle.cycle.specs.View.{pendingOf, noDriver, deadlineOf, historyOf, driverView, processView, viewOf}
 use Rattle.cycle.specs.declared.config.Config.{Config}
@@ -100,3 +98,54 @@ module _ (c c' : Config) where
 
   pub processes-set : (p : ℕ) → c' .np ≡ c .np → ((j : ℕ) → (j ≡ p → ⊥) → processView c' j ≡ processView c j) → listBelow (processView c') (c' .np) ≡ set (listBelow (processView c) (c .np)) p (processView c' p)
   processes-set p e h = ap (listBelow (processView c')) e ∙ list-change (processView c) (processView c') (c .np) p h
+
+-- what one process's entries say, and one driver's
+abbrev pub rowOf : List ℕ → List ℕ → List ℕ → List ℕ → ℕ → ProcessState
+rowOf places standings deadlines faults p =
+    record { place = getD places p 0; standing = getD standings p 0; deadline = deadlineOf (getD deadlines p 0); fault = getD faults p 0 }
+
+abbrev pub driverOf : List ℕ → List Driver → ℕ → DriverState
+driverOf currents drivers k = record { current = getD currents k 0; pending = pendingOf (getD drivers k noDriver) }
+
+-- the view, with its lists written out
+pub view-is : (c : Config) → viewOf c ≡ record {
+  time = c .time;
+  deltas = c .deltas;
+  signals = listBelow (historyOf (c .signals)) (c .ns);
+  drivers = listBelow (driverOf (c .currents) (c .drivers)) (c .nd);
+  processes = listBelow (rowOf (c .places) (c .standings) (c .deadlines) (c .faults)) (c .np);
+  variables = listBelow (λ a. getD (c .variables) a 0) (c .nv);
+}
+unfolding viewOf driverView processView
+view-is c = refl
+
+-- the entries of process p are changed
+module _ (places standings deadlines faults : List ℕ) (n p : ℕ) where
+  abbrev rows : List ProcessState
+  rows = listBelow (rowOf places standings deadlines faults) n
+
+  abbrev row : ProcessState
+  row = rowOf places standings deadlines faults p
+
+  pub place-set : (i : ℕ) → p < length places → listBelow (rowOf (set places p i) standings deadlines faults) n ≡ set rows p (moved row i)
+  place-set i h =
+      list-change (rowOf places standings deadlines faults) _ n p (λ j o. rw (getD-set-other places p j i 0 o)) ∙ rw (getD-set-same places p i 0 h)
+
+  pub waits-set : p < length standings → listBelow (rowOf places (set standings p 1) deadlines faults) n ≡ set rows p (waits row (row .deadline))
+  waits-set h =
+      list-change (rowOf places standings deadlines faults) _ n p (λ j o. rw (getD-set-other standings p j 1 0 o)) ∙ rw (getD-set-same standings p 1 0 h)
+
+  pub waits-for-set : (t : ℕ) → p < length standings → p < length deadlines → listBelow (rowOf places (set standings p 1) (set deadlines p t) faults) n ≡ set rows p (waits row (deadlineOf t))
+  waits-for-set t h l =
+      list-change (rowOf places standings deadlines faults) _ n p (λ j o. rw (getD-set-other standings p j 1 0 o, getD-set-other deadlines p j t 0 o))
+      ∙ rw (getD-set-same standings p 1 0 h, getD-set-same deadlines p t 0 l)
+
+  pub stops-set : (f : ℕ) → p < length standings → p < length faults → listBelow (rowOf places (set standings p 2) deadlines (set faults p f)) n ≡ set rows p (stops row f)
+  stops-set f h l =
+      list-change (rowOf places standings deadlines faults) _ n p (λ j o. rw (getD-set-other standings p j 2 0 o, getD-set-other faults p j f 0 o))
+      ∙ rw (getD-set-same standings p 2 0 h, getD-set-same faults p f 0 l)
+
+-- the waveform of driver k is changed
+pub driver-set : (currents : List ℕ) (drivers : List Driver) (n k : ℕ) (d : Driver) → k < length drivers → listBelow (driverOf currents (set drivers k d)) n ≡ set (listBelow (driverOf currents drivers) n) k (record { current = getD currents k 0; pending = pendingOf d })
+driver-set currents drivers n k d h =
+    list-change (driverOf currents drivers) _ n k (λ j o. rw (getD-set-other drivers k j d noDriver o)) ∙ rw (getD-set-same drivers k d noDriver h)

@@ -8,3 +8,4 @@ pub mod View
 pub mod Waveform
 pub mod Arrays
 pub mod Delta
+pub mod Turns

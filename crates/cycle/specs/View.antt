@@ -87,3 +87,7 @@ outcomeOf r = record { refusal = r .refusal; byte = r .byte; picks = r .picks; v
 pub record Answers (M : Model) (r : Answered) (o : Outcome) : Type 0 where
   pub is : outcomeOf r ≡ o
   pub fine : Fine M (r .config)
+
+-- the same of every model that the configuration can be one of
+abbrev pub AnswersEach : Config → Answered → (Model → Outcome) → Type 0
+AnswersEach c r o = (M : Model) → Fine M c → Answers M r (o M)

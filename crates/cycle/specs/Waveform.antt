@@ -3,7 +3,7 @@ use mathlib.Core.Path.{_≡_}
 use mathlib.Core.List.{List}
 use Prim.Native.Nat.{ℕ, _≤_, _<_}
 use lib.ListN.{getD}
-use Rattle.cycle.specs.Configuration.{Transaction, DriverState}
+use Rattle.cycle.specs.Configuration.{DriverState}
 use Rattle.cycle.specs.Statements.{scheduled, overflows, driverAfter}
 use Rattle.cycle.specs.Invariant.{Rising}
 use Rattle.cycle.specs.View.{pendingOf}

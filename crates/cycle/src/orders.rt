@@ -1,4 +1,8 @@
 // Pick, advance, settle and read.
+ghost use Prim.Native.Nat.{_≤_};
+ghost use Rattle.model.specs.Records.{modelOf};
+ghost use Rattle.cycle.specs.Orders.{refused, picked, settled, readOf};
+ghost use Rattle.cycle.specs.View.{viewOf, Runs, Fine, Answers, AnswersEach};
 use crate::config::Config;
 use crate::due::any_standing;
 use crate::due::earlier;
@@ -7,7 +11,10 @@ use crate::due::earliest_driver;
 use crate::turns::Answered;
 
 impl Config {
-    pub fn refused(self, n: usize) -> Answered {
+    // A refused order hands the configuration back as it was.
+    pub fn refused(self, n: usize) -> Answered
+        ensures { λ r. ⌜ AnswersEach self r (λ M. refused n (viewOf self)) ⌝ }
+    {
         Answered {
             refusal: n,
             byte: 0,
@@ -17,7 +24,12 @@ impl Config {
         }
     }
 
-    pub fn pick(self, m: &[u8], index: &[u16; 1376], p: usize) -> Answered {
+    // One statement of process p.
+    pub fn pick<'a>(self, m: &'a [u8], index: &'a [u16; 1376], p: usize) -> Answered
+        requires { ⌜ Runs (now m) (now index) ⌝ }
+        requires { ⌜ Fine (modelOf (now m)) self ⌝ }
+        ensures { λ r. ⌜ Answers (modelOf (now (m .entry))) r (picked (modelOf (now (m .entry))) p (viewOf self)) ⌝ }
+    {
         if p >= self.np {
             return self.refused(12);
         }
@@ -32,12 +44,21 @@ impl Config {
         r
     }
 
-    pub fn settle(self, m: &[u8], index: &[u16; 1376], count: usize) -> Answered {
+    // Picks of the lowest ready process until none is ready or count picks are made.
+    pub fn settle<'a>(self, m: &'a [u8], index: &'a [u16; 1376], count: usize) -> Answered
+        requires { ⌜ Runs (now m) (now index) ⌝ }
+        requires { ⌜ Fine (modelOf (now m)) self ⌝ }
+        ensures { λ r. ⌜ Answers (modelOf (now (m .entry))) r (settled (modelOf (now (m .entry))) count (viewOf self)) ⌝ }
+    {
         let np = self.np;
         self.turns(m, index, 0, np, count)
     }
 
-    pub fn read(self, s: usize) -> Answered {
+    // The current value of signal s.
+    pub fn read(self, s: usize) -> Answered
+        requires { ⌜ self .ns ≤ 32 ⌝ }
+        ensures { λ r. ⌜ AnswersEach self r (λ M. readOf M s (viewOf self)) ⌝ }
+    {
         if s >= self.ns {
             return self.refused(19);
         }

@@ -1,4 +1,13 @@
 // Picks in place: one loop serves the pick of a process and a settle.
+ghost use mathlib.Core.Path.{_≡_};
+ghost use Prim.Native.Nat.{_≤_, _<_};
+ghost use lib.ListN.{length};
+ghost use Rattle.base.specs.Cases.{pick};
+ghost use Rattle.model.specs.Records.{modelOf};
+ghost use Rattle.model.specs.Facts.{Spans};
+ghost use Rattle.cycle.specs.Statements.{nextPlace};
+ghost use Rattle.cycle.specs.View.{viewOf, Runs, Fine, Answers};
+ghost use Rattle.cycle.specs.Turns.{turnsOf};
 use crate::config::Config;
 use crate::due::any_standing;
 use crate::effect::Effect;
@@ -14,7 +23,12 @@ pub struct Answered {
 }
 
 // The place after i in process p: the last statement is followed by the first.
-pub fn next_place<'a>(m: &'a [u8], index: &'a [u16; 1376], p: usize, i: usize) -> usize {
+pub fn next_place<'a>(m: &'a [u8], index: &'a [u16; 1376], p: usize, i: usize) -> usize
+    requires { ⌜ Runs (now m) (now index) ⌝ }
+    requires { ⌜ p < length (modelOf (now m) .processes) ⌝ }
+    requires { ⌜ Spans (modelOf (now m)) p i ⌝ }
+    ensures { λ r. ⌜ r ≡ nextPlace (modelOf (now (m .entry))) p i ⌝ }
+{
     let r = process_at(m, index, p);
     if i + 1 < r.first + r.count {
         i + 1
@@ -23,16 +37,29 @@ pub fn next_place<'a>(m: &'a [u8], index: &'a [u16; 1376], p: usize, i: usize) -
     }
 }
 
+fn bit(b: bool) -> usize
+    ensures { λ r. ⌜ r ≡ pick b 1 0 ⌝ }
+{
+    if b { 1 } else { 0 }
+}
+
 impl Config {
-    // At most count picks of the lowest ready process of those from p on and below end.
-    pub fn turns(
+    // At most count picks, each of the lowest ready process of those from `from` on and below `end`.
+    pub fn turns<'a>(
         mut self,
-        m: &[u8],
-        index: &[u16; 1376],
+        m: &'a [u8],
+        index: &'a [u16; 1376],
         from: usize,
         end: usize,
         count: usize,
-    ) -> Answered {
+    ) -> Answered
+        requires { ⌜ Runs (now m) (now index) ⌝ }
+        requires { ⌜ Fine (modelOf (now m)) self ⌝ }
+        requires { ⌜ from ≤ end ⌝ }
+        requires { ⌜ end ≤ self .np ⌝ }
+        ensures { λ r. ⌜ Answers (modelOf (now (m .entry))) r (turnsOf (modelOf (now (m .entry))) from end count (viewOf self)) ⌝ }
+    {
+        let now = self.time;
         let mut p = from;
         let mut n = 0;
         while (n < count) & (p < end) {
@@ -46,44 +73,51 @@ impl Config {
             match does(m, index, &self.variables, &self.signals, place) {
                 Effect::Skip => {
                     self.places[p] = next_place(m, index, p, place);
+                    continue;
                 }
                 Effect::Store(a, v) => {
                     self.variables[a] = v;
                     self.places[p] = next_place(m, index, p, place);
+                    continue;
                 }
                 Effect::Schedule(k, d, v) => {
                     let e = self.drivers[k];
-                    let r = e.schedule(self.time + d as u64, v);
+                    let r = e.schedule(now + d as u64, v);
                     if r.full {
                         self.standings[p] = 2;
                         self.faults[p] = 3;
-                    } else {
-                        let f = r.driver;
-                        self.due[k] = f.first_time();
-                        self.drivers[k] = f;
-                        self.places[p] = next_place(m, index, p, place);
+                        continue;
                     }
+                    let f = r.driver;
+                    self.due[k] = f.first_time();
+                    self.drivers[k] = f;
+                    self.places[p] = next_place(m, index, p, place);
+                    continue;
                 }
                 Effect::Jump(a) => {
                     self.places[p] = a;
+                    continue;
                 }
                 Effect::Wait => {
                     self.standings[p] = 1;
+                    continue;
                 }
                 Effect::WaitFor(d) => {
                     self.standings[p] = 1;
-                    self.deadlines[p] = self.time + d as u64;
+                    self.deadlines[p] = now + d as u64;
+                    continue;
                 }
                 Effect::Stop(f) => {
                     self.standings[p] = 2;
                     self.faults[p] = f;
+                    continue;
                 }
             }
         }
         let more = any_standing(&self.standings, end, 0);
         Answered {
             refusal: 0,
-            byte: if more { 1 } else { 0 },
+            byte: bit(more),
             picks: n,
             value: 0,
             config: self,

@@ -1,6 +1,5 @@
 use mathlib.Core.Path.{refl}
 use Rattle.cycle.proofs.Drivers.{pending-none}
-use borrow.Author.Needs.{needs}
 use Rattle.cycle.proofs.driver.Driver.none.Statement.{statement}
 use Rattle.cycle.proofs.driver.Driver.none.Tie as tie
 

@@ -1,0 +1,102 @@
+-- What each return of pick, settle and read has to show. Assumes nothing.
+use mathlib.Core.Path.{_≡_, refl, ap, _∙_}
+use mathlib.Core.Bool.{true, false}
+use Prim.Native.Nat.{ℕ, _+_, _*_, _≤_, _<_}
+use native.Mathlib.Nat.{add-zero}
+use native.Mathlib.Omega.{arith}
+use lib.Dec.{ltb, leb}
+use lib.ListN.{length, getD}
+use borrow.Author.Tests.{le-leb, lt-leb, eq-eqb, ne-eqb}
+use Rattle.base.specs.Below.{anyBelow}
+use Rattle.base.proofs.Course.{any-first}
+use Rattle.model.specs.Records.{Model}
+use Rattle.model.specs.Facts.{Facts}
+use Rattle.cycle.specs.Configuration.{Configuration}
+use Rattle.cycle.specs.Statements.{stepped}
+use Rattle.cycle.specs.Orders.{Outcome, refused, isReady, pickDone, picked, lowestReady, settledFrom, settled, readOf}
+use Rattle.cycle.specs.Turns.{turnsDone, turnsOf}
+use Rattle.cycle.specs.View.{viewOf, Fine, outcomeOf, Answers, AnswersEach}
+use Rattle.cycle.specs.declared.config.Config.{Config}
+use Rattle.cycle.specs.declared.turns.Answered.{Answered}
+use Rattle.cycle.proofs.ViewLaws.{past-in, standing-in, fault-in, ns-is, np-is}
+use Rattle.cycle.proofs.SettledIn.{settled-whole, settled-one}
+
+pub refused-each : (c : Config) (n : ℕ) → AnswersEach c (record { refusal = n; byte = 0; picks = 0; value = 0; config = c }) (λ M. refused n (viewOf c))
+unfolding outcomeOf
+refused-each c n M f = record { is = refl; fine = f }
+
+module _ (c : Config) (s : ℕ) where
+  read-out : (M : Model) → length (M .signals) ≤ s → refused 19 (viewOf c) ≡ readOf M s (viewOf c)
+  unfolding readOf
+  read-out M h = rw (le-leb (length (M .signals)) s h)
+
+  pub read-none : (r : Answered) → c .ns ≤ s → AnswersEach c r (λ M. refused 19 (viewOf c)) → AnswersEach c r (λ M. readOf M s (viewOf c))
+  read-none r h a M f = rw (read-out M (omega (arith, ns-is M c (f .reachable)))) at (a M f)
+
+  pub read-some : s < c .ns → (v : ℕ) → v ≡ getD (c .signals) (32 * s) 0 → AnswersEach c (record { refusal = 0; byte = 0; picks = 0; value = v; config = c }) (λ M. readOf M s (viewOf c))
+  unfolding outcomeOf readOf
+  read-some h v e M f =
+      let l : s < length (M .signals) = omega (arith, ns-is M c (f .reachable)) in
+      record { is = rw (lt-leb (length (M .signals)) s l, past-in c s 0 h (omega arith), add-zero) (rw e); fine = f }
+
+pub few-processes : (M : Model) → Facts M → (c : Config) → Fine M c → c .np ≤ 16
+few-processes M fs c f = omega (arith, np-is M c (f .reachable), fs .totals .processes)
+
+module _ (M : Model) (c : Config) (f : Fine M c) where
+  some-ready : (e : Configuration) → anyBelow (λ p. isReady p e) (length (M .processes)) ≡ ltb (lowestReady M e) (length (M .processes))
+  unfolding lowestReady
+  some-ready e = any-first (λ p. isReady p e) (length (M .processes))
+
+  -- a settle is the turns of all processes
+  whole : (n : ℕ) → turnsOf M 0 (c .np) n (viewOf c) ≡ settled M n (viewOf c)
+  unfolding turnsOf settled
+  whole n =
+      ap (λ (k : ℕ). turnsOf M 0 k n (viewOf c)) (np-is M c (f .reachable))
+      ∙ rw (settled-whole M n 0 (viewOf c), some-ready (settledFrom M 0 n (viewOf c) .end))
+
+  pub settle-done : (n : ℕ) (r : Answered) → Answers M r (turnsOf M 0 (c .np) n (viewOf c)) → Answers M r (settled M n (viewOf c))
+  settle-done n r a = rw (whole n) at a
+
+  module _ (p : ℕ) where
+    out : c .np ≤ p → refused 12 (viewOf c) ≡ picked M p (viewOf c)
+    unfolding picked
+    out h = rw (le-leb (length (M .processes)) p (omega (arith, np-is M c (f .reachable))))
+
+    pub pick-none : (r : Answered) → c .np ≤ p → AnswersEach c r (λ M. refused 12 (viewOf c)) → Answers M r (picked M p (viewOf c))
+    pick-none r h a = rw (out h) at (a M f)
+
+    module _ (h : p < c .np) where
+      there : leb (length (M .processes)) p ≡ false
+      there = lt-leb (length (M .processes)) p (omega (arith, np-is M c (f .reachable)))
+
+      not-ready : (getD (c .standings) p 0 ≡ 0 → ⊥) → refused 13 (viewOf c) ≡ picked M p (viewOf c)
+      unfolding picked isReady
+      not-ready g = rw (there, standing-in c p h, ne-eqb (getD (c .standings) p 0) 0 g)
+
+      pub pick-waiting : (r : Answered) → (getD (c .standings) p 0 ≡ 0 → ⊥) → AnswersEach c r (λ M. refused 13 (viewOf c)) → Answers M r (picked M p (viewOf c))
+      pick-waiting r g a = rw (not-ready g) at (a M f)
+
+      module _ (g : getD (c .standings) p 0 ≡ 0) where
+        is-ready : isReady p (viewOf c) ≡ true
+        unfolding isReady
+        is-ready = eq-eqb _ 0 (standing-in c p h ∙ g)
+
+        done : pickDone p (stepped M p (viewOf c)) ≡ picked M p (viewOf c)
+        unfolding picked
+        done = rw (there, is-ready)
+
+        turns-are : turnsOf M p (p + 1) 1 (viewOf c) ≡ turnsDone (p + 1) (record { picks = 1; end = stepped M p (viewOf c) })
+        unfolding turnsOf
+        turns-are = rw (settled-one M p (viewOf c) is-ready)
+
+        -- one pick was made of p, and the answer has p's new standing and fault
+        pub pick-done : (r : Answered) → Answers M r (turnsOf M p (p + 1) 1 (viewOf c))
+            → Answers M (record { refusal = r .refusal; byte = getD (r .config .standings) p 0; picks = r .picks; value = getD (r .config .faults) p 0; config = r .config }) (picked M p (viewOf c))
+        unfolding outcomeOf
+        pick-done r a =
+            let o = a .is ∙ turns-are in
+            let e : viewOf (r .config) ≡ stepped M p (viewOf c) = ap (λ (x : Outcome). x .after) o in
+            let u : r .refusal ≡ 0 = ap (λ (x : Outcome). x .refusal) o in
+            let n : r .picks ≡ 1 = ap (λ (x : Outcome). x .picks) o in
+            let l : p < r .config .np = omega (arith, np-is M (r .config) (a .fine .reachable), np-is M c (f .reachable)) in
+            record { is = rw (u, n, ← standing-in (r .config) p l, ← fault-in (r .config) p l, e) done; fine = a .fine }

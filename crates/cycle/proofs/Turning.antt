@@ -1,0 +1,315 @@
+-- The loop behind pick and settle: what it keeps true, turn by turn. Assumes nothing.
+use mathlib.Core.Path.{_≡_, refl, sym, ap, _∙_}
+use mathlib.Core.Bool.{Bool, true, false, _&&_}
+use mathlib.Core.Logic.{⊎-elim}
+use Prim.Native.Nat.{ℕ, suc, _+_, _-_, _≤_, _<_}
+use native.Mathlib.Decide.{ℕ-discrete}
+use native.Mathlib.Nat.{eq-or-lt-of-le}
+use native.Mathlib.Numerals.{add-one}
+use native.Mathlib.Omega.{arith}
+use lib.Dec.{eqb, ltb}
+use lib.ListN.{length, getD, set, length-set}
+use lib.Seq.{getD-set-same, getD-set-other}
+use borrow.Author.Tests.{lt-ltb, le-ltb, eq-eqb, ne-eqb, ltb-true, ltb-false}
+use Rattle.base.specs.Below.{anyBelow}
+use Rattle.base.specs.Cases.{pick}
+use Rattle.base.proofs.Below.{split, and-left, and-right, any-same}
+use Rattle.model.specs.Records.{Model, processAt, statementAt}
+use Rattle.model.specs.Fields.{endOf, ownerOf}
+use Rattle.model.specs.Facts.{Spans, Facts}
+use Rattle.model.specs.declared.records.ProcessRecord.{ProcessRecord}
+use Rattle.cycle.specs.Configuration.{driverIn}
+use Rattle.cycle.specs.Statements.{nextPlace, applied, effectBy, effectOf, stepped}
+use Rattle.cycle.specs.Orders.{isReady}
+use Rattle.cycle.specs.Turns.{settledIn, turnsOf}
+use Rattle.cycle.specs.Invariant.{lastTime, DriverFine, EffectFits, StoreFits, ScheduleFits, Reachable}
+use Rattle.cycle.specs.View.{never, pendingOf, firstTime, noDriver, viewOf, arrays, Fine, outcomeOf, Answers}
+use Rattle.cycle.specs.Waveform.{Waveform, ScheduledTo}
+use Rattle.cycle.specs.declared.config.Config.{Config}
+use Rattle.cycle.specs.declared.driver.Scheduled.{Scheduled}
+use Rattle.cycle.specs.declared.effect.Effect.{Effect}
+use Rattle.cycle.specs.declared.effect.Effect.the-variants.{Skip, Store, Schedule, Jump, Wait, WaitFor, Stop}
+use Rattle.cycle.proofs.Drivers.{pending-length}
+use Rattle.cycle.proofs.Effects.{own-statement, placed, effect-fits}
+use Rattle.cycle.proofs.ArraysAgree.{effect-viewed}
+use Rattle.cycle.proofs.Picks.{standing-stays}
+use Rattle.cycle.proofs.StepReachable.{stepped-reachable}
+use Rattle.cycle.proofs.Waves.{rising-from}
+use Rattle.cycle.proofs.ViewLaws.{pending-in, place-in, standing-in, deadline-in, nd-is, np-is}
+use Rattle.cycle.proofs.SettledIn.{Passed, in-over, in-none, in-turn}
+use Rattle.cycle.proofs.Changes.{Sized, movedTo, scheduledTo, waitsUntil, stopsBy, moved-sized, scheduled-sized, waits-sized, stops-sized, skip-view, store-view, jump-view, wait-view, wait-for-view, stop-view, schedule-view, full-view}
+
+-- the place after i, r being the record of process p
+module _ (M : Model) (p i : ℕ) (r : ProcessRecord) (e : r ≡ processAt M p) where
+  pub next-inside : i + 1 < r .first + r .count → i + 1 ≡ nextPlace M p i
+  unfolding nextPlace
+  next-inside h = rw (← e, lt-ltb (i + 1) (r .first + r .count) h)
+
+  pub next-first : r .first + r .count ≤ i + 1 → r .first ≡ nextPlace M p i
+  unfolding nextPlace
+  next-first h = rw (← e, le-ltb (i + 1) (r .first + r .count) h)
+
+pub few-statements : (M : Model) → Facts M → (p : ℕ) → p < length (M .processes) → endOf M p ≤ 200
+few-statements M fs p h = omega (arith, fs .process p h .within, fs .totals .statements)
+
+-- process p at its place
+module _ (M : Model) (fs : Facts M) (c : Config) (f : Fine M c) (p : ℕ) (h : p < c .np) where
+  abbrev place : ℕ
+  place = getD (c .places) p 0
+
+  process-there : p < length (M .processes)
+  process-there = omega (arith, np-is M c (f .reachable))
+
+  spans : Spans M p place
+  spans = rw (place-in c p h) at (placed M (viewOf c) (f .reachable) p process-there)
+
+  pub statement-there : place < length (M .statements)
+  statement-there = omega (arith, spans .below, fs .process p process-there .within)
+
+  -- what the statement does, worked out on the arrays, is its effect
+  effect-is : effectBy M (arrays (c .variables) (c .signals)) (ownerOf M place) (statementAt M place) ≡ effectOf M (viewOf c) p
+  unfolding effectOf
+  effect-is =
+      rw (fs .process p process-there .owner place spans, place-in c p h)
+      (effect-viewed M fs c (f .reachable) p (statementAt M place) (own-statement M fs p process-there place spans))
+
+-- the test of the loop
+pub goes-on : (n count p end : ℕ) → (ltb n count && ltb p end) ≡ true → (n < count) × (p < end)
+goes-on n count p end h = (ltb-true n count (and-left (ltb n count) (ltb p end) h), ltb-true p end (and-right (ltb n count) (ltb p end) h))
+
+-- What the loop keeps true: n picks of at most count are made, none of the processes before p is ready, and what is left to play
+-- from the struct c ends as the whole does from c₀.
+pub record Turning (M : Model) (from end count now : ℕ) (c₀ : Config) (p n : ℕ) (c : Config) : Type 0 where
+  pub few : n ≤ count
+  pub low : from ≤ p
+  pub high : p ≤ end
+  pub within : end ≤ c .np
+  pub most : end ≤ 16
+  pub clock : c .time ≡ now
+  pub early : now ≤ lastTime
+  pub sized : Sized c
+  pub fine : Fine M c
+  pub passed : Passed from p (viewOf c)
+  pub same : settledIn M from end n (count - n) (viewOf c) ≡ settledIn M from end 0 count (viewOf c₀)
+
+early-time : (M : Model) (c : Config) → Reachable M (viewOf c) → c .time ≤ lastTime
+unfolding viewOf
+early-time M c r = r .time
+
+pub turning-none : (M : Model) → Facts M → (from end count : ℕ) (c : Config) → from ≤ end → end ≤ c .np → Sized c → Fine M c → Turning M from end count (c .time) c from 0 c
+turning-none M fs from end count c l h s f =
+    record {
+      few = omega arith;
+      low = omega arith;
+      high = l;
+      within = h;
+      most = omega (arith, np-is M c (f .reachable), fs .totals .processes);
+      clock = refl;
+      early = early-time M c (f .reachable);
+      sized = s;
+      fine = f;
+      passed = λ j a b. absurd (omega arith);
+      same = ap (λ (k : ℕ). settledIn M from end 0 k (viewOf c)) (omega arith);
+    }
+
+not-ready : (c : Config) (p : ℕ) → p < c .np → (getD (c .standings) p 0 ≡ 0 → ⊥) → isReady p (viewOf c) ≡ false
+unfolding isReady
+not-ready c p h r = ne-eqb _ 0 (λ e. r (sym (standing-in c p h) ∙ e))
+
+and-rest : (a b : Bool) → a ≡ true → (a && b) ≡ false → b ≡ false
+and-rest a b h g = rw h at g
+
+module _ {M : Model} {from end count now : ℕ} {c₀ : Config} {p n : ℕ} {c : Config} (t : Turning M from end count now c₀ p n c) where
+  -- a process that is not ready is passed
+  pub turning-past : p < end → (getD (c .standings) p 0 ≡ 0 → ⊥) → Turning M from end count now c₀ (p + 1) n c
+  turning-past h r =
+      record {
+        few = t .few;
+        low = omega (arith, t .low);
+        high = omega arith;
+        within = t .within;
+        most = t .most;
+        clock = t .clock;
+        early = t .early;
+        sized = t .sized;
+        fine = t .fine;
+        passed = past;
+        same = t .same;
+      }
+    where
+      past : Passed from (p + 1) (viewOf c)
+      past j a b =
+          ⊎-elim (λ (e : j ≡ p). rw e (not-ready c p (omega (arith, t .within)) r)) (λ (l : j < p). t .passed j a l) (eq-or-lt-of-le (omega arith))
+
+  -- the loop is over: no more picks may be made, or no process is left
+  module _ (o : (ltb n count && ltb p end) ≡ false) where
+    rest : settledIn M from end 0 count (viewOf c₀) ≡ record { picks = n; end = viewOf c }
+    rest =
+        sym (t .same)
+        ∙ ⊎-elim
+        (λ (h : n < count).
+        let g = and-rest (ltb n count) (ltb p end) (lt-ltb n count h) o in
+        in-none M from end n (viewOf c) (count - n) (λ j a b. t .passed j a (omega (arith, ltb-false p end g))))
+        (λ (h : count ≤ n). in-over M from end n (viewOf c) (count - n) (omega arith))
+        (split n count)
+
+    still : anyBelow (λ p. isReady p (viewOf c)) end ≡ anyBelow (λ p. eqb (getD (c .standings) p 0) 0) end
+    unfolding isReady
+    still = any-same _ _ end (λ j l. rw (standing-in c j (omega (arith, t .within))))
+
+    pub turns-end : (more : Bool) (byte : ℕ) → more ≡ anyBelow (λ p. eqb (getD (c .standings) p 0) 0) end → byte ≡ pick more 1 0
+        → Answers M (record { refusal = 0; byte = byte; picks = n; value = 0; config = c }) (turnsOf M from end count (viewOf c₀))
+    unfolding outcomeOf turnsOf
+    turns-end more byte a b = record { is = rw (rest, still, ← a) (rw b); fine = t .fine }
+
+-- One turn: the process p is ready, and e is what its statement does.
+pub record Turn (M : Model) (from end count now : ℕ) (c₀ : Config) (p n : ℕ) (c : Config) (e : Effect) : Type 0 where
+  pub facts : Facts M
+  pub turning : Turning M from end count now c₀ p n c
+  pub made : n < count
+  pub here : p < end
+  pub idle : getD (c .standings) p 0 ≡ 0
+  pub does : e ≡ effectBy M (arrays (c .variables) (c .signals)) (ownerOf M (getD (c .places) p 0)) (statementAt M (getD (c .places) p 0))
+
+module _ {M : Model} {from end count now : ℕ} {c₀ : Config} {p n : ℕ} {c : Config} {e : Effect} (t : Turn M from end count now c₀ p n c e) where
+  abbrev fs : Facts M
+  fs = t .facts
+
+  abbrev f : Fine M c
+  f = t .turning .fine
+
+  abbrev s : Sized c
+  s = t .turning .sized
+
+  in-np : p < c .np
+  in-np = omega (arith, t .here, t .turning .within)
+
+  pub in-16 : p < 16
+  in-16 = omega (arith, t .here, t .turning .most)
+
+  pub process-in-model : p < length (M .processes)
+  process-in-model = process-there M fs c f p in-np
+
+  pub place-spans : Spans M p (getD (c .places) p 0)
+  place-spans = spans M fs c f p in-np
+
+  -- what the effect names is there
+  fits : EffectFits M p (statementAt M (getD (c .places) p 0) .kind) e
+  fits = rw (place-in c p in-np, ← effect-is M fs c f p in-np, ← t .does) at (effect-fits M (viewOf c) (f .reachable) fs p process-in-model)
+
+  pub in-variables : (a v : ℕ) → e ≡ Store a v → a < 64
+  in-variables a v x = let g : StoreFits M p a v = rw x at fits in omega (arith, g .variable, fs .totals .variables)
+
+  pub wait-small : (d : ℕ) → e ≡ WaitFor d → d < 2147483648
+  wait-small d x = let g : EffectFits M p (statementAt M (getD (c .places) p 0) .kind) (WaitFor d) = rw x at fits in g .1
+
+  -- the turn is made
+  is-ready : isReady p (viewOf c) ≡ true
+  unfolding isReady
+  is-ready = eq-eqb _ 0 (standing-in c p in-np ∙ t .idle)
+
+  step-is : applied M p e (viewOf c) ≡ stepped M p (viewOf c)
+  unfolding stepped
+  step-is = rw (t .does, effect-is M fs c f p in-np)
+
+  abbrev Next : Config → Type 0
+  Next c' = Turning M from end count now c₀ p (n + 1) c'
+
+  turned : (c' : Config) → viewOf c' ≡ applied M p e (viewOf c) → c' .time ≡ c .time → c' .np ≡ c .np → Sized c'
+      → ((k : ℕ) → k < c' .nd → getD (c' .due) k 0 ≡ firstTime (pendingOf (getD (c' .drivers) k noDriver)))
+      → Next c'
+  turned c' v ct cn sized due =
+      record {
+        few = omega (arith, t .made);
+        low = t .turning .low;
+        high = t .turning .high;
+        within = omega (arith, t .turning .within);
+        most = t .turning .most;
+        clock = ct ∙ t .turning .clock;
+        early = t .turning .early;
+        sized = sized;
+        fine = record { reachable = rw (v, step-is) (stepped-reachable M fs (viewOf c) (f .reachable) p process-in-model is-ready); due = due };
+        passed = λ j a b. rw (v, step-is, standing-stays M p j (viewOf c) (λ q. omega arith)) (t .turning .passed j a b);
+        same = rw (v, step-is) (sym picked ∙ t .turning .same);
+      }
+    where
+      picked : settledIn M from end n (count - n) (viewOf c) ≡ settledIn M from end (n + 1) (count - (n + 1)) (stepped M p (viewOf c))
+      picked =
+          let q : count - n ≡ suc (count - (n + 1)) = omega (arith, t .made) in
+          rw (q, add-one n) (in-turn M from end n (viewOf c) (count - suc n) p (t .turning .low) (t .here) (t .turning .passed) is-ready)
+
+  -- one law for each arm of the loop
+  abbrev following : ℕ
+  following = nextPlace M p (getD (c .places) p 0)
+
+  pub skip-turn : e ≡ Skip → (i : ℕ) → i ≡ following → Next (movedTo c p i (c .variables))
+  skip-turn x i g =
+      turned (movedTo c p i (c .variables)) (rw x (skip-view M c p in-np s in-16 i g)) refl refl (moved-sized c p s i (c .variables) refl) (f .due)
+
+  pub store-turn : (a v : ℕ) → e ≡ Store a v → (i : ℕ) → i ≡ following → Next (movedTo c p i (set (c .variables) a v))
+  store-turn a v x i g =
+      turned (movedTo c p i (set (c .variables) a v)) (rw x (store-view M c p in-np s in-16 a v i (in-variables a v x) g)) refl refl
+      (moved-sized c p s i (set (c .variables) a v) (length-set (c .variables) a v)) (f .due)
+
+  pub jump-turn : (a : ℕ) → e ≡ Jump a → Next (movedTo c p a (c .variables))
+  jump-turn a x =
+      turned (movedTo c p a (c .variables)) (rw x (jump-view M c p in-np s in-16 a)) refl refl (moved-sized c p s a (c .variables) refl) (f .due)
+
+  pub wait-turn : e ≡ Wait → Next (waitsUntil c p (c .deadlines))
+  wait-turn x =
+      let g = f .reachable .each-process p process-in-model .no-deadline (standing-in c p in-np ∙ t .idle) in
+      turned (waitsUntil c p (c .deadlines)) (rw x (wait-view M c p in-np s in-16 (sym (deadline-in c p in-np) ∙ g))) refl refl
+      (waits-sized c p s (c .deadlines) refl) (f .due)
+
+  pub wait-for-turn : (d : ℕ) → e ≡ WaitFor d → (u : ℕ) → u ≡ now + d → Next (waitsUntil c p (set (c .deadlines) p u))
+  wait-for-turn d x u g =
+      let o : u ≡ never → ⊥ = λ q. omega (arith, t .turning .early, wait-small d x) in
+      let k : u ≡ c .time + d = rw (t .turning .clock) g in
+      turned (waitsUntil c p (set (c .deadlines) p u)) (rw x (wait-for-view M c p in-np s in-16 d u k (rw (ne-eqb u never o)))) refl refl
+      (waits-sized c p s (set (c .deadlines) p u) (length-set (c .deadlines) p u)) (f .due)
+
+  pub stop-turn : (i : ℕ) → e ≡ Stop i → Next (stopsBy c p i)
+  stop-turn i x = turned (stopsBy c p i) (rw x (stop-view M c p in-np s in-16 i)) refl refl (stops-sized c p s i) (f .due)
+
+  module _ (k d v : ℕ) (x : e ≡ Schedule k d v) where
+    schedule-fits : ScheduleFits M p k d v
+    schedule-fits = rw x at fits
+
+    in-nd : k < c .nd
+    in-nd = omega (arith, schedule-fits .driver, nd-is M c (f .reachable))
+
+    pub in-drivers : k < 64
+    in-drivers = omega (arith, schedule-fits .driver, fs .totals .drivers)
+
+    pub delay-small : d < 2147483648
+    delay-small = schedule-fits .delay
+
+    -- the driver has a waveform
+    pub waveform : Waveform (getD (c .drivers) k noDriver)
+    waveform =
+        let g : DriverFine _ (viewOf c .time) (driverIn (viewOf c .drivers) k) = f .reachable .each-driver k (schedule-fits .driver) in
+        record {
+          few = omega (arith, pending-length (getD (c .drivers) k noDriver), rw (pending-in c k in-nd) at (g .few));
+          rising = rising-from 0 (viewOf c .time) (pendingOf (getD (c .drivers) k noDriver)) (omega arith) (rw (pending-in c k in-nd) at (g .rising));
+        }
+
+    module _ (r : Scheduled) (to : ScheduledTo (getD (c .drivers) k noDriver) (now + d) v r) where
+      to-time : ScheduledTo (getD (c .drivers) k noDriver) (c .time + d) v r
+      to-time = rw (t .turning .clock) to
+
+      pub full-turn : r .full ≡ true → Next (stopsBy c p 3)
+      full-turn g = turned (stopsBy c p 3) (rw x (full-view M c p in-np s in-16 k d v in-nd in-drivers r to-time g)) refl refl (stops-sized c p s 3) (f .due)
+
+      pub schedule-turn : r .full ≡ false → (u i : ℕ) → u ≡ firstTime (pendingOf (r .driver)) → i ≡ following → Next (scheduledTo c p k (r .driver) u i)
+      schedule-turn g u i a b =
+          turned (scheduledTo c p k (r .driver) u i) (rw x (schedule-view M c p in-np s in-16 k d v in-nd in-drivers r to-time u i b g)) refl refl
+          (scheduled-sized c p s k (r .driver) u i) first
+        where
+          first : (j : ℕ) → j < c .nd → getD (set (c .due) k u) j 0 ≡ firstTime (pendingOf (getD (set (c .drivers) k (r .driver)) j noDriver))
+          first j l = elim (ℕ-discrete j k) [
+            | yes q ↦
+                let m : k < length (c .due) = omega (arith, s .due, in-drivers) in
+                let o : k < length (c .drivers) = omega (arith, s .drivers, in-drivers) in
+                rw (q, getD-set-same (c .due) k u 0 m, getD-set-same (c .drivers) k (r .driver) noDriver o) a
+            | no q ↦ rw (getD-set-other (c .due) k j u 0 q, getD-set-other (c .drivers) k j (r .driver) noDriver q) (f .due j l)
+          ]

@@ -1,0 +1,66 @@
+use Prim.Native.Nat.{_≤_}
+use native.Mathlib.Omega.{arith}
+use Rattle.cycle.proofs.OrderLaws.{few-processes, pick-none, pick-waiting, pick-done}
+use borrow.Author.Needs.{needs}
+use Rattle.cycle.proofs.config.Config.pick.Statement.{statement}
+use Rattle.cycle.proofs.config.Config.pick.Tie as tie
+
+few : (c : tie.Start) → c .args .t1 .np ≤ 16
+few c = few-processes _ (c .pre .0 .facts) _ (c .pre .1)
+
+refused-requires : tie.Need-refused-requires
+refused-requires c κs = search needs
+
+returns : tie.Need-returns
+returns c = pick-none _ _ (c .before .before .before .pre .1) _ _ (c .before .if1 .taken) (c .refused .ensures)
+
+mul-standing : tie.Need-mul-standing
+mul-standing c = omega (arith, few (c .before .before))
+
+element-copy-out-standing : tie.Need-element-copy-out-standing
+element-copy-out-standing c = omega (arith, few (c .before .before))
+
+refused-requires-2 : tie.Need-refused-requires-2
+refused-requires-2 c κs = search needs
+
+returns-2 : tie.Need-returns-2
+returns-2 c = pick-waiting _ _ (c .before .before .before .before .before .pre .1) _ (c .before .before .before .if1 .left) _ (c .before .if2 .taken) (c .refused2 .ensures)
+
+add-turns : tie.Need-add-turns
+add-turns c = search needs
+
+turns-requires : tie.Need-turns-requires
+turns-requires c κs = (c .before .before .before .before .pre .0, (c .before .before .before .before .pre .1, (omega arith, omega arith)))
+
+mul-r : tie.Need-mul-r
+mul-r c = omega (arith, few (c .before .before .before .before .before .before))
+
+element-copy-out-r : tie.Need-element-copy-out-r
+element-copy-out-r c = omega (arith, few (c .before .before .before .before .before .before))
+
+mul-r-2 : tie.Need-mul-r-2
+mul-r-2 c = omega (arith, few (c .before .before .before .before .before .before .before))
+
+element-copy-out-r-2 : tie.Need-element-copy-out-r-2
+element-copy-out-r-2 c = omega (arith, few (c .before .before .before .before .before .before .before))
+
+returns-3 : tie.Need-returns-3
+returns-3 c = pick-done _ _ (c .before .before .before .before .before .before .before .before .pre .1) _ (c .before .before .before .before .before .before .if1 .left) (c .before .before .before .before .if2 .left) _ (c .before .before .before .turns .ensures)
+
+pub pick-spec : {M : Type 1} → statement M
+pick-spec =
+    tie.close
+    (tie.spec
+    refused-requires
+    returns
+    mul-standing
+    element-copy-out-standing
+    refused-requires-2
+    returns-2
+    add-turns
+    turns-requires
+    mul-r
+    element-copy-out-r
+    mul-r-2
+    element-copy-out-r-2
+    returns-3)
