@@ -1,13 +1,12 @@
 -- The processes of a delta step: what wakes one, and the loop over all of them. Assumes nothing.
 use mathlib.Core.Path.{_≡_, refl, sym, ap, _∙_, subst}
 use mathlib.Core.Bool.{Bool, true, false, _&&_}
-use mathlib.Core.List.{List}
 use mathlib.Core.Option.{Option, none, some}
 use Prim.Native.Nat.{ℕ, _+_, _≤_, _<_}
 use native.Mathlib.Decide.{ℕ-discrete}
 use native.Mathlib.Omega.{arith}
 use lib.Dec.{eqb}
-use lib.ListN.{length, getD, set, length-set}
+use lib.ListN.{length, set, length-set}
 use lib.Seq.{getD-set-same, getD-set-other}
 use borrow.Author.Tests.{eqb-true, eq-eqb, ne-eqb}
 use Rattle.base.specs.Below.{anyBelow}
@@ -45,21 +44,21 @@ module _ (M : Model) (p : ℕ) (q : ProcessState) (v : Value) where
   pub by-fault : (f : ℕ) → v ≡ Fault f → stops q f ≡ wokenBy M p q v
   by-fault f e = rw e
 
-  pub by-true : (x : ℕ) → v ≡ Of x → x ≡ 1 → wakes M p q ≡ wokenBy M p q v
-  by-true x e h = rw (e, eq-eqb x 1 h)
+  pub by-true : (x : ℕ) (r : ProcessState) → v ≡ Of x → x ≡ 1 → r ≡ wakes M p q → r ≡ wokenBy M p q v
+  by-true x r e h is = rw (e, eq-eqb x 1 h) is
 
   pub by-false : (x : ℕ) → v ≡ Of x → (x ≡ 1 → ⊥) → q ≡ wokenBy M p q v
   by-false x e h = rw (e, ne-eqb x 1 h)
 
 -- by the condition b of the wait
 module _ (M : Model) (p : ℕ) (e : Environment) (b : ℕ) (q : ProcessState) where
-  pub for-absent : b ≡ absent → wakes M p q ≡ wokenFor M p e b q
+  pub for-absent : (r : ProcessState) → b ≡ absent → r ≡ wakes M p q → r ≡ wokenFor M p e b q
   unfolding wokenFor
-  for-absent h = rw (eq-eqb b absent h)
+  for-absent r h is = rw (eq-eqb b absent h) is
 
-  pub for-value : (v : Value) → (b ≡ absent → ⊥) → v ≡ evalOf M e b → wokenBy M p q v ≡ wokenFor M p e b q
+  pub for-value : (v : Value) (r : ProcessState) → (b ≡ absent → ⊥) → v ≡ evalOf M e b → r ≡ wokenBy M p q v → r ≡ wokenFor M p e b q
   unfolding wokenFor
-  for-value v h is = rw (ne-eqb b absent h, is)
+  for-value v r h n is = rw (ne-eqb b absent h, ← n) is
 
 -- a process that waits is at a wait of its own
 module _ (M : Model) (fs : Facts M) (p t : ℕ) (h : p < length (M .processes)) (q : Process) (f : ProcessFine M p t (stateOf q)) where
@@ -84,17 +83,17 @@ module _ (M : Model) (p t changed : ℕ) (e : Environment) (q : Process) where
   not-waiting h = rw (ne-eqb (q .standing) waiting h)
 
   module _ (h : t ≤ lastTime) (w : q .standing ≡ waiting) where
-    pub at-deadline : q .deadline ≡ t → After (wakes M p (stateOf q))
+    pub at-deadline : (r : ProcessState) → q .deadline ≡ t → r ≡ wakes M p (stateOf q) → After r
     unfolding afterDelta wokenIn deadlineDue
-    at-deadline d = rw (eq-eqb (q .standing) waiting w, due-is t (q .deadline) h, eq-eqb (q .deadline) t d)
+    at-deadline r d is = rw (eq-eqb (q .standing) waiting w, due-is t (q .deadline) h, eq-eqb (q .deadline) t d) is
 
     module _ (n : q .deadline ≡ t → ⊥) (s : StatementRecord) (is : s ≡ statementAt M (q .place)) where
       abbrev meets : Bool
       meets = anyBelow (λ n. inSet (s .set) n && inSet changed n) 32
 
-      pub after-change : meets ≡ true → After (wokenFor M p e (s .b) (stateOf q))
+      pub after-change : (r : ProcessState) → meets ≡ true → r ≡ wokenFor M p e (s .b) (stateOf q) → After r
       unfolding afterDelta wokenIn deadlineDue
-      after-change m = rw (eq-eqb (q .standing) waiting w, due-is t (q .deadline) h, ne-eqb (q .deadline) t n, ← is, m)
+      after-change r m e = rw (eq-eqb (q .standing) waiting w, due-is t (q .deadline) h, ne-eqb (q .deadline) t n, ← is, m) e
 
       pub no-change : meets ≡ false → After (stateOf q)
       unfolding afterDelta wokenIn deadlineDue

@@ -27,6 +27,8 @@ pub mod Turning
 pub mod OrderLaws
 pub mod Arrays
 pub mod Resolving
+pub mod DeltaDrivers
+pub mod DeltaView
 pub mod DeltaSignals
 pub mod DeltaProcesses
 pub mod First

@@ -5,7 +5,6 @@ ghost use lib.ListN.{length};
 ghost use Rattle.model.specs.Records.{modelOf};
 ghost use Rattle.model.specs.Fields.{absent};
 ghost use Rattle.model.specs.Facts.{Spans};
-ghost use Rattle.cycle.specs.Statements.{stops};
 ghost use Rattle.cycle.specs.Steps.{wakes, wokenBy, deltaStep};
 ghost use Rattle.cycle.specs.Orders.{advanceDone};
 ghost use Rattle.cycle.specs.Invariant.{lastTime, ProcessFine};

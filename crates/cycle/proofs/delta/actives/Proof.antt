@@ -1,6 +1,5 @@
 -- `actives`: the set has a signal where a driver of it, of those passed, has a transaction due. Assumes nothing.
 use Prim.Native.Nat.{_≤_, _-_}
-use mathlib.Core.List.{List}
 use mathlib.Core.Path.{ap}
 use borrow.Author.Needs.{needs}
 use Rattle.model.specs.Records.{modelOf}
@@ -29,20 +28,32 @@ actives-spec =
     -- element-copy-out-if1
     (λ c. search needs)
     -- driver-at-requires
-    (λ c κs. (c .before .before .before .before .before .pre .0 .usable .starts, search needs))
+    (λ c κs.
+    let start = c .before .before .before .before .before in
+    (start .pre .0 .usable .starts, search needs))
     -- with-requires
-    (λ c κs. signal-below _ (c .before .before .before .before .before .before .pre .0 .facts) _ _ (search needs) (c .driver-at .ensures))
+    (λ c κs.
+    let start = c .before .before .before .before .before .before in
+    signal-below _ (start .pre .0 .facts) _ _ (search needs) (c .driver-at .ensures))
     -- add-k
     (λ c. search needs)
     -- loop-less
     (λ c. search needs)
     -- loop-again
-    (λ c. (search needs, active-more _ _ _ _ _ _ _ (ap (λ (d : DriverRecord). d .signal) (c .before .driver-at .ensures)) (c .before .before .if1 .taken) (c .with .ensures) (c .before .before .before .before .before .loop .inv .1)))
+    (λ c.
+    let driver = c .before .driver-at in
+    let due = c .before .before .if1 in
+    let head = c .before .before .before .before .before .loop in
+    (search needs, active-more _ _ _ _ _ _ _ (ap (λ (d : DriverRecord). d .signal) (driver .ensures)) (due .taken) (c .with .ensures) (head .inv .1)))
     -- add-k-2
     (λ c. search needs)
     -- loop-less-2
     (λ c. search needs)
     -- loop-again-2
-    (λ c. (search needs, active-same _ _ _ _ _ (c .if1 .left) (c .before .before .before .loop .inv .1)))
+    (λ c.
+    let head = c .before .before .before .loop in
+    (search needs, active-same _ _ _ _ _ (c .if1 .left) (head .inv .1)))
     -- returns
-    (λ c. active-all _ _ _ _ _ _ (c .before .loop .inv .0) (c .loop-test .left) (c .before .loop .inv .1)))
+    (λ c.
+    let head = c .before .loop in
+    active-all _ _ _ _ _ _ (head .inv .0) (c .loop-test .left) (head .inv .1)))

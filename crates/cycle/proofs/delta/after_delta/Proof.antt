@@ -10,18 +10,45 @@ after-delta-spec =
     tie.close
     (tie.spec
     -- returns
-    (λ c. not-waiting _ _ _ _ _ (c .before .before .before .args .q) (c .if1 .taken))
+    (λ c.
+    let start = c .before .before .before in
+    not-waiting _ _ _ _ _ (start .args .q) (c .if1 .taken))
     -- woken-requires
-    (λ c κs. (c .before .before .before .before .before .pre .0, (c .before .before .before .before .before .pre .1 .0, at-place _ (c .before .before .before .before .before .pre .0 .facts) _ _ (c .before .before .before .before .before .pre .1 .0) (c .before .before .before .before .before .args .q) (c .before .before .before .before .before .pre .1 .1 .1))))
+    (λ c κs.
+    let start = c .before .before .before .before .before in
+    (start .pre .0, (start .pre .1 .0, at-place _ (start .pre .0 .facts) _ _ (start .pre .1 .0) (start .args .q) (start .pre .1 .1 .1))))
     -- returns-2
-    (λ c. c .woken .ensures ∙ at-deadline _ _ _ _ _ (c .before .before .before .before .before .before .args .q) (c .before .before .before .before .before .before .pre .1 .1 .0) (c .before .before .before .if1 .left) (c .before .if2 .taken))
+    (λ c.
+    let due = c .before .if2 in
+    let waits = c .before .before .before .if1 in
+    let start = c .before .before .before .before .before .before in
+    at-deadline _ _ _ _ _ (start .args .q) (start .pre .1 .1 .0) (waits .left) _ (due .taken) (c .woken .ensures))
     -- statement-at-requires
-    (λ c κs. (c .before .before .before .before .before .pre .0 .usable .starts, place-there _ (c .before .before .before .before .before .pre .0 .facts) _ _ (c .before .before .before .before .before .pre .1 .0) (c .before .before .before .before .before .args .q) (c .before .before .before .before .before .pre .1 .1 .1)))
+    (λ c κs.
+    let start = c .before .before .before .before .before in
+    (start .pre .0 .usable .starts, place-there _ (start .pre .0 .facts) _ _ (start .pre .1 .0) (start .args .q) (start .pre .1 .1 .1)))
     -- meet-requires
     (λ c κs. search needs)
     -- woken-if-requires
-    (λ c κs. (c .before .before .before .before .before .before .before .before .pre .0, (c .before .before .before .before .before .before .before .before .pre .1 .0, (at-place _ (c .before .before .before .before .before .before .before .before .pre .0 .facts) _ _ (c .before .before .before .before .before .before .before .before .pre .1 .0) (c .before .before .before .before .before .before .before .before .args .q) (c .before .before .before .before .before .before .before .before .pre .1 .1 .1), condition-there _ (c .before .before .before .before .before .before .before .before .pre .0 .facts) _ _ (c .before .before .before .before .before .before .before .before .pre .1 .0) (c .before .before .before .before .before .before .before .before .args .q) (c .before .before .before .before .before .before .before .before .pre .1 .1 .1) _ (c .before .before .statement-at .ensures) (c .before .before .before .before .before .if1 .left)))))
+    (λ c κs.
+    let wait = c .before .before .statement-at in
+    let waits = c .before .before .before .before .before .if1 in
+    let start = c .before .before .before .before .before .before .before .before in
+    (start .pre .0, (start .pre .1 .0, (at-place _ (start .pre .0 .facts) _ _ (start .pre .1 .0) (start .args .q) (start .pre .1 .1 .1), condition-there _ (start .pre .0 .facts) _ _ (start .pre .1 .0) (start .args .q) (start .pre .1 .1 .1) _ (wait .ensures) (waits .left)))))
     -- returns-3
-    (λ c. c .woken-if .ensures ∙ after-change _ _ _ _ _ (c .before .before .before .before .before .before .before .before .before .args .q) (c .before .before .before .before .before .before .before .before .before .pre .1 .1 .0) (c .before .before .before .before .before .before .if1 .left) (c .before .before .before .before .if2 .left) _ (c .before .before .before .statement-at .ensures) (sym (c .before .before .meet .ensures) ∙ c .before .if3 .taken))
+    (λ c.
+    let change = c .before .if3 in
+    let meet = c .before .before .meet in
+    let wait = c .before .before .before .statement-at in
+    let later = c .before .before .before .before .if2 in
+    let waits = c .before .before .before .before .before .before .if1 in
+    let start = c .before .before .before .before .before .before .before .before .before in
+    after-change _ _ _ _ _ (start .args .q) (start .pre .1 .1 .0) (waits .left) (later .left) _ (wait .ensures) _ (sym (meet .ensures) ∙ change .taken) (c .woken-if .ensures))
     -- returns-4
-    (λ c. no-change _ _ _ _ _ (c .before .before .before .before .before .before .before .before .args .q) (c .before .before .before .before .before .before .before .before .pre .1 .1 .0) (c .before .before .before .before .before .if1 .left) (c .before .before .before .if2 .left) _ (c .before .before .statement-at .ensures) (sym (c .before .meet .ensures) ∙ c .if3 .left)))
+    (λ c.
+    let meet = c .before .meet in
+    let wait = c .before .before .statement-at in
+    let later = c .before .before .before .if2 in
+    let waits = c .before .before .before .before .before .if1 in
+    let start = c .before .before .before .before .before .before .before .before in
+    no-change _ _ _ _ _ (start .args .q) (start .pre .1 .1 .0) (waits .left) (later .left) _ (wait .ensures) (sym (meet .ensures) ∙ c .if3 .left)))

@@ -1,7 +1,7 @@
 -- `resolve`: the signals passed have their new values. Assumes nothing.
 use Prim.Native.Nat.{_≤_, _-_}
-use lib.ListN.{length, length-set}
 use mathlib.Core.Path.{_≡_, refl, sym, _∙_}
+use lib.ListN.{length}
 use borrow.Author.Needs.{needs}
 use Rattle.model.specs.Records.{modelOf}
 use Rattle.cycle.specs.Delta.{ResolvedTo}
@@ -32,7 +32,9 @@ resolve-spec =
     -- element-copy-out-old
     (λ c. search needs)
     -- resolved-requires
-    (λ c κs. (c .before .before .before .before .before .before .pre .0, search needs))
+    (λ c κs.
+    let start = c .before .before .before .before .before .before in
+    (start .pre .0, search needs))
     -- mul-signals
     (λ c. search needs)
     -- mul-signals-2
@@ -46,12 +48,22 @@ resolve-spec =
     -- loop-less
     (λ c. search needs)
     -- loop-again
-    (λ c. (search needs, search needs, resolved-more _ _ _ _ _ _ _ _ (c .before .before .before .before .before .before .loop .inv .2) _ _ _ (sym (c .before .before .before .before .has .ensures) ∙ c .before .before .before .if1 .taken) (search needs) refl (c .before .resolved .ensures) (c .with .ensures)))
+    (λ c.
+    let value = c .before .resolved in
+    let active = c .before .before .before .if1 in
+    let has = c .before .before .before .before .has in
+    let head = c .before .before .before .before .before .before .loop in
+    (search needs, search needs, resolved-more _ _ _ _ _ _ _ _ (head .inv .2) _ _ _ (sym (has .ensures) ∙ active .taken) (search needs) refl (value .ensures) (c .with .ensures)))
     -- add-s-2
     (λ c. search needs)
     -- loop-less-2
     (λ c. search needs)
     -- loop-again-2
-    (λ c. (search needs, search needs, resolved-same _ _ _ _ _ _ _ _ (c .before .before .before .loop .inv .2) (sym (c .before .has .ensures) ∙ c .if1 .left)))
+    (λ c.
+    let has = c .before .has in
+    let head = c .before .before .before .loop in
+    (search needs, search needs, resolved-same _ _ _ _ _ _ _ _ (head .inv .2) (sym (has .ensures) ∙ c .if1 .left)))
     -- returns
-    (λ c. resolved-all _ _ _ _ _ _ _ _ _ (c .before .loop .inv .0) (c .loop-test .left) (c .before .loop .inv .2)))
+    (λ c.
+    let head = c .before .loop in
+    resolved-all _ _ _ _ _ _ _ _ _ (head .inv .0) (c .loop-test .left) (head .inv .2)))

@@ -38,7 +38,11 @@ wake-spec =
     -- element-copy-out-t29
     (λ c. search needs)
     -- after-delta-requires
-    (λ c κs. (c .before .before .before .before .before .before .before .pre .0, (search needs, (c .before .before .before .before .before .before .before .pre .1 .1 .0, waking-fine _ _ _ _ _ _ _ _ (c .before .before .before .before .loop-test .taken) (c .before .before .before .before .before .before .before .pre .1 .1 .1) (c .before .before .before .before .before .loop .inv .1)))))
+    (λ c κs.
+    let test = c .before .before .before .before .loop-test in
+    let head = c .before .before .before .before .before .loop in
+    let start = c .before .before .before .before .before .before .before in
+    (start .pre .0, (search needs, (start .pre .1 .1 .0, waking-fine _ _ _ _ _ _ _ _ (test .taken) (start .pre .1 .1 .1) (head .inv .1)))))
     -- mul-ps-2
     (λ c. search needs)
     -- element-write-ps
@@ -60,6 +64,10 @@ wake-spec =
     -- loop-less
     (λ c. search needs)
     -- loop-again
-    (λ c. (search needs, waking-more _ _ _ _ _ _ _ _ (search needs) (c .after-delta .ensures) (c .before .before .before .before .before .before .loop .inv .1)))
+    (λ c.
+    let head = c .before .before .before .before .before .before .loop in
+    (search needs, waking-more _ _ _ _ _ _ _ _ (search needs) (c .after-delta .ensures) (head .inv .1)))
     -- returns
-    (λ c. waking-all _ _ _ _ _ _ _ _ (c .loop-test .left) (c .before .loop .inv .1)))
+    (λ c.
+    let head = c .before .loop in
+    waking-all _ _ _ _ _ _ _ _ (c .loop-test .left) (head .inv .1)))

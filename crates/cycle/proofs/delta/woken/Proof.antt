@@ -11,4 +11,6 @@ woken-spec =
     -- next-place-requires
     (λ c κs. search needs)
     -- returns
-    (λ c. woken-is _ _ _ (c .before .before .args .q) (c .next-place .ensures)))
+    (λ c.
+    let start = c .before .before in
+    woken-is _ _ _ (start .args .q) (c .next-place .ensures)))

@@ -1,5 +1,4 @@
 -- `woken_by` is `wokenBy`. Assumes nothing.
-use mathlib.Core.Path.{_∙_}
 use borrow.Author.Needs.{needs}
 use Rattle.cycle.proofs.DeltaProcesses.{by-fault, by-true, by-false}
 use Rattle.cycle.proofs.delta.woken_by.Statement.{statement}
@@ -14,10 +13,19 @@ woken-by-spec =
     -- enum-known-v-2
     (λ c. search needs)
     -- woken-requires
-    (λ c κs. (c .before .before .before .before .before .pre .0, (c .before .before .before .before .before .pre .1 .0, c .before .before .before .before .before .pre .1 .1)))
+    (λ c κs.
+    let start = c .before .before .before .before .before in
+    start .pre)
     -- returns
-    (λ c. c .woken .ensures ∙ by-true _ _ _ _ _ (c .before .before .before .v2 .given .1) (c .before .if1 .taken))
+    (λ c.
+    let is = c .before .if1 in
+    let value = c .before .before .before .v2 in
+    by-true _ _ _ _ _ _ (value .given .1) (is .taken) (c .woken .ensures))
     -- returns-2
-    (λ c. by-fault _ _ _ _ _ (c .before .v .given .1))
+    (λ c.
+    let fault = c .before .v in
+    by-fault _ _ _ _ _ (fault .given .1))
     -- returns-3
-    (λ c. by-false _ _ _ _ _ (c .before .before .v2 .given .1) (c .if1 .left)))
+    (λ c.
+    let value = c .before .before .v2 in
+    by-false _ _ _ _ _ (value .given .1) (c .if1 .left)))

@@ -1,0 +1,201 @@
+-- The drivers of a delta step: a due transaction becomes its driver's current value and leaves, one driver after the other.
+-- Assumes nothing.
+use mathlib.Core.Path.{_≡_, refl, sym, ap, _∙_, subst}
+use mathlib.Core.List.{List, [], _∷_, map}
+use Prim.Native.Nat.{ℕ, _+_, _≤_, _<_}
+use native.Mathlib.Decide.{decLt, ℕ-discrete}
+use native.Mathlib.Omega.{arith}
+use lib.Dec.{eqb}
+use lib.ListN.{length, getD, set, drop, length-set, length-map}
+use lib.Seq.{getD-set-same, getD-set-other}
+use borrow.Author.Tests.{eq-eqb, ne-eqb}
+use Rattle.model.specs.Records.{Model}
+use Rattle.model.specs.Facts.{Facts}
+use Rattle.cycle.specs.Configuration.{Transaction, DriverState}
+use Rattle.cycle.specs.Steps.{dueIn, takenIn, taken}
+use Rattle.cycle.specs.Invariant.{lastTime}
+use Rattle.cycle.specs.View.{never, pendingOf, noDriver, firstTime, viewOf, Fine}
+use Rattle.cycle.specs.declared.config.Config.{Config}
+use Rattle.cycle.specs.declared.driver.Driver.{Driver}
+use Rattle.cycle.proofs.Drivers.{pending-length, pending-first, first-none, first-some}
+use Rattle.cycle.proofs.ViewLaws.{pending-in, nd-is}
+
+-- what the arrays hold of one driver
+pub record Slot : Type 0 where
+  pub current : ℕ
+  pub due : ℕ
+  pub driver : Driver
+
+abbrev pub slotOf : Config → ℕ → Slot
+slotOf c k = record { current = getD (c .currents) k 0; due = getD (c .due) k 0; driver = getD (c .drivers) k noDriver }
+
+abbrev pub heldBy : Slot → DriverState
+heldBy x = record { current = x .current; pending = pendingOf (x .driver) }
+
+-- `due` has the first pending time
+abbrev pub Timed : Slot → Type 0
+Timed x = x .due ≡ firstTime (pendingOf (x .driver))
+
+pub record TakenSlot (t : ℕ) (x y : Slot) : Type 0 where
+  pub state : heldBy y ≡ taken t (heldBy x)
+  pub due : Timed y
+
+-- a time is none of those that stand for no transaction
+pub first-due : (t : ℕ) (w : List Transaction) → t ≤ lastTime → dueIn t w ≡ eqb (firstTime w) t
+first-due t [] h = sym (ne-eqb never t (λ e. omega arith))
+first-due t (x ∷ w) h = refl
+
+not-due : (t current : ℕ) (w : List Transaction) → (firstTime w ≡ t → ⊥) → record { current = current; pending = w } ≡ takenIn t current w
+not-due t current [] n = refl
+not-due t current (x ∷ w) n = rw (ne-eqb (x .time) t n)
+
+module _ (t : ℕ) (x : Slot) (m : Timed x) where
+  pub slot-kept : (x .due ≡ t → ⊥) → TakenSlot t x x
+  unfolding taken
+  slot-kept n = record { state = not-due t (x .current) (pendingOf (x .driver)) (λ e. n (m ∙ e)); due = m }
+
+  module _ (h : t ≤ lastTime) (d : x .due ≡ t) where
+    pub some-pending : 1 ≤ x .driver .count
+    some-pending =
+        elim (decLt 0 (x .driver .count)) [
+          | yes l ↦ l
+          | no l ↦ absurd (omega (arith, l, m, first-none (x .driver) (omega (arith, l))))
+        ]
+
+    at-first : getD (x .driver .times) 0 0 ≡ t
+    at-first = first-some (x .driver) (λ e. omega (arith, some-pending)) ∙ sym m ∙ d
+
+    pub slot-taken : (e : Driver) (f : ℕ) → pendingOf e ≡ drop 1 (pendingOf (x .driver)) → f ≡ firstTime (pendingOf e) → TakenSlot t x (record { current = getD (x .driver .values) 0 0; due = f; driver = e })
+    unfolding taken
+    slot-taken e f p q =
+        record { state = rw (p, pending-first (x .driver) some-pending, eq-eqb (getD (x .driver .times) 0 0) t at-first); due = q }
+
+-- a configuration with other drivers
+abbrev pub withDrivers : Config → List ℕ → List ℕ → List Driver → Config
+withDrivers c currents due drivers =
+    record {
+      time = c .time;
+      deltas = c .deltas;
+      ns = c .ns;
+      nv = c .nv;
+      nd = c .nd;
+      np = c .np;
+      signals = c .signals;
+      currents = currents;
+      due = due;
+      drivers = drivers;
+      places = c .places;
+      standings = c .standings;
+      deadlines = c .deadlines;
+      faults = c .faults;
+      variables = c .variables;
+    }
+
+-- the first k drivers of c have their due transactions taken, the others are as they were, and so is the rest
+pub record Taking (c : Config) (k : ℕ) (r : Config) : Type 0 where
+  pub rest : r ≡ withDrivers c (r .currents) (r .due) (r .drivers)
+  pub signals : length (r .signals) ≡ 1024
+  pub currents : length (r .currents) ≡ 64
+  pub dues : length (r .due) ≡ 64
+  pub drivers : length (r .drivers) ≡ 64
+  pub done : (j : ℕ) → j < k → TakenSlot (c .time) (slotOf c j) (slotOf r j)
+  pub left : (j : ℕ) → k ≤ j → slotOf r j ≡ slotOf c j
+
+-- the length of an array of structs in a field, from what owning the struct tells
+pub length-mapped : {A B : Type 0} (f : A → B) (l : List A) (n : ℕ) → length (map f l) ≡ n → length l ≡ n
+length-mapped f l n e = sym (length-map l f) ∙ e
+
+module _ (c : Config) where
+  pub taking-none : length (c .signals) ≡ 1024 → length (c .currents) ≡ 64 → length (c .due) ≡ 64 → length (c .drivers) ≡ 64 → Taking c 0 c
+  taking-none s u d r =
+      record { rest = refl; signals = s; currents = u; dues = d; drivers = r; done = λ j h. absurd (omega arith); left = λ j h. refl }
+
+  module _ (k : ℕ) (r : Config) (t : Taking c k r) where
+    pub taking-same : TakenSlot (c .time) (slotOf r k) (slotOf r k) → Taking c (k + 1) r
+    taking-same x =
+        record {
+          rest = t .rest;
+          signals = t .signals;
+          currents = t .currents;
+          dues = t .dues;
+          drivers = t .drivers;
+          done = done;
+          left = λ j h. t .left j (omega arith);
+        }
+      where
+        here : TakenSlot (c .time) (slotOf c k) (slotOf r k)
+        here = subst (λ (y : Slot). TakenSlot (c .time) y (slotOf r k)) (t .left k (omega arith)) x
+
+        done : (j : ℕ) → j < k + 1 → TakenSlot (c .time) (slotOf c j) (slotOf r j)
+        done j h = elim (ℕ-discrete j k) [ yes q ↦ rw q here | no q ↦ t .done j (omega (arith, q)) ]
+
+    module _ (h : k < 64) (y : Slot) (x : TakenSlot (c .time) (slotOf r k) y) where
+      abbrev next : Config
+      next = withDrivers r (set (r .currents) k (y .current)) (set (r .due) k (y .due)) (set (r .drivers) k (y .driver))
+
+      here : slotOf next k ≡ y
+      here =
+          let a : k < length (r .currents) = omega (arith, t .currents) in
+          let b : k < length (r .due) = omega (arith, t .dues) in
+          let d : k < length (r .drivers) = omega (arith, t .drivers) in
+          rw (
+            getD-set-same (r .currents) k (y .current) 0 a,
+            getD-set-same (r .due) k (y .due) 0 b,
+            getD-set-same (r .drivers) k (y .driver) noDriver d,
+          )
+
+      elsewhere : (j : ℕ) → (j ≡ k → ⊥) → slotOf next j ≡ slotOf r j
+      elsewhere j n =
+          rw (
+            getD-set-other (r .currents) k j (y .current) 0 n,
+            getD-set-other (r .due) k j (y .due) 0 n,
+            getD-set-other (r .drivers) k j (y .driver) noDriver n,
+          )
+
+      taken-here : TakenSlot (c .time) (slotOf c k) (slotOf next k)
+      taken-here = subst (λ (z : Slot). TakenSlot (c .time) (slotOf c k) z) (sym here) (subst (λ (z : Slot). TakenSlot (c .time) z y) (t .left k (omega arith)) x)
+
+      done' : (j : ℕ) → j < k + 1 → TakenSlot (c .time) (slotOf c j) (slotOf next j)
+      done' j l =
+          elim (ℕ-discrete j k) [
+            | yes q ↦ rw q taken-here
+            | no q ↦ subst (λ (z : Slot). TakenSlot (c .time) (slotOf c j) z) (sym (elsewhere j q)) (t .done j (omega (arith, q)))
+          ]
+
+      pub taking-more : Taking c (k + 1) next
+      taking-more =
+          record {
+            rest = ap (λ (z : Config). withDrivers z (next .currents) (next .due) (next .drivers)) (t .rest);
+            signals = t .signals;
+            currents = length-set (r .currents) k (y .current) ∙ t .currents;
+            dues = length-set (r .due) k (y .due) ∙ t .dues;
+            drivers = length-set (r .drivers) k (y .driver) ∙ t .drivers;
+            done = done';
+            left = λ j l. elsewhere j (λ q. omega arith) ∙ t .left j (omega arith);
+          }
+
+pub deltas-kept : (c : Config) (k : ℕ) (r : Config) → Taking c k r → r .deltas ≡ c .deltas
+deltas-kept c k r t = ap (λ (x : Config). x .deltas) (t .rest)
+
+-- the next driver of a fine configuration
+module _ (M : Model) (c : Config) (f : Fine M c) where
+  pub time-most : c .time ≤ lastTime
+  unfolding viewOf
+  time-most = f .reachable .time
+
+  pub nd-most : Facts M → c .nd ≤ 64
+  nd-most fs = omega (arith, nd-is M c (f .reachable), fs .totals .drivers)
+
+  module _ (k : ℕ) (h : k < c .nd) where
+    few : getD (c .drivers) k noDriver .count ≤ 8
+    few =
+        let l : k < length (M .drivers) = omega (arith, nd-is M c (f .reachable)) in
+        let e : length (pendingOf (getD (c .drivers) k noDriver)) ≤ 8 = rw (pending-in c k h) at (f .reachable .each-driver k l .few) in
+        omega (arith, pending-length (getD (c .drivers) k noDriver))
+
+    module _ (r : Config) (t : Taking c k r) where
+      pub next-timed : Timed (slotOf r k)
+      next-timed = subst Timed (sym (t .left k (omega arith))) (f .due k h)
+
+      pub next-few : slotOf r k .driver .count ≤ 8
+      next-few = subst (λ (x : Slot). x .driver .count ≤ 8) (sym (t .left k (omega arith))) few

@@ -1,0 +1,293 @@
+-- The struct after a delta step holds the configuration after the delta step of the rules. Assumes nothing.
+use mathlib.Core.Path.{_≡_, refl, sym, ap, _∙_, subst}
+use mathlib.Core.Bool.{Bool, true, false, not, _&&_, _||_}
+use mathlib.Core.List.{List, [], _∷_, _++_, map}
+use mathlib.Core.Logic.{⊎-elim}
+use Prim.Native.Nat.{ℕ, zero, suc, _+_, _*_, _≤_, _<_}
+use native.Mathlib.Nat.{eq-or-lt-of-le}
+use native.Mathlib.Omega.{arith}
+use lib.Dec.{eqb}
+use lib.ListN.{length, getD}
+use borrow.Author.Tests.{eqb-true, eqb-false, eq-eqb}
+use Rattle.base.specs.Below.{anyBelow, listBelow}
+use Rattle.base.specs.Cases.{pick}
+use Rattle.base.proofs.Below.{list-first, list-same, list-length, list-at}
+use Rattle.model.specs.Records.{Model, statementAt}
+use Rattle.model.specs.Fields.{absent}
+use Rattle.model.specs.Facts.{Facts}
+use Rattle.model.specs.declared.records.StatementRecord.{StatementRecord}
+use Rattle.cycle.specs.Configuration.{DriverState, ProcessState, Configuration, driverIn, currentOf, drivingOf, resolvedOr, waiting}
+use Rattle.cycle.specs.Evaluation.{Environment, environmentOf, evalOf}
+use Rattle.cycle.specs.Steps.{transactionDue, taken, active, withCurrent, signalAfter, signalsAfter, inSet, changedIn, wakes, wokenBy, wokenIf, wokenAt, processAfterDelta, deltaStep}
+use Rattle.cycle.specs.Orders.{advanceDone}
+use Rattle.cycle.specs.Invariant.{ProcessFine}
+use Rattle.cycle.specs.View.{pendingOf, noDriver, historyOf, driverView, processView, viewOf, arrays, Fine, outcomeOf, Answers}
+use Rattle.cycle.specs.Arrays.{drivingIn}
+use Rattle.cycle.specs.Delta.{SetOf, activeIn, currentAfter, ResolvedTo, stateOf, entryOf, wokenFor, wokenIn, afterDelta, ProcessesFine, WokenTo}
+use Rattle.cycle.specs.declared.config.Config.{Config}
+use Rattle.cycle.specs.declared.driver.Driver.{Driver}
+use Rattle.cycle.specs.declared.turns.Answered.{Answered}
+use Rattle.cycle.specs.declared.delta.Processes.{Processes}
+use Rattle.cycle.proofs.Lists.{map-at}
+use Rattle.cycle.proofs.ViewLaws.{history-in, driver-in, process-in, ns-is, nd-is, np-is, nv-is}
+use Rattle.cycle.proofs.AdvanceReachable.{delta-reachable}
+use Rattle.cycle.proofs.ArraysAgree.{value-listed}
+use Rattle.cycle.proofs.Resolving.{driving-is}
+use Rattle.cycle.proofs.DeltaProcesses.{condition-there}
+use Rattle.cycle.proofs.DeltaDrivers.{slotOf, heldBy, TakenSlot, first-due, withDrivers, Taking, time-most}
+
+-- tests that agree below n
+any-same : (f g : ℕ → Bool) (n : ℕ) → ((i : ℕ) → i < n → f i ≡ g i) → anyBelow f n ≡ anyBelow g n
+unfolding anyBelow
+any-same f g zero h = refl
+any-same f g (suc n) h = rw (any-same f g n (λ i l. h i (omega arith)), h n (omega arith))
+
+-- a test that fails from n on
+any-fewer : (f : ℕ → Bool) (n m : ℕ) → n ≤ m → ((i : ℕ) → n ≤ i → i < m → f i ≡ false) → anyBelow f m ≡ anyBelow f n
+unfolding anyBelow
+any-fewer f n zero h z = let e : n ≡ 0 = omega arith in rw e
+any-fewer f n (suc m) h z =
+    ⊎-elim
+    (λ (e : n ≡ suc m). rw e)
+    (λ (l : n < suc m). rw (any-fewer f n m (omega arith) (λ i a b. z i a (omega arith)), z m (omega arith) (omega arith)) (or-false (anyBelow f n)))
+    (eq-or-lt-of-le h)
+  where
+    or-false : (a : Bool) → (a || false) ≡ a
+    or-false true = refl
+    or-false false = refl
+
+and-false : (a : Bool) → (a && false) ≡ false
+and-false true = refl
+and-false false = refl
+
+map-below : {A B : Type 0} (f : A → B) (g : ℕ → A) (n : ℕ) → map f (listBelow g n) ≡ listBelow (λ i. f (g i)) n
+unfolding listBelow
+map-below f g zero = refl
+map-below f g (suc n) = map-append f (listBelow g n) (g n ∷ []) ∙ rw (map-below f g n)
+  where
+    map-append : {A B : Type 0} (f : A → B) (xs ys : List A) → map f (xs ++ ys) ≡ map f xs ++ map f ys
+    map-append f [] ys = refl
+    map-append f (x ∷ xs) ys = rw (map-append f xs ys)
+
+-- the current value of a history of the array
+current-in : (l : List ℕ) (s : ℕ) → getD (historyOf l s) 0 0 ≡ getD l (32 * s) 0
+unfolding historyOf
+current-in l s = list-at (λ k. getD l (32 * s + k) 0) 0 32 0 (omega arith) ∙ (let e : 32 * s + 0 ≡ 32 * s = omega arith in rw e)
+
+-- a history with another current value
+module _ (old new : List ℕ) (s : ℕ) (past : (k : ℕ) → k < 32 → (k ≡ 0 → ⊥) → getD new (32 * s + k) 0 ≡ getD old (32 * s + k) 0) where
+  abbrev at : List ℕ → ℕ → ℕ
+  at l k = getD l (32 * s + k) 0
+
+  first-at : (l : List ℕ) → at l 0 ≡ getD l (32 * s) 0
+  first-at l = let e : 32 * s + 0 ≡ 32 * s = omega arith in rw e
+
+  rest-same : listBelow (λ j. at new (suc j)) 31 ≡ listBelow (λ j. at old (suc j)) 31
+  rest-same = list-same _ _ 31 (λ j h. past (suc j) (omega arith) (λ e. omega arith))
+
+  history-first : (l : List ℕ) → historyOf l s ≡ getD l (32 * s) 0 ∷ listBelow (λ j. at l (suc j)) 31
+  unfolding historyOf
+  history-first l = list-first (at l) 31 ∙ rw (first-at l)
+
+  pub history-changed : (v : ℕ) → getD new (32 * s) 0 ≡ v → historyOf new s ≡ withCurrent v (historyOf old s)
+  history-changed v e = rw (history-first new, history-first old, e, rest-same)
+
+  pub history-kept : getD new (32 * s) 0 ≡ getD old (32 * s) 0 → historyOf new s ≡ historyOf old s
+  history-kept e = rw (history-first new, history-first old, e, rest-same)
+
+abbrev pub processesOf : Config → Processes
+processesOf c = record { places = c .places; standings = c .standings; deadlines = c .deadlines; faults = c .faults }
+
+-- the struct r, its due transactions taken, with new signals and processes, one delta step later
+abbrev pub steppedTo : Config → List ℕ → Processes → Config
+steppedTo r new ps =
+    record {
+      time = r .time;
+      deltas = r .deltas + 1;
+      ns = r .ns;
+      nv = r .nv;
+      nd = r .nd;
+      np = r .np;
+      signals = new;
+      currents = r .currents;
+      due = r .due;
+      drivers = r .drivers;
+      places = ps .places;
+      standings = ps .standings;
+      deadlines = ps .deadlines;
+      faults = ps .faults;
+      variables = r .variables;
+    }
+
+abbrev pub answeredBy : Config → Answered
+answeredBy r = record { refusal = 0; byte = 1; picks = 0; value = 0; config = r }
+
+-- what the parts of the step say of r and of the new signals and processes
+pub record Parts (M : Model) (c : Config) (active : ℕ) (new : List ℕ) (changed : ℕ) (ps : Processes) (r : Config) : Type 0 where
+  pub resolved : ResolvedTo M (r .currents) (c .nd) active (r .signals) (c .ns) new changed
+  pub woken : WokenTo M (c .time) changed (arrays (r .variables) new) (c .np) (processesOf r) ps
+
+-- the processes of a fine configuration are fine, as the arrays hold them
+module _ (M : Model) (c : Config) (f : Fine M c) where
+  pub processes-fine : ProcessesFine M (c .time) (c .np) (processesOf c)
+  unfolding viewOf processView
+  processes-fine =
+      record {
+        at = λ p h.
+            let l : p < length (M .processes) = omega (arith, np-is M c (f .reachable)) in
+            rw (process-in c p h) at (f .reachable .each-process p l);
+      }
+
+module _ (M : Model) (fs : Facts M) (c : Config) (f : Fine M c) (set : ℕ) (a : SetOf (activeIn M (c .due) (c .time) (c .nd)) set)
+    (currents dues : List ℕ) (ds : List Driver) (new : List ℕ) (changed : ℕ) (ps : Processes)
+    (done : (j : ℕ) → j < c .nd → TakenSlot (c .time) (slotOf c j) (slotOf (withDrivers c currents dues ds) j))
+    (parts : Parts M c set new changed ps (withDrivers c currents dues ds))
+  where
+    abbrev v : Configuration
+    v = viewOf c
+
+    abbrev end : Config
+    end = steppedTo (withDrivers c currents dues ds) new ps
+
+    abbrev drivers-now : List DriverState
+    drivers-now = map (taken (c .time)) (viewOf c .drivers)
+
+    -- the drivers
+    drivers-are : listBelow (driverView end) (c .nd) ≡ map (taken (c .time)) (listBelow (driverView c) (c .nd))
+    unfolding driverView
+    drivers-are = list-same _ _ (c .nd) (λ j h. done j h .state) ∙ sym (map-below (taken (c .time)) (driverView c) (c .nd))
+
+    current-is : (k : ℕ) → k < c .nd → getD currents k 0 ≡ driverIn drivers-now k .current
+    unfolding driverView viewOf
+    current-is k h =
+        let l : k < length (listBelow (driverView c) (c .nd)) = omega (arith, list-length (driverView c) (c .nd)) in
+        let e : driverIn drivers-now k ≡ taken (c .time) (heldBy (slotOf c k)) = map-at (taken (c .time)) (viewOf c .drivers) k _ _ l ∙ ap (taken (c .time)) (driver-in c k h) in
+        ap (λ (x : DriverState). x .current) (done k h .state ∙ sym e)
+
+    -- the active signals
+    active-is : (s : ℕ) → s < 32 → active M (c .time) (v .drivers) s ≡ inSet set s
+    unfolding active activeIn transactionDue driverView
+    active-is s h =
+        rw (← nd-is M c (f .reachable))
+        (any-same _ _ (c .nd)
+        (λ k l. rw (driver-in c k l, first-due (c .time) (pendingOf (getD (c .drivers) k noDriver)) (time-most M c f), ← f .due k l)))
+        ∙ sym (a .at s h)
+
+    ns-few : c .ns ≤ 32
+    ns-few = omega (arith, ns-is M c (f .reachable), fs .totals .signals)
+
+    past : (s k : ℕ) → k < 32 → (k ≡ 0 → ⊥) → getD new (32 * s + k) 0 ≡ getD (c .signals) (32 * s + k) 0
+    past s k h n = parts .resolved .other s k h (λ e. absurd (n e))
+
+    history-is : (s : ℕ) → s < c .ns → historyOf new s ≡ signalAfter M v s
+    unfolding signalAfter currentAfter viewOf
+    history-is s h =
+        rw (active-is s (omega (arith, ns-few)), history-in c s h)
+        ((elim (inSet set s) as (λ b. inSet set s ≡ b → historyOf new s ≡ pick b (withCurrent (resolvedOr (getD (historyOf (c .signals) s) 0 0) (drivingOf M drivers-now s)) (historyOf (c .signals) s)) (historyOf (c .signals) s)) [
+          | true ↦ λ e. history-changed (c .signals) new s (past s) _ (parts .resolved .current s h ∙ rw (e, value))
+          | false ↦ λ e. history-kept (c .signals) new s (past s) (parts .resolved .current s h ∙ rw e)
+        ])
+        refl)
+      where
+        value : resolvedOr (getD (c .signals) (32 * s) 0) (drivingIn M currents s (c .nd)) ≡ resolvedOr (getD (historyOf (c .signals) s) 0 0) (drivingOf M drivers-now s)
+        value = rw (current-in (c .signals) s, driving-is M currents drivers-now (c .nd) s (nd-is M c (f .reachable)) current-is)
+
+    signals-are : listBelow (historyOf new) (c .ns) ≡ signalsAfter M v
+    unfolding signalsAfter
+    signals-are = list-same _ _ (c .ns) history-is ∙ ap (listBelow (signalAfter M v)) (ns-is M c (f .reachable))
+
+    -- the changes of the signals
+    current-of : (l : List ℕ) (s : ℕ) → s < c .ns → currentOf (listBelow (historyOf l) (c .ns)) s ≡ getD l (32 * s) 0
+    current-of l s h = rw (list-at (historyOf l) [] (c .ns) s h) (current-in l s)
+
+    abbrev differs : ℕ → Bool
+    differs n = not (eqb (getD (c .signals) (32 * n) 0) (getD new (32 * n) 0))
+
+    differs-not : (n : ℕ) → c .ns ≤ n → differs n ≡ false
+    differs-not n h =
+        let z : 32 * n + 0 ≡ 32 * n = omega arith in
+        let e : getD new (32 * n) 0 ≡ getD (c .signals) (32 * n) 0 = rw z at (parts .resolved .other n 0 (omega arith) (λ q. h)) in
+        rw (eq-eqb (getD (c .signals) (32 * n) 0) (getD new (32 * n) 0) (sym e))
+
+    changed-is : (bits : ℕ) → anyBelow (λ n. inSet bits n && inSet changed n) 32 ≡ changedIn M bits (v .signals) (signalsAfter M v)
+    unfolding changedIn viewOf
+    changed-is bits =
+        any-same _ (λ n. inSet bits n && differs n) 32 (λ n h. rw (parts .resolved .changed .at n h))
+        ∙ any-fewer _ (c .ns) 32 ns-few (λ n h l. rw (differs-not n h) (and-false (inSet bits n)))
+        ∙ rw (← signals-are, ← ns-is M c (f .reachable)) (any-same _ _ (c .ns) (λ n h. rw (current-of (c .signals) n h, current-of new n h)))
+
+    -- the processes
+    value-is : (n : ℕ) → n < length (M .nodes) → evalOf M (arrays (c .variables) new) n ≡ evalOf M (environmentOf (v .variables) (signalsAfter M v)) n
+    unfolding viewOf
+    value-is n h = rw (← signals-are) (value-listed M fs (c .variables) new (c .nv) (c .ns) (nv-is M c (f .reachable)) (ns-is M c (f .reachable)) n h)
+
+    module _ (p : ℕ) (h : p < c .np) where
+      abbrev q : ProcessState
+      q = stateOf (entryOf (processesOf c) p)
+
+      abbrev w : StatementRecord
+      w = statementAt M (getD (c .places) p 0)
+
+      abbrev now : Environment
+      now = environmentOf (v .variables) (signalsAfter M v)
+
+      here : p < length (M .processes)
+      here = omega (arith, np-is M c (f .reachable))
+
+      fine : ProcessFine M p (c .time) q
+      fine = processes-fine M c f .at p h
+
+      condition-is : q .standing ≡ waiting → wokenFor M p (arrays (c .variables) new) (w .b) q ≡ wokenIf M p now w q
+      unfolding wokenFor wokenIf
+      condition-is e =
+          (elim (eqb (w .b) absent) as (λ b. eqb (w .b) absent ≡ b → pick b (wakes M p q) (wokenBy M p q (evalOf M (arrays (c .variables) new) (w .b))) ≡ pick b (wakes M p q) (wokenBy M p q (evalOf M now (w .b)))) [
+            | true ↦ λ z. refl
+            | false ↦ λ z. ap (wokenBy M p q) (value-is (w .b) (condition-there M fs p (c .time) here (entryOf (processesOf c) p) fine w refl e (eqb-false (w .b) absent z)))
+          ])
+          refl
+
+      waiting-is : q .standing ≡ waiting → wokenIn M p (c .time) changed (arrays (c .variables) new) w q ≡ wokenAt M p v (signalsAfter M v) w q
+      unfolding wokenIn wokenAt viewOf
+      waiting-is e = rw (changed-is (w .set), condition-is e)
+
+      process-is : stateOf (entryOf ps p) ≡ processAfterDelta M v (signalsAfter M v) p
+      unfolding processAfterDelta afterDelta processView
+      process-is =
+          parts .woken .at p h
+          ∙ rw (process-in c p h)
+          ((elim (eqb (q .standing) waiting) as (λ b. eqb (q .standing) waiting ≡ b → pick b (wokenIn M p (c .time) changed (arrays (c .variables) new) w q) q ≡ pick b (wokenAt M p v (signalsAfter M v) w q) q) [
+            | true ↦ λ z. waiting-is (eqb-true (q .standing) waiting z)
+            | false ↦ λ z. refl
+          ])
+          refl)
+
+    processes-are : listBelow (processView end) (c .np) ≡ listBelow (processAfterDelta M v (signalsAfter M v)) (length (M .processes))
+    unfolding processView
+    processes-are = list-same _ _ (c .np) process-is ∙ ap (listBelow (processAfterDelta M v (signalsAfter M v))) (np-is M c (f .reachable))
+
+    -- the whole
+    view-is : viewOf end ≡ deltaStep M v
+    unfolding viewOf deltaStep
+    view-is = rw (signals-are, drivers-are, processes-are)
+
+    stepped-answers : c .deltas < 1000 → Answers M (answeredBy end) (advanceDone 1 (deltaStep M v))
+    unfolding viewOf outcomeOf
+    stepped-answers d =
+        record {
+          is = ap (advanceDone 1) view-is;
+          fine = record { reachable = rw view-is (delta-reachable M fs v (f .reachable) d); due = λ k h. done k h .due };
+        }
+
+module _ (M : Model) (fs : Facts M) (c : Config) (f : Fine M c) (set : ℕ) (a : SetOf (activeIn M (c .due) (c .time) (c .nd)) set) where
+  -- the step, from what each of its parts says
+  pub delta-answers : (k : ℕ) (r : Config) (new : List ℕ) (changed : ℕ) (ps : Processes) → c .nd ≤ k → Taking c k r → Parts M c set new changed ps r → c .deltas < 1000 → Answers M (answeredBy (steppedTo r new ps)) (advanceDone 1 (deltaStep M (viewOf c)))
+  delta-answers k r new changed ps h t parts d =
+      subst
+      (λ (x : Config). Parts M c set new changed ps x → Answers M (answeredBy (steppedTo x new ps)) (advanceDone 1 (deltaStep M (viewOf c))))
+      (sym (t .rest))
+      (λ p. stepped-answers M fs c f set a (r .currents) (r .due) (r .drivers) new changed ps (λ j l. t .done j (omega arith)) p d)
+      parts
+
+  -- what the loop over the drivers keeps of the processes
+  pub processes-kept : (k : ℕ) (r : Config) → Taking c k r → ProcessesFine M (c .time) (c .np) (processesOf r)
+  processes-kept k r t = subst (λ (x : Config). ProcessesFine M (c .time) (c .np) (processesOf x)) (sym (t .rest)) (processes-fine M c f)
