@@ -7,7 +7,7 @@ use lib.Dec.{eqb, leb}
 use lib.ListN.{length}
 use Rattle.base.specs.Below.{firstFailing}
 use Rattle.base.specs.Cases.{pick}
-use Rattle.model.specs.Records.{modelOf}
+use Rattle.model.specs.Records.{Model, modelOf}
 use Rattle.model.specs.Owners.{rulesOf}
 use Rattle.cycle.specs.Configuration.{Configuration, first, empty}
 use Rattle.cycle.specs.View.{viewOf}

@@ -13,10 +13,10 @@ use cycle::config::Config;
 use cycle::turns::Answered;
 
 // What one order does: 11 for an unknown kind or a set unused byte.
-fn perform(
+fn perform<'a>(
     c: Config,
-    m: &[u8],
-    index: &[u16; 1376],
+    m: &'a [u8],
+    index: &'a [u16; 1376],
     kind: usize,
     argument: usize,
     count: usize,
@@ -59,7 +59,13 @@ fn perform(
 }
 
 // Plays the orders, and writes each answer into its own part of the buffer.
-pub fn play(c: Config, m: &[u8], index: &[u16; 1376], orders: &[u8], answers: &mut [u8]) -> Config
+pub fn play<'a>(
+    c: Config,
+    m: &'a [u8],
+    index: &'a [u16; 1376],
+    orders: &[u8],
+    answers: &mut [u8],
+) -> Config
     requires { ⌜ Runs (now m) (now index) ⌝ }
     requires { ⌜ Fine (modelOf (now m)) c ⌝ }
     requires { ⌜ length (now answers) ≡ 16 * (length (now orders) / 4) ⌝ }

@@ -1,6 +1,7 @@
 -- The arm taken picks the case of the definition. Assumes nothing.
 use borrow.Author.Needs.{needs}
 use borrow.Author.Tests.{ne-eqb}
+use Rattle.cycle.proofs.Advances.{few-signals}
 use Rattle.session.specs.Lists.{performed}
 use Rattle.session.proofs.play.perform.Statement.{statement}
 use Rattle.session.proofs.play.perform.Tie as tie
@@ -24,7 +25,7 @@ refused-requires-3 : tie.Need-refused-requires-3
 refused-requires-3 c κs = search needs
 
 read-requires : tie.Need-read-requires
-read-requires c κs = search needs
+read-requires c κs = let st = c .before .before .before in few-signals (st .pre .0 .facts) (st .pre .1)
 
 refused-requires-4 : tie.Need-refused-requires-4
 refused-requires-4 c κs = search needs
