@@ -1,19 +1,23 @@
 # make run: plays the bundled example. make test: every test. Both install what is missing (Debian packages).
-.PHONY: run test bench setup clean
+.PHONY: run test bench tools setup clean
 
 LIB := $(CURDIR)/target/staticlib
 CARGO := cargo --quiet
 PEER := --release --offline --manifest-path tests/Cargo.toml
-PROVED := KERNEL_LIB_DIR=$(LIB) $(CARGO) run $(PEER) --features proved --bin
+PROVED := KERNEL_LIB_DIR=$(LIB) $(CARGO) run $(PEER) --features session --bin
 
 run: setup
-	rt check
+	rt check playbench
+	cd examples/inverter && $(CURDIR)/target/bin/playbench
 
-test: setup
+test: setup tools
 	rt fmt --check
 	$(CARGO) test $(PEER)
+	rt check playbench
 	rt staticlib exports
+	sh tests/examples.sh
 	$(PROVED) compare models 200000 1
+	$(PROVED) compare sessions 100000 1
 	$(PROVED) compare limits
 	KERNEL_LIB_DIR=$(LIB) sh tests/ghdl/run.sh 200 1
 
@@ -22,8 +26,11 @@ bench: setup
 	bench/run
 	$(PROVED) judgebench
 
+tools:
+	$(CARGO) build --release --offline --manifest-path tools/blocks/Cargo.toml
+
 setup:
 	@sh tools/setup
 
 clean:
-	rm -rf target tests/target
+	rm -rf target tests/target tools/blocks/target

@@ -104,3 +104,43 @@ mod tests {
         );
     }
 }
+
+/// How many words the proved kernel's dump has (crates/exports, specs/Dump).
+pub const WORDS: usize = 2326;
+
+/// The proved kernel's words in the layout of `dump`.
+pub fn pack(words: &[u64; WORDS]) -> [u8; DUMP] {
+    let mut out = [0; DUMP];
+    let mut put = |at: usize, bytes: usize, word: u64| {
+        out[at..at + bytes].copy_from_slice(&word.to_le_bytes()[..bytes]);
+    };
+    put(0, 8, words[0]);
+    put(8, 4, words[1]);
+    for n in 0..4 {
+        put(12 + n, 1, words[2 + n]);
+    }
+    for n in 0..1024 {
+        put(16 + 4 * n, 4, words[6 + n]);
+    }
+    for n in 0..64 {
+        put(4112 + 4 * n, 4, words[1030 + n]);
+    }
+    for d in 0..64 {
+        let (from, to) = (1094 + 18 * d, 4368 + 104 * d);
+        put(to, 4, words[from]);
+        put(to + 4, 4, words[from + 1]);
+        for n in 0..8 {
+            put(to + 8 + 8 * n, 8, words[from + 2 + n]);
+            put(to + 72 + 4 * n, 4, words[from + 10 + n]);
+        }
+    }
+    for p in 0..16 {
+        let (from, to) = (2246 + 5 * p, 11024 + 16 * p);
+        put(to, 2, words[from]);
+        put(to + 2, 1, words[from + 1]);
+        put(to + 3, 1, words[from + 2]);
+        put(to + 4, 1, words[from + 3]);
+        put(to + 8, 8, words[from + 4]);
+    }
+    out
+}

@@ -8,6 +8,8 @@ pub mod damage;
 pub mod dump;
 pub mod gen;
 pub mod model;
+#[cfg(feature = "proved")]
+pub mod proved;
 pub mod rng;
 pub mod session;
 pub mod tally;

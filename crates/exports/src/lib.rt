@@ -1,8 +1,15 @@
 // The kernel's functions under plain names, for programs in other languages. Each has the contract of the function it calls.
+pub mod dump;
+
 ghost use mathlib.Core.Path.{_≡_};
+ghost use lib.ListN.{length};
+ghost use Rattle.base.specs.Below.{listBelow};
 ghost use Rattle.model.specs.Owners.{refusalOf};
+ghost use Rattle.session.specs.Sessions.{sessionOf};
 ghost use Rattle.values.specs.Resolve.{resolutionOf};
 ghost use Rattle.values.specs.Operators.{notOf, andOf, orOf, xorOf};
+ghost use Rattle.exports.specs.Dump.{wordOf};
+use crate::dump::dump;
 
 #[no_mangle]
 pub extern "C" fn gontrafiby_resolve(values: &[u8]) -> u32
@@ -45,4 +52,21 @@ pub extern "C" fn gontrafiby_judge(model: &[u8]) -> u32
     ensures { λ r. ⌜ r ≡ refusalOf (now (model .entry)) ⌝ }
 {
     model::load::judge(model) as u32
+}
+
+// Plays a session: its number, with every byte of the answer buffer as the rules have it, and the words of its end configuration.
+#[no_mangle]
+pub extern "C" fn gontrafiby_session(
+    model: &[u8],
+    orders: &[u8],
+    answers: &mut [u8],
+    words: &mut [u64],
+) -> usize
+    ensures { λ r. ⌜ r ≡ sessionOf (now (model .entry)) (now (orders .entry)) (now (answers .entry)) .number ⌝ }
+    ensures { λ _. ⌜ now (answers .exit) ≡ sessionOf (now (model .entry)) (now (orders .entry)) (now (answers .entry)) .buffer ⌝ }
+    ensures { λ _. ⌜ now (words .exit) ≡ listBelow (wordOf (sessionOf (now (model .entry)) (now (orders .entry)) (now (answers .entry)) .end)) (length (now (words .entry))) ⌝ }
+{
+    let r = session::session(model, orders, answers);
+    dump(r.config, words);
+    r.number
 }

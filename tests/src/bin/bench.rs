@@ -146,32 +146,7 @@ fn second(model: &[u8], orders: &[u8], answers: &mut [u8]) {
 
 #[cfg(feature = "session")]
 fn proved(model: &[u8], orders: &[u8], answers: &mut [u8]) {
-    unsafe extern "C" {
-        fn gontrafiby_session(
-            model: *const u8,
-            mlen: usize,
-            orders: *const u8,
-            olen: usize,
-            answers: *mut u8,
-            alen: usize,
-            dump: *mut u8,
-            dlen: usize,
-        ) -> u32;
-    }
-    let mut dump = [0u8; second_kernel::dump::DUMP];
-    // Safety: each pointer comes with its own slice's length.
-    let number = unsafe {
-        gontrafiby_session(
-            model.as_ptr(),
-            model.len(),
-            orders.as_ptr(),
-            orders.len(),
-            answers.as_mut_ptr(),
-            answers.len(),
-            dump.as_mut_ptr(),
-            dump.len(),
-        )
-    };
+    let number = second_kernel::proved::play(model, orders, answers, &mut []);
     assert_eq!(number, 0);
 }
 

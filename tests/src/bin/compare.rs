@@ -3,49 +3,11 @@
 //! Case i has the seed SEED + i, so `compare sessions 1 S` repeats seed S.
 //! Sessions are compared with the feature `session`, which asks for a library that has them.
 
-use second_kernel::tally;
+use second_kernel::{proved, tally};
 use std::process::ExitCode;
 
-extern "C" {
-    fn gontrafiby_judge(model: *const u8, len: usize) -> u32;
-    #[cfg(feature = "session")]
-    fn gontrafiby_session(
-        model: *const u8,
-        mlen: usize,
-        orders: *const u8,
-        olen: usize,
-        answers: *mut u8,
-        alen: usize,
-        dump: *mut u8,
-        dlen: usize,
-    ) -> u32;
-}
-
-fn judge(model: &[u8]) -> u32 {
-    // SAFETY: the pointer and the length are those of one slice.
-    unsafe { gontrafiby_judge(model.as_ptr(), model.len()) }
-}
-
 #[cfg(feature = "session")]
-fn session(model: &[u8], orders: &[u8], answers: &mut [u8], dump: &mut [u8]) -> u32 {
-    // SAFETY: each pointer and length are those of one slice; the mutable
-    // ones do not overlap any other.
-    unsafe {
-        gontrafiby_session(
-            model.as_ptr(),
-            model.len(),
-            orders.as_ptr(),
-            orders.len(),
-            answers.as_mut_ptr(),
-            answers.len(),
-            dump.as_mut_ptr(),
-            dump.len(),
-        )
-    }
-}
-
-#[cfg(feature = "session")]
-const SESSION: Option<tally::Session> = Some(&session);
+const SESSION: Option<tally::Session> = Some(&proved::session);
 #[cfg(not(feature = "session"))]
 const SESSION: Option<tally::Session> = None;
 
@@ -62,7 +24,7 @@ fn run(arguments: &[String]) -> Result<(), String> {
                 number(arguments.get(1), "N")?,
                 number(arguments.get(2), "SEED")?,
             );
-            tally::models(n, seed, Some(&judge))?.print();
+            tally::models(n, seed, Some(&proved::judge))?.print();
             println!("no difference in {n} judged models from seed {seed} on");
         }
         Some("sessions") => {
@@ -77,7 +39,7 @@ fn run(arguments: &[String]) -> Result<(), String> {
             println!("no difference in {n} sessions from seed {seed} on");
         }
         Some("limits") => {
-            let counts = tally::limits(Some(&judge), SESSION)?;
+            let counts = tally::limits(Some(&proved::judge), SESSION)?;
             counts.print();
             let cases = counts.models.iter().chain(&counts.sessions).sum::<u64>();
             println!("no difference in {cases} limit cases");

@@ -86,21 +86,12 @@ fn time(name: &str, bytes: &[u8], judge: &dyn Fn(&[u8]) -> u32) -> f64 {
     best
 }
 
-#[cfg(feature = "proved")]
-fn proved(model: &[u8]) -> u32 {
-    unsafe extern "C" {
-        fn gontrafiby_judge(model: *const u8, len: usize) -> u32;
-    }
-    // Safety: the pointer and the length are those of one slice.
-    unsafe { gontrafiby_judge(model.as_ptr(), model.len()) }
-}
-
 fn main() {
     let (_, bytes) = largest();
     let second = time("second", &bytes, &model::judge);
     #[cfg(feature = "proved")]
     {
-        let ours = time("proved", &bytes, &proved);
+        let ours = time("proved", &bytes, &second_kernel::proved::judge);
         println!("judge ratio  {:6.2} (second / proved)", second / ours);
         if ours >= 1e-3 {
             eprintln!("judgebench: a full model takes a millisecond or more");

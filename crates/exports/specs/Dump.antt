@@ -1,0 +1,58 @@
+-- A configuration written out as numbers, for programs that compare configurations: 2326 words, and 0 past them.
+use mathlib.Core.Option.{Option, none, some}
+use Prim.Native.Nat.{ℕ, _-_, _/_, _%_}
+use lib.Dec.{ltb}
+use lib.ListN.{length, getD}
+use Rattle.base.specs.Cases.{pick, _∣_, _is_⇒_}
+use Rattle.cycle.specs.Configuration.{Transaction, DriverState, ProcessState, Configuration, driverIn, pastOf}
+
+-- what stands for a process and a transaction that are not there
+abbrev pub noProcess : ProcessState
+noProcess = record { place = 0; standing = 0; deadline = none; fault = 0 }
+
+abbrev pub noTransaction : Transaction
+noTransaction = record { time = 0; value = 0 }
+
+-- whether a deadline is set, and it
+abbrev pub isSet : Option ℕ → ℕ
+isSet none = 0
+isSet (some t) = 1
+
+abbrev pub timeOf : Option ℕ → ℕ
+timeOf none = 0
+timeOf (some t) = t
+
+-- the time, the count of delta steps, and how many there are of each
+unfoldable pub totalWord : Configuration → ℕ → ℕ
+totalWord C j =
+    j is 0 ⇒ C .time
+    ∣ j is 1 ⇒ C .deltas
+    ∣ j is 2 ⇒ length (C .signals)
+    ∣ j is 3 ⇒ length (C .variables)
+    ∣ j is 4 ⇒ length (C .drivers)
+    ∣ length (C .processes)
+
+-- a driver: its current value, how many transactions are pending, the times of the first eight and their values
+unfoldable pub driverWord : DriverState → ℕ → ℕ
+driverWord D j =
+    j is 0 ⇒ D .current
+    ∣ j is 1 ⇒ length (D .pending)
+    ∣ pick (ltb j 10) (getD (D .pending) (j - 2) noTransaction .time) (getD (D .pending) (j - 10) noTransaction .value)
+
+-- a process: its place, standing and fault, whether it has a deadline, and that
+unfoldable pub processWord : ProcessState → ℕ → ℕ
+processWord P j =
+    j is 0 ⇒ P .place
+    ∣ j is 1 ⇒ P .standing
+    ∣ j is 2 ⇒ P .fault
+    ∣ j is 3 ⇒ isSet (P .deadline)
+    ∣ timeOf (P .deadline)
+
+-- word i: the totals, 32 values of each of 32 signals, 64 variables, 18 words of each of 64 drivers, 5 of each of 16 processes
+unfoldable pub wordOf : Configuration → ℕ → ℕ
+wordOf C i =
+    pick (ltb i 6) (totalWord C i)
+    (pick (ltb i 1030) (pastOf (C .signals) ((i - 6) / 32) ((i - 6) % 32))
+    (pick (ltb i 1094) (getD (C .variables) (i - 1030) 0)
+    (pick (ltb i 2246) (driverWord (driverIn (C .drivers) ((i - 1094) / 18)) ((i - 1094) % 18))
+    (pick (ltb i 2326) (processWord (getD (C .processes) ((i - 2246) / 5) noProcess) ((i - 2246) % 5)) 0))))

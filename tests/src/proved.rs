@@ -1,0 +1,52 @@
+//! The proved kernel's functions, from the static library `exports`.
+
+#[cfg(feature = "session")]
+use crate::dump::{pack, DUMP, WORDS};
+
+extern "C" {
+    fn gontrafiby_judge(model: *const u8, len: usize) -> u32;
+    #[cfg(feature = "session")]
+    fn gontrafiby_session(
+        model: *const u8,
+        mlen: usize,
+        orders: *const u8,
+        olen: usize,
+        answers: *mut u8,
+        alen: usize,
+        words: *mut u64,
+        wlen: usize,
+    ) -> usize;
+}
+
+/// The first of the rules 1 to 8 that a model breaks, or 0.
+pub fn judge(model: &[u8]) -> u32 {
+    // Safety: the pointer and the length are those of one slice.
+    unsafe { gontrafiby_judge(model.as_ptr(), model.len()) }
+}
+
+/// A session's number; the answers and as many words of the end configuration as there is room for are written.
+#[cfg(feature = "session")]
+pub fn play(model: &[u8], orders: &[u8], answers: &mut [u8], words: &mut [u64]) -> u32 {
+    // Safety: each pointer and length are those of one slice; the mutable ones do not overlap any other.
+    unsafe {
+        gontrafiby_session(
+            model.as_ptr(),
+            model.len(),
+            orders.as_ptr(),
+            orders.len(),
+            answers.as_mut_ptr(),
+            answers.len(),
+            words.as_mut_ptr(),
+            words.len(),
+        ) as u32
+    }
+}
+
+/// The same, with the end configuration in the second kernel's layout.
+#[cfg(feature = "session")]
+pub fn session(model: &[u8], orders: &[u8], answers: &mut [u8], dump: &mut [u8]) -> u32 {
+    let mut words = [u64::MAX; WORDS];
+    let number = play(model, orders, answers, &mut words);
+    dump[..DUMP].copy_from_slice(&pack(&words));
+    number
+}
