@@ -156,7 +156,7 @@ module _ (M : Model) (fs : Facts M) (c : Configuration) (r : Reachable M c) wher
       }
 
 -- a history after n units
-shifted-length : (n : ℕ) (h : List ℕ) → length h ≡ 32 → length (shifted n h) ≡ 32
+pub shifted-length : (n : ℕ) (h : List ℕ) → length h ≡ 32 → length (shifted n h) ≡ 32
 unfolding shifted
 shifted-length n h e = simp (length-take, length-append, length-replicate) (omega arith)
 

@@ -1,16 +1,15 @@
 -- The drivers of a delta step: a due transaction becomes its driver's current value and leaves, one driver after the other.
 -- Assumes nothing.
 use mathlib.Core.Path.{_≡_, refl, sym, ap, _∙_, subst}
-use mathlib.Core.List.{List, [], _∷_, map}
+use mathlib.Core.List.{List, [], _∷_}
 use Prim.Native.Nat.{ℕ, _+_, _≤_, _<_}
 use native.Mathlib.Decide.{decLt, ℕ-discrete}
 use native.Mathlib.Omega.{arith}
 use lib.Dec.{eqb}
-use lib.ListN.{length, getD, set, drop, length-set, length-map}
+use lib.ListN.{length, getD, set, drop, length-set}
 use lib.Seq.{getD-set-same, getD-set-other}
 use borrow.Author.Tests.{eq-eqb, ne-eqb}
 use Rattle.model.specs.Records.{Model}
-use Rattle.model.specs.Facts.{Facts}
 use Rattle.cycle.specs.Configuration.{Transaction, DriverState}
 use Rattle.cycle.specs.Steps.{dueIn, takenIn, taken}
 use Rattle.cycle.specs.Invariant.{lastTime}
@@ -101,10 +100,6 @@ pub record Taking (c : Config) (k : ℕ) (r : Config) : Type 0 where
   pub done : (j : ℕ) → j < k → TakenSlot (c .time) (slotOf c j) (slotOf r j)
   pub left : (j : ℕ) → k ≤ j → slotOf r j ≡ slotOf c j
 
--- the length of an array of structs in a field, from what owning the struct tells
-pub length-mapped : {A B : Type 0} (f : A → B) (l : List A) (n : ℕ) → length (map f l) ≡ n → length l ≡ n
-length-mapped f l n e = sym (length-map l f) ∙ e
-
 module _ (c : Config) where
   pub taking-none : length (c .signals) ≡ 1024 → length (c .currents) ≡ 64 → length (c .due) ≡ 64 → length (c .drivers) ≡ 64 → Taking c 0 c
   taking-none s u d r =
@@ -182,9 +177,6 @@ module _ (M : Model) (c : Config) (f : Fine M c) where
   pub time-most : c .time ≤ lastTime
   unfolding viewOf
   time-most = f .reachable .time
-
-  pub nd-most : Facts M → c .nd ≤ 64
-  nd-most fs = omega (arith, nd-is M c (f .reachable), fs .totals .drivers)
 
   module _ (k : ℕ) (h : k < c .nd) where
     few : getD (c .drivers) k noDriver .count ≤ 8

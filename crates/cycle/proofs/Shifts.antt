@@ -7,7 +7,7 @@ use native.Mathlib.Nat.{eq-or-lt-of-le, le-of-suc-le-suc}
 use native.Mathlib.Decide.{decLt, ℕ-discrete}
 use native.Mathlib.Numerals.{add-one}
 use native.Mathlib.Omega.{arith}
-use lib.ListN.{length, getD, set, take, replicate, length-take, length-append, length-replicate, length-map, getD-replicate, List·getD-append}
+use lib.ListN.{length, getD, set, take, replicate, length-replicate, length-map, getD-replicate, List·getD-append}
 use lib.Seq.{getD-take, ext-getD, getD-append-add, getD-set-same, getD-set-other}
 use Rattle.base.specs.Below.{listBelow}
 use Rattle.base.proofs.Below.{list-length, list-at, list-same}
@@ -19,7 +19,7 @@ use Rattle.cycle.specs.Invariant.{lastTime}
 use Rattle.cycle.specs.View.{historyOf, driverView, processView, viewOf, Fine, outcomeOf, Answers}
 use Rattle.cycle.specs.Shift.{ShiftedBy}
 use Rattle.cycle.specs.declared.config.Config.{Config}
-use Rattle.cycle.proofs.AdvanceReachable.{time-reachable}
+use Rattle.cycle.proofs.AdvanceReachable.{shifted-length, time-reachable}
 use Rattle.cycle.proofs.Lists.{map-at}
 
 -- one entry more
@@ -48,10 +48,6 @@ shifted-at n h k l = getD-take 32 (replicate (min n 32) first ++ h) k 0 l ∙ el
     stale p =
         let e : k ≡ length (replicate (min n 32) first) + (k - min k n) = omega (arith, length-replicate (min n 32) first) in
         ap (λ (i : ℕ). getD (replicate (min n 32) first ++ h) i 0) e ∙ getD-append-add (replicate (min n 32) first) h (k - min k n) 0
-
-shifted-length : (n : ℕ) (h : List ℕ) → length h ≡ 32 → length (shifted n h) ≡ 32
-unfolding shifted
-shifted-length n h e = simp (length-take, length-append, length-replicate) (omega arith)
 
 history-length : (a : List ℕ) (s : ℕ) → length (historyOf a s) ≡ 32
 unfolding historyOf

@@ -1,16 +1,21 @@
-// Advance: a delta step where something is due now, else a time step.
+// Advance: a delta step where something is due now, else a time step. One method, in place: a configuration is large to copy.
 ghost use Rattle.model.specs.Records.{modelOf};
 ghost use Rattle.cycle.specs.Orders.{advanced};
 ghost use Rattle.cycle.specs.View.{viewOf, Runs, Fine, Answers};
 use crate::config::Config;
+use crate::delta::Processes;
+use crate::delta::actives;
+use crate::delta::resolve;
+use crate::delta::wake;
 use crate::due::any_standing;
 use crate::due::earlier;
 use crate::due::earliest_deadline;
 use crate::due::earliest_driver;
+use crate::time::shift;
 use crate::turns::Answered;
 
 impl Config {
-    pub fn advance<'a>(self, m: &'a [u8], index: &'a [u16; 1376]) -> Answered
+    pub fn advance<'a>(mut self, m: &'a [u8], index: &'a [u16; 1376]) -> Answered
         requires { ⌜ Runs (now m) (now index) ⌝ }
         requires { ⌜ Fine (modelOf (now m)) self ⌝ }
         ensures { λ r. ⌜ Answers (modelOf (now (m .entry))) r (advanced (modelOf (now (m .entry))) (viewOf self)) ⌝ }
@@ -28,7 +33,62 @@ impl Config {
             if self.deltas >= 1000 {
                 return self.refused(16);
             }
-            return self.delta_step(m, index);
+            // Each due transaction becomes its driver's current value and leaves; then the signals, then the processes.
+            let ns = self.ns;
+            let nd = self.nd;
+            let time = self.time;
+            let active = actives(m, index, &self.due, nd, time);
+            let mut k = 0;
+            while k < nd {
+                if self.due[k] == time {
+                    let d = self.drivers[k];
+                    let e = d.without_first();
+                    self.currents[k] = d.values[0];
+                    self.due[k] = e.first_time();
+                    self.drivers[k] = e;
+                    k += 1;
+                    continue;
+                }
+                k += 1;
+            }
+            let currents = self.currents;
+            let changed = resolve(m, index, &currents, nd, active, &mut self.signals, ns);
+            let places = self.places;
+            let standings = self.standings;
+            let deadlines = self.deadlines;
+            let faults = self.faults;
+            let ps = Processes {
+                places,
+                standings,
+                deadlines,
+                faults,
+            };
+            let r = wake(
+                m,
+                index,
+                &self.variables,
+                &self.signals,
+                changed,
+                time,
+                np,
+                ps,
+            );
+            let woken_places = r.places;
+            let woken_standings = r.standings;
+            let woken_deadlines = r.deadlines;
+            let woken_faults = r.faults;
+            self.places = woken_places;
+            self.standings = woken_standings;
+            self.deadlines = woken_deadlines;
+            self.faults = woken_faults;
+            self.deltas = self.deltas + 1;
+            return Answered {
+                refusal: 0,
+                byte: 1,
+                picks: 0,
+                value: 0,
+                config: self,
+            };
         }
         if t == 18446744073709551615 {
             return self.refused(17);
@@ -36,6 +96,18 @@ impl Config {
         if t > 1000000000000 {
             return self.refused(18);
         }
-        self.time_step(t)
+        // The step to the earliest due time: the past of each signal shifts by the units passed.
+        let old = self.signals;
+        let new = shift(old, 32 * self.ns, t - self.time);
+        self.signals = new;
+        self.time = t;
+        self.deltas = 0;
+        Answered {
+            refusal: 0,
+            byte: 2,
+            picks: 0,
+            value: 0,
+            config: self,
+        }
     }
 }

@@ -1,29 +1,32 @@
-// The delta step.
+// The parts of the delta step: the active signals, their resolution, the processes that wake.
 ghost use mathlib.Core.Path.{_≡_};
 ghost use Prim.Native.Nat.{_≤_, _<_};
 ghost use lib.ListN.{length};
 ghost use Rattle.model.specs.Records.{modelOf};
 ghost use Rattle.model.specs.Fields.{absent};
 ghost use Rattle.model.specs.Facts.{Spans};
-ghost use Rattle.cycle.specs.Steps.{wakes, wokenBy, deltaStep};
-ghost use Rattle.cycle.specs.Orders.{advanceDone};
+ghost use Rattle.cycle.specs.Steps.{wakes, wokenBy};
 ghost use Rattle.cycle.specs.Invariant.{lastTime, ProcessFine};
-ghost use Rattle.cycle.specs.View.{arrays, viewOf, Runs, Fine, Answers};
+ghost use Rattle.cycle.specs.View.{arrays, Runs};
 ghost use Rattle.cycle.specs.Delta.{SetOf, activeIn, ResolvedTo, stateOf, wokenFor, afterDelta, ProcessesFine, WokenTo};
-use crate::config::Config;
 use crate::config::resolved;
 use crate::eval::Value;
 use crate::eval::eval;
 use crate::sets::has;
 use crate::sets::meet;
 use crate::sets::with;
-use crate::turns::Answered;
 use crate::turns::next_place;
 use model::index::driver_at;
 use model::index::statement_at;
 
 // The set of the signals that have a driver with a transaction due at the time.
-fn actives<'a>(m: &'a [u8], index: &'a [u16; 1376], due: &'a [u64; 64], nd: usize, time: u64) -> u32
+pub fn actives<'a>(
+    m: &'a [u8],
+    index: &'a [u16; 1376],
+    due: &'a [u64; 64],
+    nd: usize,
+    time: u64,
+) -> u32
     requires { ⌜ Runs (now m) (now index) ⌝ }
     requires { ⌜ nd ≡ length (modelOf (now m) .drivers) ⌝ }
     ensures { λ r. ⌜ SetOf (activeIn (modelOf (now (m .entry))) (now (due .entry)) time nd) r ⌝ }
@@ -43,7 +46,7 @@ fn actives<'a>(m: &'a [u8], index: &'a [u16; 1376], due: &'a [u64; 64], nd: usiz
 }
 
 // Each active signal becomes the resolution of its drivers' current values. The result is the set of those that changed.
-fn resolve<'a>(
+pub fn resolve<'a>(
     m: &'a [u8],
     index: &'a [u16; 1376],
     currents: &'a [u32; 64],
@@ -181,7 +184,7 @@ fn after_delta<'a>(
 }
 
 // The np processes after a delta step.
-fn wake<'a>(
+pub fn wake<'a>(
     m: &'a [u8],
     index: &'a [u16; 1376],
     variables: &'a [u32; 64],
@@ -213,71 +216,4 @@ fn wake<'a>(
         p += 1;
     }
     ps
-}
-
-impl Config {
-    // Each due transaction becomes its driver's current value and leaves; then the signals, then the processes.
-    pub fn delta_step<'a>(mut self, m: &'a [u8], index: &'a [u16; 1376]) -> Answered
-        requires { ⌜ Runs (now m) (now index) ⌝ }
-        requires { ⌜ Fine (modelOf (now m)) self ⌝ }
-        requires { ⌜ self .deltas < 1000 ⌝ }
-        ensures { λ r. ⌜ Answers (modelOf (now (m .entry))) r (advanceDone 1 (deltaStep (modelOf (now (m .entry))) (viewOf self))) ⌝ }
-    {
-        let ns = self.ns;
-        let nd = self.nd;
-        let np = self.np;
-        let time = self.time;
-        let active = actives(m, index, &self.due, nd, time);
-        let mut k = 0;
-        while k < nd {
-            if self.due[k] == time {
-                let d = self.drivers[k];
-                let e = d.without_first();
-                self.currents[k] = d.values[0];
-                self.due[k] = e.first_time();
-                self.drivers[k] = e;
-                k += 1;
-                continue;
-            }
-            k += 1;
-        }
-        let currents = self.currents;
-        let changed = resolve(m, index, &currents, nd, active, &mut self.signals, ns);
-        let places = self.places;
-        let standings = self.standings;
-        let deadlines = self.deadlines;
-        let faults = self.faults;
-        let ps = Processes {
-            places,
-            standings,
-            deadlines,
-            faults,
-        };
-        let r = wake(
-            m,
-            index,
-            &self.variables,
-            &self.signals,
-            changed,
-            time,
-            np,
-            ps,
-        );
-        let woken_places = r.places;
-        let woken_standings = r.standings;
-        let woken_deadlines = r.deadlines;
-        let woken_faults = r.faults;
-        self.places = woken_places;
-        self.standings = woken_standings;
-        self.deadlines = woken_deadlines;
-        self.faults = woken_faults;
-        self.deltas = self.deltas + 1;
-        Answered {
-            refusal: 0,
-            byte: 1,
-            picks: 0,
-            value: 0,
-            config: self,
-        }
-    }
 }
