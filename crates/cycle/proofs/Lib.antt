@@ -21,7 +21,7 @@ pub mod DueTimes
 pub mod Invariant
 pub mod Plays
 pub mod Picks
-pub mod SettledIn
+pub mod Settling
 pub mod Changes
 pub mod Turning
 pub mod OrderLaws

@@ -1,4 +1,4 @@
--- What each return of pick, settle and read has to show. Assumes nothing.
+-- What each return of pick and read has to show. Assumes nothing.
 use mathlib.Core.Path.{_≡_, refl, ap, _∙_}
 use mathlib.Core.Bool.{true, false}
 use Prim.Native.Nat.{ℕ, _+_, _*_, _≤_, _<_}
@@ -14,12 +14,10 @@ use Rattle.model.specs.Facts.{Facts}
 use Rattle.cycle.specs.Configuration.{Configuration}
 use Rattle.cycle.specs.Statements.{stepped}
 use Rattle.cycle.specs.Orders.{Outcome, refused, isReady, pickDone, picked, lowestReady, settledFrom, settled, readOf}
-use Rattle.cycle.specs.Turns.{turnsDone, turnsOf}
-use Rattle.cycle.specs.View.{viewOf, Fine, outcomeOf, Answers, AnswersEach}
+use Rattle.cycle.specs.View.{viewOf, Fine, StepsTo, outcomeOf, Answers, AnswersEach}
 use Rattle.cycle.specs.declared.config.Config.{Config}
 use Rattle.cycle.specs.declared.turns.Answered.{Answered}
 use Rattle.cycle.proofs.ViewLaws.{past-in, standing-in, fault-in, ns-is, np-is}
-use Rattle.cycle.proofs.SettledIn.{settled-whole, settled-one}
 
 pub refused-each : (c : Config) (n : ℕ) → AnswersEach c (record { refusal = n; byte = 0; picks = 0; value = 0; config = c }) (λ M. refused n (viewOf c))
 unfolding outcomeOf
@@ -43,20 +41,6 @@ pub few-processes : (M : Model) → Facts M → (c : Config) → Fine M c → c 
 few-processes M fs c f = omega (arith, np-is M c (f .reachable), fs .totals .processes)
 
 module _ (M : Model) (c : Config) (f : Fine M c) where
-  some-ready : (e : Configuration) → anyBelow (λ p. isReady p e) (length (M .processes)) ≡ ltb (lowestReady M e) (length (M .processes))
-  unfolding lowestReady
-  some-ready e = any-first (λ p. isReady p e) (length (M .processes))
-
-  -- a settle is the turns of all processes
-  whole : (n : ℕ) → turnsOf M 0 (c .np) n (viewOf c) ≡ settled M n (viewOf c)
-  unfolding turnsOf settled
-  whole n =
-      ap (λ (k : ℕ). turnsOf M 0 k n (viewOf c)) (np-is M c (f .reachable))
-      ∙ rw (settled-whole M n 0 (viewOf c), some-ready (settledFrom M 0 n (viewOf c) .end))
-
-  pub settle-done : (n : ℕ) (r : Answered) → Answers M r (turnsOf M 0 (c .np) n (viewOf c)) → Answers M r (settled M n (viewOf c))
-  settle-done n r a = rw (whole n) at a
-
   module _ (p : ℕ) where
     out : c .np ≤ p → refused 12 (viewOf c) ≡ picked M p (viewOf c)
     unfolding picked
@@ -85,18 +69,10 @@ module _ (M : Model) (c : Config) (f : Fine M c) where
         unfolding picked
         done = rw (there, is-ready)
 
-        turns-are : turnsOf M p (p + 1) 1 (viewOf c) ≡ turnsDone (p + 1) (record { picks = 1; end = stepped M p (viewOf c) })
-        unfolding turnsOf
-        turns-are = rw (settled-one M p (viewOf c) is-ready)
-
-        -- one pick was made of p, and the answer has p's new standing and fault
-        pub pick-done : (r : Answered) → Answers M r (turnsOf M p (p + 1) 1 (viewOf c))
-            → Answers M (record { refusal = r .refusal; byte = getD (r .config .standings) p 0; picks = r .picks; value = getD (r .config .faults) p 0; config = r .config }) (picked M p (viewOf c))
+        -- the answer has p's new standing and fault
+        pub pick-done : (r : Config) → StepsTo M p c r
+            → Answers M (record { refusal = 0; byte = getD (r .standings) p 0; picks = 1; value = getD (r .faults) p 0; config = r }) (picked M p (viewOf c))
         unfolding outcomeOf
-        pick-done r a =
-            let o = a .is ∙ turns-are in
-            let e : viewOf (r .config) ≡ stepped M p (viewOf c) = ap (λ (x : Outcome). x .after) o in
-            let u : r .refusal ≡ 0 = ap (λ (x : Outcome). x .refusal) o in
-            let n : r .picks ≡ 1 = ap (λ (x : Outcome). x .picks) o in
-            let l : p < r .config .np = omega (arith, np-is M (r .config) (a .fine .reachable), np-is M c (f .reachable)) in
-            record { is = rw (u, n, ← standing-in (r .config) p l, ← fault-in (r .config) p l, e) done; fine = a .fine }
+        pick-done r d =
+            let l : p < r .np = omega (arith, np-is M r (d .fine .reachable), np-is M c (f .reachable)) in
+            record { is = rw (← standing-in r p l, ← fault-in r p l, d .is) done; fine = d .fine }

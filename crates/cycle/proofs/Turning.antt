@@ -1,4 +1,4 @@
--- The loop behind pick and settle: what it keeps true, turn by turn. Assumes nothing.
+-- One pick, as pick and settle make it of the struct, and what the loop of settle keeps true. Assumes nothing.
 use mathlib.Core.Path.{_≡_, refl, sym, ap, _∙_}
 use mathlib.Core.Bool.{Bool, true, false, _&&_}
 use mathlib.Core.Logic.{⊎-elim}
@@ -14,16 +14,16 @@ use borrow.Author.Tests.{lt-ltb, le-ltb, eq-eqb, ne-eqb, ltb-true, ltb-false}
 use Rattle.base.specs.Below.{anyBelow}
 use Rattle.base.specs.Cases.{pick}
 use Rattle.base.proofs.Below.{split, and-left, and-right, any-same}
+use Rattle.base.proofs.Course.{any-first}
 use Rattle.model.specs.Records.{Model, processAt, statementAt}
 use Rattle.model.specs.Fields.{endOf, ownerOf}
 use Rattle.model.specs.Facts.{Spans, Facts}
 use Rattle.model.specs.declared.records.ProcessRecord.{ProcessRecord}
 use Rattle.cycle.specs.Configuration.{driverIn}
 use Rattle.cycle.specs.Statements.{nextPlace, applied, effectBy, effectOf, stepped}
-use Rattle.cycle.specs.Orders.{isReady}
-use Rattle.cycle.specs.Turns.{settledIn, turnsOf}
+use Rattle.cycle.specs.Orders.{isReady, lowestReady, settledFrom, settled}
 use Rattle.cycle.specs.Invariant.{lastTime, DriverFine, EffectFits, StoreFits, ScheduleFits, Reachable}
-use Rattle.cycle.specs.View.{never, pendingOf, firstTime, noDriver, viewOf, arrays, Fine, outcomeOf, Answers}
+use Rattle.cycle.specs.View.{never, pendingOf, firstTime, noDriver, viewOf, arrays, Fine, StepsTo, outcomeOf, Answers}
 use Rattle.cycle.specs.Waveform.{Waveform, ScheduledTo}
 use Rattle.cycle.specs.declared.config.Config.{Config}
 use Rattle.cycle.specs.declared.driver.Scheduled.{Scheduled}
@@ -36,7 +36,7 @@ use Rattle.cycle.proofs.Picks.{standing-stays}
 use Rattle.cycle.proofs.StepReachable.{stepped-reachable}
 use Rattle.cycle.proofs.Waves.{rising-from}
 use Rattle.cycle.proofs.ViewLaws.{pending-in, place-in, standing-in, deadline-in, nd-is, np-is}
-use Rattle.cycle.proofs.SettledIn.{Passed, in-over, in-none, in-turn}
+use Rattle.cycle.proofs.Settling.{Passed, settle-over, settle-none, settle-turn}
 use Rattle.cycle.proofs.Changes.{Sized, movedTo, scheduledTo, waitsUntil, stopsBy, moved-sized, scheduled-sized, waits-sized, stops-sized, skip-view, store-view, jump-view, wait-view, wait-for-view, stop-view, schedule-view, full-view}
 
 -- the place after i, r being the record of process p
@@ -73,125 +73,51 @@ module _ (M : Model) (fs : Facts M) (c : Config) (f : Fine M c) (p : ℕ) (h : p
       rw (fs .process p process-there .owner place spans, place-in c p h)
       (effect-viewed M fs c (f .reachable) p (statementAt M place) (own-statement M fs p process-there place spans))
 
--- the test of the loop
-pub goes-on : (n count p end : ℕ) → (ltb n count && ltb p end) ≡ true → (n < count) × (p < end)
-goes-on n count p end h = (ltb-true n count (and-left (ltb n count) (ltb p end) h), ltb-true p end (and-right (ltb n count) (ltb p end) h))
-
--- What the loop keeps true: n picks of at most count are made, none of the processes before p is ready, and what is left to play
--- from the struct c ends as the whole does from c₀.
-pub record Turning (M : Model) (from end count now : ℕ) (c₀ : Config) (p n : ℕ) (c : Config) : Type 0 where
-  pub few : n ≤ count
-  pub low : from ≤ p
-  pub high : p ≤ end
-  pub within : end ≤ c .np
-  pub most : end ≤ 16
+-- One pick at the time `now`: process p of the struct is ready, and e is what its statement does.
+pub record Turn (M : Model) (now : ℕ) (p : ℕ) (c : Config) (e : Effect) : Type 0 where
+  pub facts : Facts M
   pub clock : c .time ≡ now
-  pub early : now ≤ lastTime
   pub sized : Sized c
   pub fine : Fine M c
-  pub passed : Passed from p (viewOf c)
-  pub same : settledIn M from end n (count - n) (viewOf c) ≡ settledIn M from end 0 count (viewOf c₀)
+  pub here : p < c .np
+  pub idle : getD (c .standings) p 0 ≡ 0
+  pub does : e ≡ effectBy M (arrays (c .variables) (c .signals)) (ownerOf M (getD (c .places) p 0)) (statementAt M (getD (c .places) p 0))
+
+-- the struct c' is c after a pick of p, with arrays of their lengths
+pub record Stepped (M : Model) (p : ℕ) (c c' : Config) : Type 0 where
+  pub to : StepsTo M p c c'
+  pub time : c' .time ≡ c .time
+  pub np : c' .np ≡ c .np
+  pub sized : Sized c'
 
 early-time : (M : Model) (c : Config) → Reachable M (viewOf c) → c .time ≤ lastTime
 unfolding viewOf
 early-time M c r = r .time
 
-pub turning-none : (M : Model) → Facts M → (from end count : ℕ) (c : Config) → from ≤ end → end ≤ c .np → Sized c → Fine M c → Turning M from end count (c .time) c from 0 c
-turning-none M fs from end count c l h s f =
-    record {
-      few = omega arith;
-      low = omega arith;
-      high = l;
-      within = h;
-      most = omega (arith, np-is M c (f .reachable), fs .totals .processes);
-      clock = refl;
-      early = early-time M c (f .reachable);
-      sized = s;
-      fine = f;
-      passed = λ j a b. absurd (omega arith);
-      same = ap (λ (k : ℕ). settledIn M from end 0 k (viewOf c)) (omega arith);
-    }
-
-not-ready : (c : Config) (p : ℕ) → p < c .np → (getD (c .standings) p 0 ≡ 0 → ⊥) → isReady p (viewOf c) ≡ false
-unfolding isReady
-not-ready c p h r = ne-eqb _ 0 (λ e. r (sym (standing-in c p h) ∙ e))
-
-and-rest : (a b : Bool) → a ≡ true → (a && b) ≡ false → b ≡ false
-and-rest a b h g = rw h at g
-
-module _ {M : Model} {from end count now : ℕ} {c₀ : Config} {p n : ℕ} {c : Config} (t : Turning M from end count now c₀ p n c) where
-  -- a process that is not ready is passed
-  pub turning-past : p < end → (getD (c .standings) p 0 ≡ 0 → ⊥) → Turning M from end count now c₀ (p + 1) n c
-  turning-past h r =
-      record {
-        few = t .few;
-        low = omega (arith, t .low);
-        high = omega arith;
-        within = t .within;
-        most = t .most;
-        clock = t .clock;
-        early = t .early;
-        sized = t .sized;
-        fine = t .fine;
-        passed = past;
-        same = t .same;
-      }
-    where
-      past : Passed from (p + 1) (viewOf c)
-      past j a b =
-          ⊎-elim (λ (e : j ≡ p). rw e (not-ready c p (omega (arith, t .within)) r)) (λ (l : j < p). t .passed j a l) (eq-or-lt-of-le (omega arith))
-
-  -- the loop is over: no more picks may be made, or no process is left
-  module _ (o : (ltb n count && ltb p end) ≡ false) where
-    rest : settledIn M from end 0 count (viewOf c₀) ≡ record { picks = n; end = viewOf c }
-    rest =
-        sym (t .same)
-        ∙ ⊎-elim
-        (λ (h : n < count).
-        let g = and-rest (ltb n count) (ltb p end) (lt-ltb n count h) o in
-        in-none M from end n (viewOf c) (count - n) (λ j a b. t .passed j a (omega (arith, ltb-false p end g))))
-        (λ (h : count ≤ n). in-over M from end n (viewOf c) (count - n) (omega arith))
-        (split n count)
-
-    still : anyBelow (λ p. isReady p (viewOf c)) end ≡ anyBelow (λ p. eqb (getD (c .standings) p 0) 0) end
-    unfolding isReady
-    still = any-same _ _ end (λ j l. rw (standing-in c j (omega (arith, t .within))))
-
-    pub turns-end : (more : Bool) (byte : ℕ) → more ≡ anyBelow (λ p. eqb (getD (c .standings) p 0) 0) end → byte ≡ pick more 1 0
-        → Answers M (record { refusal = 0; byte = byte; picks = n; value = 0; config = c }) (turnsOf M from end count (viewOf c₀))
-    unfolding outcomeOf turnsOf
-    turns-end more byte a b = record { is = rw (rest, still, ← a) (rw b); fine = t .fine }
-
--- One turn: the process p is ready, and e is what its statement does.
-pub record Turn (M : Model) (from end count now : ℕ) (c₀ : Config) (p n : ℕ) (c : Config) (e : Effect) : Type 0 where
-  pub facts : Facts M
-  pub turning : Turning M from end count now c₀ p n c
-  pub made : n < count
-  pub here : p < end
-  pub idle : getD (c .standings) p 0 ≡ 0
-  pub does : e ≡ effectBy M (arrays (c .variables) (c .signals)) (ownerOf M (getD (c .places) p 0)) (statementAt M (getD (c .places) p 0))
-
-module _ {M : Model} {from end count now : ℕ} {c₀ : Config} {p n : ℕ} {c : Config} {e : Effect} (t : Turn M from end count now c₀ p n c e) where
+module _ {M : Model} {now p : ℕ} {c : Config} {e : Effect} (t : Turn M now p c e) where
   abbrev fs : Facts M
   fs = t .facts
 
   abbrev f : Fine M c
-  f = t .turning .fine
+  f = t .fine
 
   abbrev s : Sized c
-  s = t .turning .sized
+  s = t .sized
 
-  in-np : p < c .np
-  in-np = omega (arith, t .here, t .turning .within)
+  abbrev in-np : p < c .np
+  in-np = t .here
 
   pub in-16 : p < 16
-  in-16 = omega (arith, t .here, t .turning .most)
+  in-16 = omega (arith, t .here, np-is M c (f .reachable), fs .totals .processes)
 
   pub process-in-model : p < length (M .processes)
   process-in-model = process-there M fs c f p in-np
 
   pub place-spans : Spans M p (getD (c .places) p 0)
   place-spans = spans M fs c f p in-np
+
+  pub early : now ≤ lastTime
+  early = rw (← t .clock) (early-time M c (f .reachable))
 
   -- what the effect names is there
   fits : EffectFits M p (statementAt M (getD (c .places) p 0) .kind) e
@@ -203,8 +129,8 @@ module _ {M : Model} {from end count now : ℕ} {c₀ : Config} {p n : ℕ} {c :
   pub wait-small : (d : ℕ) → e ≡ WaitFor d → d < 2147483648
   wait-small d x = let g : EffectFits M p (statementAt M (getD (c .places) p 0) .kind) (WaitFor d) = rw x at fits in g .1
 
-  -- the turn is made
-  is-ready : isReady p (viewOf c) ≡ true
+  -- the pick is made
+  pub is-ready : isReady p (viewOf c) ≡ true
   unfolding isReady
   is-ready = eq-eqb _ 0 (standing-in c p in-np ∙ t .idle)
 
@@ -213,32 +139,24 @@ module _ {M : Model} {from end count now : ℕ} {c₀ : Config} {p n : ℕ} {c :
   step-is = rw (t .does, effect-is M fs c f p in-np)
 
   abbrev Next : Config → Type 0
-  Next c' = Turning M from end count now c₀ p (n + 1) c'
+  Next c' = Stepped M p c c'
 
   turned : (c' : Config) → viewOf c' ≡ applied M p e (viewOf c) → c' .time ≡ c .time → c' .np ≡ c .np → Sized c'
       → ((k : ℕ) → k < c' .nd → getD (c' .due) k 0 ≡ firstTime (pendingOf (getD (c' .drivers) k noDriver)))
       → Next c'
   turned c' v ct cn sized due =
       record {
-        few = omega (arith, t .made);
-        low = t .turning .low;
-        high = t .turning .high;
-        within = omega (arith, t .turning .within);
-        most = t .turning .most;
-        clock = ct ∙ t .turning .clock;
-        early = t .turning .early;
+        to =
+            record {
+              is = v ∙ step-is;
+              fine = record { reachable = rw (v, step-is) (stepped-reachable M fs (viewOf c) (f .reachable) p process-in-model is-ready); due = due };
+            };
+        time = ct;
+        np = cn;
         sized = sized;
-        fine = record { reachable = rw (v, step-is) (stepped-reachable M fs (viewOf c) (f .reachable) p process-in-model is-ready); due = due };
-        passed = λ j a b. rw (v, step-is, standing-stays M p j (viewOf c) (λ q. omega arith)) (t .turning .passed j a b);
-        same = rw (v, step-is) (sym picked ∙ t .turning .same);
       }
-    where
-      picked : settledIn M from end n (count - n) (viewOf c) ≡ settledIn M from end (n + 1) (count - (n + 1)) (stepped M p (viewOf c))
-      picked =
-          let q : count - n ≡ suc (count - (n + 1)) = omega (arith, t .made) in
-          rw (q, add-one n) (in-turn M from end n (viewOf c) (count - suc n) p (t .turning .low) (t .here) (t .turning .passed) is-ready)
 
-  -- one law for each arm of the loop
+  -- one law for each arm
   abbrev following : ℕ
   following = nextPlace M p (getD (c .places) p 0)
 
@@ -263,8 +181,8 @@ module _ {M : Model} {from end count now : ℕ} {c₀ : Config} {p n : ℕ} {c :
 
   pub wait-for-turn : (d : ℕ) → e ≡ WaitFor d → (u : ℕ) → u ≡ now + d → Next (waitsUntil c p (set (c .deadlines) p u))
   wait-for-turn d x u g =
-      let o : u ≡ never → ⊥ = λ q. omega (arith, t .turning .early, wait-small d x) in
-      let k : u ≡ c .time + d = rw (t .turning .clock) g in
+      let o : u ≡ never → ⊥ = λ q. omega (arith, early, wait-small d x) in
+      let k : u ≡ c .time + d = rw (t .clock) g in
       turned (waitsUntil c p (set (c .deadlines) p u)) (rw x (wait-for-view M c p in-np s in-16 d u k (rw (ne-eqb u never o)))) refl refl
       (waits-sized c p s (set (c .deadlines) p u) (length-set (c .deadlines) p u)) (f .due)
 
@@ -295,7 +213,7 @@ module _ {M : Model} {from end count now : ℕ} {c₀ : Config} {p n : ℕ} {c :
 
     module _ (r : Scheduled) (to : ScheduledTo (getD (c .drivers) k noDriver) (now + d) v r) where
       to-time : ScheduledTo (getD (c .drivers) k noDriver) (c .time + d) v r
-      to-time = rw (t .turning .clock) to
+      to-time = rw (t .clock) to
 
       pub full-turn : r .full ≡ true → Next (stopsBy c p 3)
       full-turn g = turned (stopsBy c p 3) (rw x (full-view M c p in-np s in-16 k d v in-nd in-drivers r to-time g)) refl refl (stops-sized c p s 3) (f .due)
@@ -313,3 +231,108 @@ module _ {M : Model} {from end count now : ℕ} {c₀ : Config} {p n : ℕ} {c :
                 rw (q, getD-set-same (c .due) k u 0 m, getD-set-same (c .drivers) k (r .driver) noDriver o) a
             | no q ↦ rw (getD-set-other (c .due) k j u 0 q, getD-set-other (c .drivers) k j (r .driver) noDriver q) (f .due j l)
           ]
+
+-- the test of the loop
+pub goes-on : (n count p end : ℕ) → (ltb n count && ltb p end) ≡ true → (n < count) × (p < end)
+goes-on n count p end h = (ltb-true n count (and-left (ltb n count) (ltb p end) h), ltb-true p end (and-right (ltb n count) (ltb p end) h))
+
+-- What the loop of settle keeps true: n picks of at most count are made, none of the processes before p is ready, and what is left
+-- to play from the struct c ends as the whole does from c₀.
+pub record Turning (M : Model) (count now end : ℕ) (c₀ : Config) (p n : ℕ) (c : Config) : Type 0 where
+  pub few : n ≤ count
+  pub high : p ≤ end
+  pub whole : c .np ≡ end
+  pub most : end ≤ 16
+  pub clock : c .time ≡ now
+  pub sized : Sized c
+  pub fine : Fine M c
+  pub passed : Passed p (viewOf c)
+  pub same : settledFrom M n (count - n) (viewOf c) ≡ settledFrom M 0 count (viewOf c₀)
+
+pub turning-none : (M : Model) → Facts M → (count : ℕ) (c : Config) → Sized c → Fine M c → Turning M count (c .time) (c .np) c 0 0 c
+turning-none M fs count c s f =
+    record {
+      few = omega arith;
+      high = omega arith;
+      whole = refl;
+      most = omega (arith, np-is M c (f .reachable), fs .totals .processes);
+      clock = refl;
+      sized = s;
+      fine = f;
+      passed = λ j b. absurd (omega arith);
+      same = ap (λ (k : ℕ). settledFrom M 0 k (viewOf c)) (omega arith);
+    }
+
+not-ready : (c : Config) (p : ℕ) → p < c .np → (getD (c .standings) p 0 ≡ 0 → ⊥) → isReady p (viewOf c) ≡ false
+unfolding isReady
+not-ready c p h r = ne-eqb _ 0 (λ e. r (sym (standing-in c p h) ∙ e))
+
+and-rest : (a b : Bool) → a ≡ true → (a && b) ≡ false → b ≡ false
+and-rest a b h g = rw h at g
+
+module _ {M : Model} {count now end : ℕ} {c₀ : Config} {p n : ℕ} {c : Config} (t : Turning M count now end c₀ p n c) where
+  -- a process that is not ready is passed
+  pub turning-past : p < end → (getD (c .standings) p 0 ≡ 0 → ⊥) → Turning M count now end c₀ (p + 1) n c
+  turning-past h r =
+      record {
+        few = t .few;
+        high = omega arith;
+        whole = t .whole;
+        most = t .most;
+        clock = t .clock;
+        sized = t .sized;
+        fine = t .fine;
+        passed = past;
+        same = t .same;
+      }
+    where
+      past : Passed (p + 1) (viewOf c)
+      past j b =
+          ⊎-elim (λ (e : j ≡ p). rw e (not-ready c p (omega (arith, t .whole)) r)) (λ (l : j < p). t .passed j l) (eq-or-lt-of-le (omega arith))
+
+  -- a ready process is picked
+  pub turning-next : n < count → p < end → isReady p (viewOf c) ≡ true → (c' : Config) → Stepped M p c c' → Turning M count now end c₀ p (n + 1) c'
+  turning-next made h ready c' d =
+      record {
+        few = omega arith;
+        high = t .high;
+        whole = d .np ∙ t .whole;
+        most = t .most;
+        clock = d .time ∙ t .clock;
+        sized = d .sized;
+        fine = d .to .fine;
+        passed = λ j b. rw (d .to .is, standing-stays M p j (viewOf c) (λ q. omega arith)) (t .passed j b);
+        same = rw (d .to .is) (sym picked ∙ t .same);
+      }
+    where
+      picked : settledFrom M n (count - n) (viewOf c) ≡ settledFrom M (n + 1) (count - (n + 1)) (stepped M p (viewOf c))
+      picked =
+          let q : count - n ≡ suc (count - (n + 1)) = omega arith in
+          let l : p < length (M .processes) = omega (arith, t .whole, np-is M c (t .fine .reachable)) in
+          rw (q, add-one n) (settle-turn M (viewOf c) n (count - suc n) p l (t .passed) ready)
+
+  -- the loop is over: no more picks may be made, or no process is left
+  module _ (o : (ltb n count && ltb p end) ≡ false) where
+    total : end ≡ length (M .processes)
+    total = sym (t .whole) ∙ np-is M c (t .fine .reachable)
+
+    rest : settledFrom M 0 count (viewOf c₀) ≡ record { picks = n; end = viewOf c }
+    rest =
+        sym (t .same)
+        ∙ ⊎-elim
+        (λ (h : n < count).
+        let g = and-rest (ltb n count) (ltb p end) (lt-ltb n count h) o in
+        settle-none M (viewOf c) n (count - n) (λ j b. t .passed j (omega (arith, ltb-false p end g, total))))
+        (λ (h : count ≤ n). settle-over M (viewOf c) n (count - n) (omega arith))
+        (split n count)
+
+    still : anyBelow (λ p. eqb (getD (c .standings) p 0) 0) end ≡ ltb (lowestReady M (viewOf c)) (length (M .processes))
+    unfolding isReady lowestReady
+    still =
+        any-same (λ p. eqb (getD (c .standings) p 0) 0) (λ p. isReady p (viewOf c)) end (λ j l. rw (standing-in c j (omega (arith, t .whole))))
+        ∙ rw total (any-first (λ p. isReady p (viewOf c)) (length (M .processes)))
+
+    pub settle-end : (more : Bool) (byte : ℕ) → more ≡ anyBelow (λ p. eqb (getD (c .standings) p 0) 0) end → byte ≡ pick more 1 0
+        → Answers M (record { refusal = 0; byte = byte; picks = n; value = 0; config = c }) (settled M count (viewOf c₀))
+    unfolding outcomeOf settled
+    settle-end more byte a b = record { is = rw (rest, ← still, ← a) (rw b); fine = t .fine }

@@ -6,7 +6,6 @@ pub mod Orders
 pub mod Invariant
 pub mod View
 pub mod Waveform
-pub mod Turns
 pub mod Arrays
 pub mod Delta
 pub mod Shift

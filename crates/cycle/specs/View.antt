@@ -12,6 +12,7 @@ use Rattle.model.specs.Facts.{Facts}
 use Rattle.model.specs.Index.{Usable}
 use Rattle.cycle.specs.Configuration.{Transaction, DriverState, ProcessState, Configuration}
 use Rattle.cycle.specs.Evaluation.{Environment}
+use Rattle.cycle.specs.Statements.{stepped}
 use Rattle.cycle.specs.Orders.{Outcome}
 use Rattle.cycle.specs.Invariant.{Reachable}
 use Rattle.cycle.specs.declared.driver.Driver.{Driver}
@@ -79,6 +80,11 @@ pub record Runs (m index : List ℕ) : Type 0 where
 pub record Fine (M : Model) (c : Config) : Type 0 where
   pub reachable : Reachable M (viewOf c)
   pub due : (k : ℕ) → k < c .nd → getD (c .due) k 0 ≡ firstTime (pendingOf (getD (c .drivers) k noDriver))
+
+-- the struct r holds the configuration after a pick of process p
+pub record StepsTo (M : Model) (p : ℕ) (c r : Config) : Type 0 where
+  pub is : viewOf r ≡ stepped M p (viewOf c)
+  pub fine : Fine M r
 
 unfoldable pub outcomeOf : Answered → Outcome
 outcomeOf r = record { refusal = r .refusal; byte = r .byte; picks = r .picks; value = r .value; after = viewOf (r .config) }

@@ -33,21 +33,14 @@ impl Config {
         if standing != 0 {
             return self.refused(13);
         }
-        let mut r = self.turns(m, index, p, p + 1, 1);
-        let c = r.config;
-        r.byte = c.standings[p];
-        r.value = c.faults[p];
-        r
-    }
-
-    // Picks of the lowest ready process until none is ready or count picks are made.
-    pub fn settle<'a>(self, m: &'a [u8], index: &'a [u16; 1376], count: usize) -> Answered
-        requires { ⌜ Runs (now m) (now index) ⌝ }
-        requires { ⌜ Fine (modelOf (now m)) self ⌝ }
-        ensures { λ r. ⌜ Answers (modelOf (now (m .entry))) r (settled (modelOf (now (m .entry))) count (viewOf self)) ⌝ }
-    {
-        let np = self.np;
-        self.turns(m, index, 0, np, count)
+        let c = self.step(m, index, p);
+        Answered {
+            refusal: 0,
+            byte: c.standings[p],
+            picks: 1,
+            value: c.faults[p],
+            config: c,
+        }
     }
 
     // The current value of signal s.

@@ -1,13 +1,13 @@
-// Picks in place: one loop serves the pick of a process and a settle.
+// Settle: picks in place, one statement after the other.
 ghost use mathlib.Core.Path.{_≡_};
-ghost use Prim.Native.Nat.{_≤_, _<_};
+ghost use Prim.Native.Nat.{_<_};
 ghost use lib.ListN.{length};
 ghost use Rattle.base.specs.Cases.{pick};
 ghost use Rattle.model.specs.Records.{modelOf};
 ghost use Rattle.model.specs.Facts.{Spans};
 ghost use Rattle.cycle.specs.Statements.{nextPlace};
 ghost use Rattle.cycle.specs.View.{viewOf, Runs, Fine, Answers};
-ghost use Rattle.cycle.specs.Turns.{turnsOf};
+ghost use Rattle.cycle.specs.Orders.{settled};
 use crate::config::Config;
 use crate::due::any_standing;
 use crate::effect::Effect;
@@ -44,23 +44,15 @@ fn bit(b: bool) -> usize
 }
 
 impl Config {
-    // At most count picks, each of the lowest ready process of those from `from` on and below `end`.
-    pub fn turns<'a>(
-        mut self,
-        m: &'a [u8],
-        index: &'a [u16; 1376],
-        from: usize,
-        end: usize,
-        count: usize,
-    ) -> Answered
+    // Picks of the lowest ready process until none is ready or count picks are made.
+    pub fn settle<'a>(mut self, m: &'a [u8], index: &'a [u16; 1376], count: usize) -> Answered
         requires { ⌜ Runs (now m) (now index) ⌝ }
         requires { ⌜ Fine (modelOf (now m)) self ⌝ }
-        requires { ⌜ from ≤ end ⌝ }
-        requires { ⌜ end ≤ self .np ⌝ }
-        ensures { λ r. ⌜ Answers (modelOf (now (m .entry))) r (turnsOf (modelOf (now (m .entry))) from end count (viewOf self)) ⌝ }
+        ensures { λ r. ⌜ Answers (modelOf (now (m .entry))) r (settled (modelOf (now (m .entry))) count (viewOf self)) ⌝ }
     {
         let now = self.time;
-        let mut p = from;
+        let end = self.np;
+        let mut p = 0;
         let mut n = 0;
         while (n < count) & (p < end) {
             let standing = self.standings[p];

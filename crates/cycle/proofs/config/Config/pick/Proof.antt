@@ -26,26 +26,25 @@ refused-requires-2 c κs = search needs
 returns-2 : tie.Need-returns-2
 returns-2 c = pick-waiting _ _ (c .before .before .before .before .before .pre .1) _ (c .before .before .before .if1 .left) _ (c .before .if2 .taken) (c .refused2 .ensures)
 
-add-turns : tie.Need-add-turns
-add-turns c = search needs
+step-requires : tie.Need-step-requires
+step-requires c κs =
+    let start = c .before .before .before .before in
+    (start .pre .0, (start .pre .1, (c .before .before .if1 .left, c .if2 .left)))
 
-turns-requires : tie.Need-turns-requires
-turns-requires c κs = (c .before .before .before .before .pre .0, (c .before .before .before .before .pre .1, (omega arith, omega arith)))
+mul-t13 : tie.Need-mul-t13
+mul-t13 c = omega (arith, few (c .before .before .before .before .before))
 
-mul-r : tie.Need-mul-r
-mul-r c = omega (arith, few (c .before .before .before .before .before .before))
+element-copy-out-t8 : tie.Need-element-copy-out-t8
+element-copy-out-t8 c = omega (arith, few (c .before .before .before .before .before))
 
-element-copy-out-r : tie.Need-element-copy-out-r
-element-copy-out-r c = omega (arith, few (c .before .before .before .before .before .before))
+mul-t19 : tie.Need-mul-t19
+mul-t19 c = omega (arith, few (c .before .before .before .before .before .before))
 
-mul-r-2 : tie.Need-mul-r-2
-mul-r-2 c = omega (arith, few (c .before .before .before .before .before .before .before))
-
-element-copy-out-r-2 : tie.Need-element-copy-out-r-2
-element-copy-out-r-2 c = omega (arith, few (c .before .before .before .before .before .before .before))
+element-copy-out-t22 : tie.Need-element-copy-out-t22
+element-copy-out-t22 c = omega (arith, few (c .before .before .before .before .before .before))
 
 returns-3 : tie.Need-returns-3
-returns-3 c = pick-done _ _ (c .before .before .before .before .before .before .before .before .pre .1) _ (c .before .before .before .before .before .before .if1 .left) (c .before .before .before .before .if2 .left) _ (c .before .before .before .turns .ensures)
+returns-3 c = pick-done _ _ (c .before .before .before .before .before .before .before .pre .1) _ (c .before .before .before .before .before .if1 .left) (c .before .before .before .if2 .left) _ (c .before .before .step .ensures)
 
 pub pick-spec : {M : Type 1} → statement M
 pick-spec =
@@ -57,10 +56,9 @@ pick-spec =
     element-copy-out-standing
     refused-requires-2
     returns-2
-    add-turns
-    turns-requires
-    mul-r
-    element-copy-out-r
-    mul-r-2
-    element-copy-out-r-2
+    step-requires
+    mul-t13
+    element-copy-out-t8
+    mul-t19
+    element-copy-out-t22
     returns-3)

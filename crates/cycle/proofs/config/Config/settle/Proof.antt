@@ -1,13 +1,383 @@
-use Rattle.cycle.proofs.OrderLaws.{settle-done}
+-- `cycle::config::Config::settle` meets its contract: the loop keeps `Turning`, and each arm makes a `Turn`. The measure is what is
+-- left of the picks and of the processes.
+use mathlib.Core.Path.{refl}
+use Prim.Native.Nat.{_+_, _-_, _<_}
+use native.Mathlib.Omega.{arith}
+use lib.ListN.{length, getD}
 use borrow.Author.Needs.{needs}
+use Rattle.model.specs.Records.{modelOf}
+use Rattle.model.specs.Facts.{Spans}
+use Rattle.cycle.specs.View.{Runs}
+use Rattle.cycle.specs.declared.config.Config.{Config}
+use Rattle.cycle.proofs.Lists.{length-mapped}
+use Rattle.cycle.proofs.Changes.{Sized}
+use Rattle.cycle.proofs.Turning.{Turning, Turn, Stepped, statement-there, is-ready, turning-next, goes-on, turning-none, turning-past, settle-end, early, in-16, process-in-model, place-spans, in-variables, wait-small, skip-turn, store-turn, jump-turn, wait-turn, wait-for-turn, stop-turn, in-drivers, delay-small, waveform, full-turn, schedule-turn}
 use Rattle.cycle.proofs.config.Config.settle.Statement.{statement}
 use Rattle.cycle.proofs.config.Config.settle.Tie as tie
 
-turns-requires : tie.Need-turns-requires
-turns-requires c κs = search needs
+abbrev Inv-loop : tie.InvT-loop
+Inv-loop m index count self₀ now end p₀ n₀ self p n = Turning (modelOf m) count now end self₀ p n self
 
-returns : tie.Need-returns
-returns c = settle-done _ _ (c .before .before .pre .1) _ _ (c .turns .ensures)
+abbrev μ-loop : tie.MeasureT-loop
+μ-loop m index count self₀ now end p₀ n₀ self p n = (count - n) + (end - p)
+
+-- what holds where the loop goes on
+module _ (c : tie.In-loop Inv-loop μ-loop) where
+  abbrev start : tie.Start Inv-loop μ-loop
+  start = c .before .before .before
+
+  ahead : (c .before .loop .n < start .args .count) × (c .before .loop .p < start .args .t1 .np)
+  ahead = goes-on _ _ _ _ (c .loop-test .taken)
+
+-- what holds in every arm: after the call of `does`
+module _ (c : tie.After-does Inv-loop μ-loop) where
+  abbrev test : tie.In-loop Inv-loop μ-loop
+  test = c .before .before .before .before .before .before .before
+
+  abbrev at : tie.At-loop Inv-loop μ-loop
+  at = test .before
+
+  abbrev args : tie.Start Inv-loop μ-loop
+  args = at .before .before
+
+  turn : Turn (modelOf (args .args .m .now)) (args .args .t1 .time) (at .loop .p) (at .loop .self) (c .does .result)
+  turn =
+      record {
+        facts = args .pre .0 .facts;
+        clock = at .loop .inv .clock;
+        sized = at .loop .inv .sized;
+        fine = at .loop .inv .fine;
+        here = omega (arith, ahead test .1, at .loop .inv .whole);
+        idle = c .before .before .before .before .before .if1 .left;
+        does = c .does .ensures;
+      }
+
+  -- the pick is made: the loop goes on with the struct that an arm left
+  next : (r : Config) → Stepped (modelOf (args .args .m .now)) (at .loop .p) (at .loop .self) r
+      → Turning (modelOf (args .args .m .now)) (args .args .count) (args .args .t1 .time) (args .args .t1 .np) (args .args .t1) (at .loop .p) (at .loop .n + 1) r
+  next r d = turning-next (at .loop .inv) (ahead test .0) (ahead test .1) (is-ready turn) r d
+
+  asked : Runs (args .args .m .now) (args .args .index .now) × ((at .loop .p < length (modelOf (args .args .m .now) .processes)) × Spans (modelOf (args .args .m .now)) (at .loop .p) (getD (at .loop .self .places) (at .loop .p) 0))
+  asked = (args .pre .0, (process-in-model turn, place-spans turn))
+
+  falls : (args .args .count - (at .loop .n + 1)) + (args .args .t1 .np - at .loop .p) < (args .args .count - at .loop .n) + (args .args .t1 .np - at .loop .p)
+  falls = omega (arith, ahead test .0)
+
+sized : (c : tie.Start Inv-loop μ-loop) → Sized (c .args .t1)
+sized c =
+    record {
+      due = search needs;
+      drivers = search (needs, length-mapped);
+      places = search needs;
+      standings = search needs;
+      deadlines = search needs;
+      faults = search needs;
+      variables = search needs;
+    }
+
+loop-holds : tie.Need-loop-holds Inv-loop μ-loop
+loop-holds c = turning-none _ (c .before .pre .0 .facts) _ _ (sized (c .before)) (c .before .pre .1)
+
+mul-standing : tie.Need-mul-standing Inv-loop μ-loop
+mul-standing c = search needs
+
+element-copy-out-standing : tie.Need-element-copy-out-standing Inv-loop μ-loop
+element-copy-out-standing c = omega (arith, ahead c .1)
+
+add-p : tie.Need-add-p Inv-loop μ-loop
+add-p c = search needs
+
+loop-less : tie.Need-loop-less Inv-loop μ-loop
+loop-less c = omega (arith, ahead (c .before .before) .1)
+
+loop-again : tie.Need-loop-again Inv-loop μ-loop
+loop-again c = turning-past (c .before .before .before .loop .inv) (ahead (c .before .before) .1) (c .if1 .taken)
+
+mul-place : tie.Need-mul-place Inv-loop μ-loop
+mul-place c = search needs
+
+element-copy-out-place : tie.Need-element-copy-out-place Inv-loop μ-loop
+element-copy-out-place c = omega (arith, ahead (c .before .before) .1)
+
+add-n : tie.Need-add-n Inv-loop μ-loop
+add-n c = omega (arith, ahead (c .before .before .before) .0)
+
+does-requires : tie.Need-does-requires Inv-loop μ-loop
+does-requires c κs = (c .before .before .before .before .before .before .before .before .before .pre .0, statement-there _ (c .before .before .before .before .before .before .before .before .before .pre .0 .facts) _ (c .before .before .before .before .before .before .before .loop .inv .fine) _ (omega (arith, ahead (c .before .before .before .before .before .before) .1)))
+
+enum-told : tie.Need-enum-told Inv-loop μ-loop
+enum-told c = search needs
+
+next-place-requires : tie.Need-next-place-requires Inv-loop μ-loop
+next-place-requires c κs = asked (c .before .before)
+
+mul-self : tie.Need-mul-self Inv-loop μ-loop
+mul-self c = search needs
+
+element-write-self : tie.Need-element-write-self Inv-loop μ-loop
+element-write-self c = in-16 (turn (c .before .before .before))
+
+loop-less-2 : tie.Need-loop-less-2 Inv-loop μ-loop
+loop-less-2 c = falls (c .before .before .before)
+
+loop-again-2 : tie.Need-loop-again-2 Inv-loop μ-loop
+loop-again-2 c = next (c .before .before .before) _ (skip-turn (turn (c .before .before .before)) (c .before .enum-told .given .1) _ (c .next-place .ensures))
+
+enum-known-a : tie.Need-enum-known-a Inv-loop μ-loop
+enum-known-a c = search needs
+
+mul-self-2 : tie.Need-mul-self-2 Inv-loop μ-loop
+mul-self-2 c = omega (arith, in-variables (turn (c .before .before .before)) _ _ (c .before .a .given .1))
+
+element-write-self-2 : tie.Need-element-write-self-2 Inv-loop μ-loop
+element-write-self-2 c = in-variables (turn (c .before .before .before)) _ _ (c .before .a .given .1)
+
+next-place-requires-2 : tie.Need-next-place-requires-2 Inv-loop μ-loop
+next-place-requires-2 c κs = asked (c .before .before .before)
+
+mul-self-3 : tie.Need-mul-self-3 Inv-loop μ-loop
+mul-self-3 c = search needs
+
+element-write-self-3 : tie.Need-element-write-self-3 Inv-loop μ-loop
+element-write-self-3 c = in-16 (turn (c .before .before .before .before))
+
+loop-less-3 : tie.Need-loop-less-3 Inv-loop μ-loop
+loop-less-3 c = falls (c .before .before .before .before)
+
+loop-again-3 : tie.Need-loop-again-3 Inv-loop μ-loop
+loop-again-3 c = next (c .before .before .before .before) _ (store-turn (turn (c .before .before .before .before)) _ _ (c .before .before .a .given .1) _ (c .next-place2 .ensures))
+
+enum-known-k : tie.Need-enum-known-k Inv-loop μ-loop
+enum-known-k c = search needs
+
+mul-e : tie.Need-mul-e Inv-loop μ-loop
+mul-e c = omega (arith, in-drivers (turn (c .before .before .before)) _ _ _ (c .before .k .given .1))
+
+element-copy-out-e : tie.Need-element-copy-out-e Inv-loop μ-loop
+element-copy-out-e c = in-drivers (turn (c .before .before .before)) _ _ _ (c .before .k .given .1)
+
+cast-schedule : tie.Need-cast-schedule Inv-loop μ-loop
+cast-schedule c = search needs
+
+add-schedule : tie.Need-add-schedule Inv-loop μ-loop
+add-schedule c = omega (arith, early (turn (c .before .before .before .before)), delay-small (turn (c .before .before .before .before)) _ _ _ (c .before .before .k .given .1))
+
+schedule-requires : tie.Need-schedule-requires Inv-loop μ-loop
+schedule-requires c κs = waveform (turn (c .before .before .before .before)) _ _ _ (c .before .before .k .given .1)
+
+mul-self-4 : tie.Need-mul-self-4 Inv-loop μ-loop
+mul-self-4 c = search needs
+
+element-write-self-4 : tie.Need-element-write-self-4 Inv-loop μ-loop
+element-write-self-4 c = in-16 (turn (c .before .before .before .before .before .before))
+
+mul-self-5 : tie.Need-mul-self-5 Inv-loop μ-loop
+mul-self-5 c = search needs
+
+element-write-self-5 : tie.Need-element-write-self-5 Inv-loop μ-loop
+element-write-self-5 c = in-16 (turn (c .before .before .before .before .before .before))
+
+loop-less-4 : tie.Need-loop-less-4 Inv-loop μ-loop
+loop-less-4 c = falls (c .before .before .before .before .before .before)
+
+loop-again-4 : tie.Need-loop-again-4 Inv-loop μ-loop
+loop-again-4 c = next (c .before .before .before .before .before .before) _ (full-turn (turn (c .before .before .before .before .before .before)) _ _ _ (c .before .before .before .before .k .given .1) _ (c .before .schedule .ensures) (c .if2 .taken))
+
+first-time-requires : tie.Need-first-time-requires Inv-loop μ-loop
+first-time-requires c κs = search needs
+
+mul-self-6 : tie.Need-mul-self-6 Inv-loop μ-loop
+mul-self-6 c = omega (arith, in-drivers (turn (c .before .before .before .before .before .before .before .before)) _ _ _ (c .before .before .before .before .before .before .k .given .1))
+
+element-write-self-6 : tie.Need-element-write-self-6 Inv-loop μ-loop
+element-write-self-6 c = in-drivers (turn (c .before .before .before .before .before .before .before .before)) _ _ _ (c .before .before .before .before .before .before .k .given .1)
+
+mul-f : tie.Need-mul-f Inv-loop μ-loop
+mul-f c = omega (arith, in-drivers (turn (c .before .before .before .before .before .before .before .before)) _ _ _ (c .before .before .before .before .before .before .k .given .1))
+
+element-set-from-f : tie.Need-element-set-from-f Inv-loop μ-loop
+element-set-from-f c = in-drivers (turn (c .before .before .before .before .before .before .before .before)) _ _ _ (c .before .before .before .before .before .before .k .given .1)
+
+next-place-requires-3 : tie.Need-next-place-requires-3 Inv-loop μ-loop
+next-place-requires-3 c κs = asked (c .before .before .before .before .before .before .before .before)
+
+mul-self-7 : tie.Need-mul-self-7 Inv-loop μ-loop
+mul-self-7 c = search needs
+
+element-write-self-7 : tie.Need-element-write-self-7 Inv-loop μ-loop
+element-write-self-7 c = in-16 (turn (c .before .before .before .before .before .before .before .before .before))
+
+loop-less-5 : tie.Need-loop-less-5 Inv-loop μ-loop
+loop-less-5 c = falls (c .before .before .before .before .before .before .before .before .before)
+
+loop-again-5 : tie.Need-loop-again-5 Inv-loop μ-loop
+loop-again-5 c = next (c .before .before .before .before .before .before .before .before .before) _ (schedule-turn (turn (c .before .before .before .before .before .before .before .before .before)) _ _ _ (c .before .before .before .before .before .before .before .k .given .1) _ (c .before .before .before .before .schedule .ensures) (c .before .before .before .if2 .left) _ _ (c .before .first-time .ensures) (c .next-place3 .ensures))
+
+enum-known-a-2 : tie.Need-enum-known-a-2 Inv-loop μ-loop
+enum-known-a-2 c = search needs
+
+mul-self-8 : tie.Need-mul-self-8 Inv-loop μ-loop
+mul-self-8 c = search needs
+
+element-write-self-8 : tie.Need-element-write-self-8 Inv-loop μ-loop
+element-write-self-8 c = in-16 (turn (c .before .before .before))
+
+loop-less-6 : tie.Need-loop-less-6 Inv-loop μ-loop
+loop-less-6 c = falls (c .before .before .before)
+
+loop-again-6 : tie.Need-loop-again-6 Inv-loop μ-loop
+loop-again-6 c = next (c .before .before .before) _ (jump-turn (turn (c .before .before .before)) _ (c .before .a2 .given .1))
+
+enum-told-2 : tie.Need-enum-told-2 Inv-loop μ-loop
+enum-told-2 c = search needs
+
+mul-self-9 : tie.Need-mul-self-9 Inv-loop μ-loop
+mul-self-9 c = search needs
+
+element-write-self-9 : tie.Need-element-write-self-9 Inv-loop μ-loop
+element-write-self-9 c = in-16 (turn (c .before .before))
+
+loop-less-7 : tie.Need-loop-less-7 Inv-loop μ-loop
+loop-less-7 c = falls (c .before .before)
+
+loop-again-7 : tie.Need-loop-again-7 Inv-loop μ-loop
+loop-again-7 c = next (c .before .before) _ (wait-turn (turn (c .before .before)) (c .enum-told2 .given .1))
+
+enum-known-d : tie.Need-enum-known-d Inv-loop μ-loop
+enum-known-d c = search needs
+
+mul-self-10 : tie.Need-mul-self-10 Inv-loop μ-loop
+mul-self-10 c = search needs
+
+element-write-self-10 : tie.Need-element-write-self-10 Inv-loop μ-loop
+element-write-self-10 c = in-16 (turn (c .before .before .before))
+
+cast-self : tie.Need-cast-self Inv-loop μ-loop
+cast-self c = search needs
+
+add-self : tie.Need-add-self Inv-loop μ-loop
+add-self c = omega (arith, early (turn (c .before .before .before)), wait-small (turn (c .before .before .before)) _ (c .before .d .given .1))
+
+mul-self-11 : tie.Need-mul-self-11 Inv-loop μ-loop
+mul-self-11 c = search needs
+
+element-write-self-11 : tie.Need-element-write-self-11 Inv-loop μ-loop
+element-write-self-11 c = in-16 (turn (c .before .before .before))
+
+loop-less-8 : tie.Need-loop-less-8 Inv-loop μ-loop
+loop-less-8 c = falls (c .before .before .before)
+
+loop-again-8 : tie.Need-loop-again-8 Inv-loop μ-loop
+loop-again-8 c = next (c .before .before .before) _ (wait-for-turn (turn (c .before .before .before)) _ (c .before .d .given .1) _ refl)
+
+enum-known-f : tie.Need-enum-known-f Inv-loop μ-loop
+enum-known-f c = search needs
+
+mul-self-12 : tie.Need-mul-self-12 Inv-loop μ-loop
+mul-self-12 c = search needs
+
+element-write-self-12 : tie.Need-element-write-self-12 Inv-loop μ-loop
+element-write-self-12 c = in-16 (turn (c .before .before .before))
+
+mul-self-13 : tie.Need-mul-self-13 Inv-loop μ-loop
+mul-self-13 c = search needs
+
+element-write-self-13 : tie.Need-element-write-self-13 Inv-loop μ-loop
+element-write-self-13 c = in-16 (turn (c .before .before .before))
+
+loop-less-9 : tie.Need-loop-less-9 Inv-loop μ-loop
+loop-less-9 c = falls (c .before .before .before)
+
+loop-again-9 : tie.Need-loop-again-9 Inv-loop μ-loop
+loop-again-9 c = next (c .before .before .before) _ (stop-turn (turn (c .before .before .before)) _ (c .before .f2 .given .1))
+
+any-standing-requires : tie.Need-any-standing-requires Inv-loop μ-loop
+any-standing-requires c κs = search needs
+
+bit-requires : tie.Need-bit-requires Inv-loop μ-loop
+bit-requires c κs = search needs
+
+returns : tie.Need-returns Inv-loop μ-loop
+returns c = settle-end (c .before .before .before .before .before .loop .inv) (c .before .before .before .before .loop-test .left) _ _ (c .before .any-standing .ensures) (c .bit .ensures)
 
 pub settle-spec : {M : Type 1} → statement M
-settle-spec = tie.close (tie.spec turns-requires returns)
+settle-spec =
+    tie.close
+    (tie.spec
+    Inv-loop
+    μ-loop
+    loop-holds
+    mul-standing
+    element-copy-out-standing
+    add-p
+    loop-less
+    loop-again
+    mul-place
+    element-copy-out-place
+    add-n
+    does-requires
+    enum-told
+    next-place-requires
+    mul-self
+    element-write-self
+    loop-less-2
+    loop-again-2
+    enum-known-a
+    mul-self-2
+    element-write-self-2
+    next-place-requires-2
+    mul-self-3
+    element-write-self-3
+    loop-less-3
+    loop-again-3
+    enum-known-k
+    mul-e
+    element-copy-out-e
+    cast-schedule
+    add-schedule
+    schedule-requires
+    mul-self-4
+    element-write-self-4
+    mul-self-5
+    element-write-self-5
+    loop-less-4
+    loop-again-4
+    first-time-requires
+    mul-self-6
+    element-write-self-6
+    mul-f
+    element-set-from-f
+    next-place-requires-3
+    mul-self-7
+    element-write-self-7
+    loop-less-5
+    loop-again-5
+    enum-known-a-2
+    mul-self-8
+    element-write-self-8
+    loop-less-6
+    loop-again-6
+    enum-told-2
+    mul-self-9
+    element-write-self-9
+    loop-less-7
+    loop-again-7
+    enum-known-d
+    mul-self-10
+    element-write-self-10
+    cast-self
+    add-self
+    mul-self-11
+    element-write-self-11
+    loop-less-8
+    loop-again-8
+    enum-known-f
+    mul-self-12
+    element-write-self-12
+    mul-self-13
+    element-write-self-13
+    loop-less-9
+    loop-again-9
+    any-standing-requires
+    bit-requires
+    returns)

@@ -1,0 +1,68 @@
+// One statement of a process.
+ghost use mathlib.Core.Path.{_≡_};
+ghost use Prim.Native.Nat.{_<_};
+ghost use lib.ListN.{getD};
+ghost use Rattle.model.specs.Records.{modelOf};
+ghost use Rattle.cycle.specs.View.{Runs, Fine, StepsTo};
+use crate::config::Config;
+use crate::effect::Effect;
+use crate::effect::does;
+use crate::turns::next_place;
+
+impl Config {
+    // Process p, which is ready, runs one statement. Settle has the same arms in its loop, in place: a call by value there would copy
+    // the configuration for each statement.
+    pub fn step<'a>(mut self, m: &'a [u8], index: &'a [u16; 1376], p: usize) -> Config
+        requires { ⌜ Runs (now m) (now index) ⌝ }
+        requires { ⌜ Fine (modelOf (now m)) self ⌝ }
+        requires { ⌜ p < self .np ⌝ }
+        requires { ⌜ getD (self .standings) p 0 ≡ 0 ⌝ }
+        ensures { λ r. ⌜ StepsTo (modelOf (now (m .entry))) p self r ⌝ }
+    {
+        let now = self.time;
+        let place = self.places[p];
+        match does(m, index, &self.variables, &self.signals, place) {
+            Effect::Skip => {
+                self.places[p] = next_place(m, index, p, place);
+                self
+            }
+            Effect::Store(a, v) => {
+                self.variables[a] = v;
+                self.places[p] = next_place(m, index, p, place);
+                self
+            }
+            Effect::Schedule(k, d, v) => {
+                let e = self.drivers[k];
+                let r = e.schedule(now + d as u64, v);
+                if r.full {
+                    self.standings[p] = 2;
+                    self.faults[p] = 3;
+                    return self;
+                }
+                let f = r.driver;
+                self.due[k] = f.first_time();
+                self.drivers[k] = f;
+                self.places[p] = next_place(m, index, p, place);
+                self
+            }
+            Effect::Jump(a) => {
+                self.places[p] = a;
+                self
+            }
+            Effect::Wait => {
+                self.standings[p] = 1;
+                self
+            }
+            Effect::WaitFor(d) => {
+                self.standings[p] = 1;
+                self.deadlines[p] = now + d as u64;
+                self
+            }
+            Effect::Stop(f) => {
+                self.standings[p] = 2;
+                self.faults[p] = f;
+                self
+            }
+        }
+    }
+}
