@@ -10,7 +10,6 @@ use borrow.Author.Tests.{le-leb, lt-leb, eq-eqb, ne-eqb}
 use Rattle.base.specs.Below.{anyBelow}
 use Rattle.base.proofs.Course.{any-first}
 use Rattle.model.specs.Records.{Model}
-use Rattle.model.specs.Facts.{Facts}
 use Rattle.cycle.specs.Configuration.{Configuration}
 use Rattle.cycle.specs.Statements.{stepped}
 use Rattle.cycle.specs.Orders.{Outcome, refused, isReady, pickDone, picked, lowestReady, settledFrom, settled, readOf}
@@ -36,9 +35,6 @@ module _ (c : Config) (s : ℕ) where
   read-some h v e M f =
       let l : s < length (M .signals) = omega (arith, ns-is M c (f .reachable)) in
       record { is = rw (lt-leb (length (M .signals)) s l, past-in c s 0 h (omega arith), add-zero) (rw e); fine = f }
-
-pub few-processes : (M : Model) → Facts M → (c : Config) → Fine M c → c .np ≤ 16
-few-processes M fs c f = omega (arith, np-is M c (f .reachable), fs .totals .processes)
 
 module _ (M : Model) (c : Config) (f : Fine M c) where
   module _ (p : ℕ) where

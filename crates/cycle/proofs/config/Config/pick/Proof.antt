@@ -1,12 +1,13 @@
 use Prim.Native.Nat.{_≤_}
 use native.Mathlib.Omega.{arith}
-use Rattle.cycle.proofs.OrderLaws.{few-processes, pick-none, pick-waiting, pick-done}
+use Rattle.cycle.proofs.Advances.{few-processes}
+use Rattle.cycle.proofs.OrderLaws.{pick-none, pick-waiting, pick-done}
 use borrow.Author.Needs.{needs}
 use Rattle.cycle.proofs.config.Config.pick.Statement.{statement}
 use Rattle.cycle.proofs.config.Config.pick.Tie as tie
 
 few : (c : tie.Start) → c .args .t1 .np ≤ 16
-few c = few-processes _ (c .pre .0 .facts) _ (c .pre .1)
+few c = few-processes (c .pre .0 .facts) (c .pre .1)
 
 refused-requires : tie.Need-refused-requires
 refused-requires c κs = search needs

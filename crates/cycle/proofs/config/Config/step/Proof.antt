@@ -8,7 +8,7 @@ use Rattle.model.specs.Records.{modelOf}
 use Rattle.model.specs.Facts.{Spans}
 use Rattle.cycle.specs.View.{Runs}
 use Rattle.cycle.proofs.Lists.{length-mapped}
-use Rattle.cycle.proofs.OrderLaws.{few-processes}
+use Rattle.cycle.proofs.Advances.{few-processes}
 use Rattle.cycle.proofs.Changes.{Sized}
 use Rattle.cycle.proofs.Turning.{Turn, statement-there, early, in-16, process-in-model, place-spans, in-variables, wait-small, skip-turn, store-turn, jump-turn, wait-turn, wait-for-turn, stop-turn, in-drivers, delay-small, waveform, full-turn, schedule-turn}
 use Rattle.cycle.proofs.config.Config.step.Statement.{statement}
@@ -27,7 +27,7 @@ sized c =
     }
 
 few : (c : tie.Start) → c .args .p < 16
-few c = omega (arith, few-processes _ (c .pre .0 .facts) _ (c .pre .1 .0), c .pre .1 .1 .0)
+few c = omega (arith, few-processes (c .pre .0 .facts) (c .pre .1 .0), c .pre .1 .1 .0)
 
 -- what holds in every arm: after the call of `does`
 module _ (c : tie.After-does) where
