@@ -1,5 +1,7 @@
-//! Plays random models on the second kernel and, translated, on GHDL, and
-//! compares every signal's settled value at every time.
+//! Plays random models on a kernel and, translated, on GHDL, and compares
+//! every signal's settled value at every time. With the feature `session` the
+//! values are those that the proved kernel reads out, else the second kernel's;
+//! the orders are chosen, and the end is named, by the second kernel.
 //!
 //!     ghdlrun N [SEED]             N lively models from SEED on (default 200
 //!                                  from 1), in which a signal changes, all
@@ -49,6 +51,8 @@ enum End {
 struct Run {
     /// The first values, then the settled ones at each time.
     rows: Vec<Row>,
+    /// The orders of the run, with reads of all signals where a row is taken.
+    orders: Vec<[u8; 4]>,
     end: End,
     /// The time up to which GHDL is to run.
     stop: u64,
@@ -59,10 +63,11 @@ fn values(c: &Config) -> Vec<i32> {
 }
 
 /// Settles; false if some process is still ready after many picks.
-fn settle(c: &mut Config, m: &Model) -> bool {
+fn settle(c: &mut Config, m: &Model, orders: &mut Vec<[u8; 4]>) -> bool {
     let mut picks = 0;
     while picks < PICKS {
         let (made, ready) = c.settle(m, 1_000);
+        orders.push([3, 0, 232, 3]);
         picks += made as usize;
         if !ready {
             return true;
@@ -74,12 +79,19 @@ fn settle(c: &mut Config, m: &Model) -> bool {
 fn run(m: &Model) -> Run {
     let mut c = Config::first(m);
     let mut rows = vec![(0, values(&c))];
+    let reads: Vec<[u8; 4]> = (0..rows[0].1.len()).map(|s| [4, s as u8, 0, 0]).collect();
+    let mut orders = reads.clone();
     let end = loop {
-        if !settle(&mut c, m) {
+        if !settle(&mut c, m, &mut orders) {
             break End::NoWait;
         }
         let (time, row) = (c.time, values(&c));
-        match c.advance(m) {
+        let step = c.advance(m);
+        if !matches!(step, Ok(Step::Delta) | Err(15 | 16)) {
+            orders.extend(&reads);
+        }
+        orders.push([2, 0, 0, 0]);
+        match step {
             Ok(Step::Delta) => {}
             Ok(Step::Time) => {
                 rows.push((time, row));
@@ -103,7 +115,46 @@ fn run(m: &Model) -> Run {
         End::TimeSteps | End::Ninth => rows.last().map_or(0, |r| r.0),
         _ => c.time,
     };
-    Run { rows, end, stop }
+    Run {
+        rows,
+        orders,
+        end,
+        stop,
+    }
+}
+
+/// The rows that the proved kernel reads out when it plays the orders; none
+/// where there is no signal, or the list is longer than a session may be.
+#[cfg(feature = "session")]
+fn proved_rows(model: &[u8], orders: &[[u8; 4]], signals: usize) -> Option<Vec<Row>> {
+    let bytes = orders.concat();
+    let mut answers = vec![0; 4 * bytes.len()];
+    let number = second_kernel::proved::play(model, &bytes, &mut answers, &mut []);
+    if signals == 0 || number == 9 {
+        return None;
+    }
+    assert_eq!(number, 0, "the proved kernel refused a model");
+    let reads = answers.chunks_exact(16).zip(orders);
+    let read: Vec<(u64, i32)> = reads
+        .filter(|(_, o)| o[0] == 4)
+        .map(|(a, _)| {
+            assert_eq!(a[0], 0, "the proved kernel refused a read");
+            (
+                u64::from_le_bytes(a[8..].try_into().unwrap()),
+                i32::from_le_bytes(a[4..8].try_into().unwrap()),
+            )
+        })
+        .collect();
+    Some(
+        read.chunks(signals)
+            .map(|row| (row[0].0, row.iter().map(|r| r.1).collect()))
+            .collect(),
+    )
+}
+
+#[cfg(not(feature = "session"))]
+fn proved_rows(_: &[u8], _: &[[u8; 4]], _: usize) -> Option<Vec<Row>> {
+    None
 }
 
 /// The first row and those that differ from the one before.
@@ -214,31 +265,41 @@ fn compare(case: &Case, theirs: &[Row], outcome: Outcome) -> Result<(), String> 
     Ok(())
 }
 
-/// A model with its run on the second kernel.
+/// A model with its run.
 struct Case {
     name: String,
     model: Model,
+    /// The values are the proved kernel's.
+    proved: bool,
     stop: u64,
     changes: Vec<Row>,
     end: End,
 }
 
 impl Case {
-    fn new(name: String, model: Model) -> Case {
-        let Run { rows, end, stop } = run(&model);
+    fn new(name: String, model: Model, bytes: &[u8]) -> Case {
+        let Run {
+            rows,
+            orders,
+            end,
+            stop,
+        } = run(&model);
+        let proved = proved_rows(bytes, &orders, rows[0].1.len());
         Case {
             name,
             model,
             stop,
-            changes: changes(rows),
+            proved: proved.is_some(),
+            changes: changes(proved.unwrap_or(rows)),
             end,
         }
     }
 
     /// The model of `session_case`'s seed, if it is accepted.
     fn of_seed(seed: u64) -> Option<Case> {
-        let model = model::load(&gen::session_case(seed).model).ok()?;
-        Some(Case::new(format!("seed {seed}"), model))
+        let bytes = gen::session_case(seed).model;
+        let model = model::load(&bytes).ok()?;
+        Some(Case::new(format!("seed {seed}"), model, &bytes))
     }
 
     /// A signal changes.
@@ -271,7 +332,12 @@ fn counted(start: i32, steps: i32) -> Case {
     b.go(1);
     b.schedule(s, turned, one);
     b.wait(0, ABSENT, ABSENT);
-    Case::new(format!("{steps} delta steps from time {start}"), b.m)
+    let bytes = b.encode();
+    Case::new(
+        format!("{steps} delta steps from time {start}"),
+        b.m,
+        &bytes,
+    )
 }
 
 /// The models from the seed on until n are lively.
@@ -393,10 +459,10 @@ fn main() {
         println!("{name}:\n  {e}");
     }
     let rows: usize = cases.iter().map(|c| c.changes.len() - 1).sum();
+    let proved = cases.iter().filter(|c| c.proved).count();
     println!(
-        "ghdlrun: {} models, {} changes of settled values, {} models differ",
+        "ghdlrun: {} models ({proved} played by the proved kernel), {rows} changes of settled values, {} models differ",
         cases.len(),
-        rows,
         bad.len()
     );
     let _ = std::fs::remove_dir_all(&dir);
