@@ -1,6 +1,6 @@
 -- Laws of lists of orders: what follows a refused order, and a session of no orders. Assumes nothing.
 use mathlib.Core.Path.{_≡_, refl, sym, ap, _∙_}
-use mathlib.Core.Bool.{true, _&&_}
+use mathlib.Core.Bool.{true, not}
 use mathlib.Core.List.{List, [], _∷_}
 use Prim.Native.Nat.{ℕ}
 use borrow.Author.Tests.{eq-eqb}
@@ -12,8 +12,9 @@ use Rattle.model.specs.Owners.{refusalOf}
 use Rattle.cycle.specs.Configuration.{Configuration, first}
 use Rattle.cycle.specs.Orders.{Outcome, refused, settled}
 use Rattle.cycle.proofs.Outcomes.{Pick, pick-refused, pick-done, pick-is, Advance, advance-refused, delta-done, time-done, advance-is, Read, read-refused, read-done, read-is}
-use Rattle.session.specs.Lists.{Order, performed, answered, ordersOf, played}
+use Rattle.session.specs.Lists.{Order, isKnown, performed, answered, ordersOf, played}
 use Rattle.session.specs.Sessions.{ordersOk, bufferOk, numberOf, sessionOf}
+use Rattle.session.specs.ListLaws.{ListLaws}
 use Rattle.session.proofs.SessionLaws.{model-accepted, neither}
 
 -- an order that is refused says so, and hands back the configuration that it took
@@ -38,28 +39,32 @@ module _ (M : Model) (c : Configuration) where
   read-kept s (read-refused n h) = λ z. refl
   read-kept s (read-done there) = λ z. absurd (z refl)
 
-  pub refused-kept : (o : Order) → Kept (performed M o c)
+  refused-kept : (o : Order) → Kept (performed M o c)
   unfolding performed
   refused-kept o =
-      by-test Kept (eqb (o .kind) 1) _ _
-      (λ k. by-test Kept (eqb (o .count) 0) _ _ (λ e. pick-kept (o .argument) (pick-is M c (o .argument))) (λ e z. refl))
-      (λ k1. by-test Kept (eqb (o .kind) 2) _ _
-      (λ k. by-test Kept (eqb (o .argument) 0 && eqb (o .count) 0) _ _ (λ e. advance-kept (advance-is M c)) (λ e z. refl))
-      (λ k2. by-test Kept (eqb (o .kind) 3) _ _
-      (λ k. by-test Kept (eqb (o .argument) 0) _ _ (λ e. settle-kept (o .count)) (λ e z. refl))
-      (λ k3. by-test Kept (eqb (o .kind) 4) _ _
-      (λ k. by-test Kept (eqb (o .count) 0) _ _ (λ e. read-kept (o .argument) (read-is M c (o .argument))) (λ e z. refl))
-      (λ k4 z. refl))))
+      by-test Kept (not (isKnown o)) _ _ (λ e z. refl)
+      (λ e. by-test Kept (eqb (o .kind) 1) _ _ (λ k. pick-kept (o .argument) (pick-is M c (o .argument)))
+      (λ e. by-test Kept (eqb (o .kind) 2) _ _ (λ k. advance-kept (advance-is M c))
+      (λ e. by-test Kept (eqb (o .kind) 3) _ _ (λ k. settle-kept (o .count))
+      (λ e. read-kept (o .argument) (read-is M c (o .argument))))))
 
   -- "After a refused order the next is played all the same", from the configuration that the refused one took
-  pub after-refused : (o : Order) (os : List Order) → (performed M o c .refusal ≡ 0 → ⊥)
+  after-refused : (o : Order) (os : List Order) → (performed M o c .refusal ≡ 0 → ⊥)
       → played M (o ∷ os) c ≡ answered (refused (performed M o c .refusal) c) (played M os c)
   unfolding played
   after-refused o os h = let e = refused-kept o h in ap (λ (r : Outcome). answered r (played M os (r .after))) e
 
 -- "No orders: number 0, first configuration."
-pub no-orders-session : (m : List ℕ) → refusalOf m ≡ 0 → sessionOf m [] [] ≡ record { number = 0; end = first (modelOf m); buffer = [] }
+no-orders-session : (m : List ℕ) → refusalOf m ≡ 0 → sessionOf m [] [] ≡ record { number = 0; end = first (modelOf m); buffer = [] }
 unfolding sessionOf ordersOk bufferOk ordersOf listBelow played
 no-orders-session m h =
     let k : eqb (numberOf m [] []) 0 ≡ true = eq-eqb _ _ (model-accepted m [] [] h ∙ sym (neither [] [] refl refl)) in
     rw k
+
+pub list-laws : ListLaws
+list-laws =
+    record {
+      refused-kept = λ M o c. refused-kept M c o;
+      after-refused = λ M o os c. after-refused M c o os;
+      no-orders = no-orders-session;
+    }

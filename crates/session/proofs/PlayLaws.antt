@@ -1,11 +1,14 @@
 -- Laws of a list of orders played from its bytes: the next order, its answer written behind those before it, and the end.
 -- Assumes nothing.
 use mathlib.Core.Path.{_≡_, refl, ap, _∙_}
+use mathlib.Core.Bool.{Bool, true, false, not}
 use mathlib.Core.List.{List, [], _∷_, _++_, append-assoc, append-nil}
 use Prim.Native.Nat.{ℕ, _+_, _*_, _-_, _/_, _≤_, _<_}
 use native.Mathlib.Nat.{le-of-eq}
 use native.Mathlib.Numerals.{add-one}
 use native.Mathlib.Omega.{arith}
+use borrow.Author.Tests.{ne-eqb}
+use borrow.Rule.Slice.PartMut.{putMid, mid-len, same-len-mid}
 use lib.ListN.{length, take, drop, length-append, length-take, drop-of-length-le}
 use lib.Seq.{take-all, take-at, drop-cons, getD-take, getD-drop}
 use Rattle.base.specs.Below.{listBelow}
@@ -13,9 +16,11 @@ use Rattle.base.specs.Bytes.{byteAt, wordAt}
 use Rattle.base.proofs.Below.{list-length, list-at}
 use Rattle.model.specs.Records.{Model}
 use Rattle.cycle.specs.Configuration.{Configuration}
-use Rattle.cycle.specs.View.{viewOf, outcomeOf}
+use Rattle.cycle.specs.Orders.{Outcome, refused, picked, advanced, settled, readOf}
+use Rattle.cycle.specs.View.{Fine, Answers, viewOf, outcomeOf}
+use Rattle.cycle.specs.declared.config.Config.{Config}
 use Rattle.cycle.specs.declared.turns.Answered.{Answered}
-use Rattle.session.specs.Lists.{order, orderOf, ordersOf, performed, answerBytes, answerOf, played}
+use Rattle.session.specs.Lists.{order, orderOf, ordersOf, isKnown, performed, answerBytes, answerOf, played}
 use Rattle.session.specs.Sessions.{bytesOf}
 
 -- a whole copy
@@ -64,18 +69,80 @@ module _ (os : List ℕ) (i : ℕ) where
         let t : 4 * i + 2 + 1 ≡ 4 * i + 3 = omega arith in
         rw (e0, e1, e2, e3, z, t)
 
-    -- one order is played: its fields were read from their places, and r is what it gave
-    module _ (M : Model) (v : Configuration) (r : Answered) (kind argument count : ℕ) (ek : kind ≡ byteAt os (4 * i)) (ea : argument ≡ byteAt os (4 * i + 1)) (ec : count ≡ wordAt os (4 * i + 2)) (p : outcomeOf r ≡ performed M (order kind argument count) v) where
-      left : drop i (ordersOf os) ≡ order kind argument count ∷ drop (i + 1) (ordersOf os)
-      left = next-order ∙ rw (order-read, ek, ea, ec)
+-- before order i: what is left of the list, played from `at`, ends as the whole list does from c₀, and its answers come behind
+-- those written
+pub record Playing (M : Model) (os : List ℕ) (c₀ : Configuration) (i : ℕ) (at : Config) (answers : List ℕ) : Type 0 where
+  pub low : i ≤ length os / 4
+  pub fine : Fine M at
+  pub room : length answers ≡ 16 * (length os / 4)
+  pub end : played M (drop i (ordersOf os)) (viewOf at) .end ≡ played M (ordersOf os) c₀ .end
+  pub bytes : take (16 * i) answers ++ bytesOf (played M (drop i (ordersOf os)) (viewOf at) .answers) ≡ bytesOf (played M (ordersOf os) c₀ .answers)
 
-      pub end-next : played M (drop (i + 1) (ordersOf os)) (viewOf (r .config)) .end ≡ played M (drop i (ordersOf os)) v .end
-      unfolding played outcomeOf
-      end-next = rw (left, ← p)
+-- order i is read, and b says whether it is known
+pub record Reading (M : Model) (os : List ℕ) (c₀ : Configuration) (i : ℕ) (at : Config) (answers : List ℕ) (kind argument count : ℕ) (b : Bool) : Type 0 where
+  pub playing : Playing M os c₀ i at answers
+  pub here : i < length os / 4
+  pub kind-read : kind ≡ byteAt os (4 * i)
+  pub argument-read : argument ≡ byteAt os (4 * i + 1)
+  pub count-read : count ≡ wordAt os (4 * i + 2)
+  pub known : b ≡ isKnown (order kind argument count)
 
-      pub answers-next : (a last rest : List ℕ) → 16 * i + 16 ≤ length a → last ≡ answerBytes (r .refusal) (r .byte) (r .picks) (r .value) (r .config .time)
-          → take (16 * (i + 1)) (take (16 * i) a ++ (last ++ rest)) ++ bytesOf (played M (drop (i + 1) (ordersOf os)) (viewOf (r .config)) .answers)
-          ≡ take (16 * i) a ++ bytesOf (played M (drop i (ordersOf os)) v .answers)
+module _ {M : Model} {os : List ℕ} {c₀ : Configuration} {i : ℕ} {at : Config} {answers : List ℕ} {kind argument count : ℕ} {b : Bool} (t : Reading M os c₀ i at answers kind argument count b) where
+  -- what it does
+  pub refused-order : not b ≡ true → performed M (order kind argument count) (viewOf at) ≡ refused 11 (viewOf at)
+  unfolding performed
+  refused-order k = rw (← (t .known), k)
+
+  module _ (k : not b ≡ false) where
+    pub pick-order : kind ≡ 1 → performed M (order kind argument count) (viewOf at) ≡ picked M argument (viewOf at)
+    unfolding performed
+    pick-order is = rw (← (t .known), k, is)
+
+    pub advance-order : kind ≡ 2 → performed M (order kind argument count) (viewOf at) ≡ advanced M (viewOf at)
+    unfolding performed
+    advance-order is = rw (← (t .known), k, is)
+
+    pub settle-order : kind ≡ 3 → performed M (order kind argument count) (viewOf at) ≡ settled M count (viewOf at)
+    unfolding performed
+    settle-order is = rw (← (t .known), k, is)
+
+    pub read-order : (kind ≡ 1 → ⊥) → (kind ≡ 2 → ⊥) → (kind ≡ 3 → ⊥) → performed M (order kind argument count) (viewOf at) ≡ readOf M argument (viewOf at)
+    unfolding performed
+    read-order no1 no2 no3 = rw (← (t .known), k, ne-eqb kind 1 no1, ne-eqb kind 2 no2, ne-eqb kind 3 no3)
+
+  -- it is done: r is what it gave, and its answer is written into its own part of the buffer
+  module _ {o : Outcome} (p : performed M (order kind argument count) (viewOf at) ≡ o) {r : Answered} (a : Answers M r o) where
+    left : drop i (ordersOf os) ≡ order kind argument count ∷ drop (i + 1) (ordersOf os)
+    left = next-order os i (t .here) ∙ rw (order-read os i (t .here), t .kind-read, t .argument-read, t .count-read)
+
+    end-next : played M (drop (i + 1) (ordersOf os)) (viewOf (r .config)) .end ≡ played M (drop i (ordersOf os)) (viewOf at) .end
+    unfolding played outcomeOf
+    end-next = rw (left, p, ← (a .is))
+
+    module _ {last : List ℕ} (q : last ≡ answerBytes (r .refusal) (r .byte) (r .picks) (r .value) (r .config .time)) where
+      bytes-next : (rest : List ℕ) → take (16 * (i + 1)) (take (16 * i) answers ++ (last ++ rest)) ++ bytesOf (played M (drop (i + 1) (ordersOf os)) (viewOf (r .config)) .answers)
+          ≡ take (16 * i) answers ++ bytesOf (played M (drop i (ordersOf os)) (viewOf at) .answers)
       unfolding played outcomeOf answerOf viewOf
-      answers-next a last rest l q =
-          rw (written a last rest i (ap length q) l, append-assoc, left, ← p, q)
+      bytes-next rest =
+          rw (written answers last rest i (ap length q) (omega (arith, t .playing .room, t .here)), append-assoc, left, p, ← (a .is), q)
+
+      room-next : length (putMid (16 * i) (16 * i + 16 - 16 * i) answers last) ≡ length answers
+      room-next =
+          let k : length last ≡ 16 = ap length q in
+          let m = mid-len (16 * i) (16 * i + 16) answers (omega (arith, t .playing .room, t .here)) in
+          same-len-mid (16 * i) (16 * i + 16 - 16 * i) answers last (omega arith)
+
+      pub playing-next : Playing M os c₀ (i + 1) (r .config) (putMid (16 * i) (16 * i + 16 - 16 * i) answers last)
+      playing-next =
+          record {
+            low = omega (arith, t .here);
+            fine = a .fine;
+            room = room-next ∙ t .playing .room;
+            end = end-next ∙ t .playing .end;
+            bytes = bytes-next _ ∙ t .playing .bytes;
+          }
+
+-- a refused order leaves the configuration
+pub refused-answers : {M : Model} {at : Config} (n : ℕ) → Fine M at → Answers M (record { refusal = n; byte = 0; picks = 0; value = 0; config = at }) (refused n (viewOf at))
+unfolding outcomeOf
+refused-answers n f = record { is = refl; fine = f }

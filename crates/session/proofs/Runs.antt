@@ -1,7 +1,7 @@
 -- Every list of orders plays a run of picks and advances, as many as its answers say.
 -- Assumes nothing.
 use mathlib.Core.Path.{_≡_, refl, sym, _∙_}
-use mathlib.Core.Bool.{true, false, _&&_}
+use mathlib.Core.Bool.{true, false, not}
 use mathlib.Core.List.{List, [], _∷_}
 use Prim.Native.Nat.{ℕ, zero, suc, _+_, _≤_, _<_}
 use native.Mathlib.Nat.{add-zero, zero-add, add-suc, suc-add}
@@ -19,7 +19,7 @@ use Rattle.cycle.specs.Statements.{stepped}
 use Rattle.cycle.specs.Orders.{Outcome, refused, isReady, advanced, lowestReady, Settled, settledFrom, settled}
 use Rattle.cycle.proofs.Outcomes.{Refusal, Pick, pick-refused, pick-done, pick-is, pick-of-ready, Advance, advance-refused, delta-done, time-done, advance-is, Read, read-refused, read-done, read-is}
 use Rattle.determinacy.proofs.Run.{Run, stay, by-pick, by-advance, join}
-use Rattle.session.specs.Lists.{Order, answerOf, performed, played}
+use Rattle.session.specs.Lists.{Order, isKnown, answerOf, performed, played}
 use Rattle.session.specs.Demand3.{picksOf, isAdvance, advancesOf, kernelOf}
 use Rattle.session.proofs.Answers.{Small, refusal-byte, picks-word}
 
@@ -101,8 +101,8 @@ module _ (M : Model) where
     Counted r = Does c (pick (isAdvance o (answerOf r)) 1 0) r
 
     -- an order of another kind than 2 is no advance
-    no-advance : (k : ℕ) {r : Outcome} → eqb k 2 ≡ false → eqb (o .kind) k ≡ true → Does c 0 r → Counted r
-    no-advance k other kind d = rw (eqb-true (o .kind) k kind, other) d
+    no-advance : {r : Outcome} → eqb (o .kind) 2 ≡ false → Does c 0 r → Counted r
+    no-advance other d = rw other d
 
     one-advance : eqb (o .kind) 2 ≡ true → Counted (advanced M c)
     one-advance kind =
@@ -116,15 +116,11 @@ module _ (M : Model) where
     counted : o .count < 65536 → Counted (performed M o c)
     unfolding performed
     counted small =
-        by-test Counted (eqb (o .kind) 1) _ _
-        (λ k. by-test Counted (eqb (o .count) 0) _ _ (λ e. no-advance 1 refl k (pick-does (o .argument) c (pick-is M c (o .argument)))) (λ e. unknown))
-        (λ e. by-test Counted (eqb (o .kind) 2) _ _
-        (λ k. by-test Counted (eqb (o .argument) 0 && eqb (o .count) 0) _ _ (λ e. one-advance k) (λ e. unknown))
-        (λ e. by-test Counted (eqb (o .kind) 3) _ _
-        (λ k. by-test Counted (eqb (o .argument) 0) _ _ (λ e. no-advance 3 refl k (settle-does (o .count) c small)) (λ e. unknown))
-        (λ e. by-test Counted (eqb (o .kind) 4) _ _
-        (λ k. by-test Counted (eqb (o .count) 0) _ _ (λ e. no-advance 4 refl k (read-does (o .argument) c (read-is M c (o .argument)))) (λ e. unknown))
-        (λ e. unknown))))
+        by-test Counted (not (isKnown o)) _ _ (λ e. unknown)
+        (λ e. by-test Counted (eqb (o .kind) 1) _ _ (λ k. no-advance (rw (eqb-true (o .kind) 1 k)) (pick-does (o .argument) c (pick-is M c (o .argument))))
+        (λ e. by-test Counted (eqb (o .kind) 2) _ _ one-advance
+        (λ k. by-test Counted (eqb (o .kind) 3) _ _ (λ e. no-advance k (settle-does (o .count) c small))
+        (λ e. no-advance k (read-does (o .argument) c (read-is M c (o .argument)))))))
 
   -- a list of orders, one after the other
   pub played-run : (os : List Order) → Small os → (c : Configuration)

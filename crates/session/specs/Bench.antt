@@ -1,14 +1,18 @@
 -- The proved table of the bench, whole: "The cases marked [p] form one table, carried by one theorem over its rows."
 -- A case of this layer is a small model and a list of orders, played from the model's first configuration.
+-- Behind it the inverter, its bytes and what it prints.
 use mathlib.Core.Bool.{true}
-use mathlib.Core.List.{List, [], _∷_, _++_}
-use Prim.Native.Nat.{ℕ}
-use lib.ListN.{length, getD}
+use mathlib.Core.Path.{_≡_}
+use mathlib.Core.List.{List, [], _∷_, map, _++_}
+use Prim.Native.Nat.{ℕ, _*_, _-_}
+use lib.ListN.{length, getD, replicate}
 use Rattle.base.specs.Bytes.{byteAt, wordAt, longAt}
 use Rattle.values.specs.Bench as Values
 use Rattle.values.specs.Bench.{Row, _gives_}
-use Rattle.model.specs.Records.{Model}
-use Rattle.model.specs.Trees.{integer}
+use Rattle.model.specs.Records.{Model, modelOf}
+use Rattle.model.specs.Fields.{absent}
+use Rattle.model.specs.Owners.{Accepted}
+use Rattle.model.specs.Trees.{integer, logic}
 use Rattle.model.specs.declared.records.SignalRecord.{SignalRecord}
 use Rattle.model.specs.declared.records.VariableRecord.{VariableRecord}
 use Rattle.model.specs.declared.records.ProcessRecord.{ProcessRecord}
@@ -16,7 +20,8 @@ use Rattle.model.specs.declared.records.DriverRecord.{DriverRecord}
 use Rattle.model.specs.declared.records.NodeRecord.{NodeRecord}
 use Rattle.model.specs.declared.records.StatementRecord.{StatementRecord}
 use Rattle.cycle.specs.Configuration.{Configuration, driverIn, first}
-use Rattle.session.specs.Lists.{Order, played}
+use Rattle.session.specs.Lists.{Order, ordersOf, played}
+use Rattle.session.specs.Text.{timeIn}
 
 -- records, their fields in the paper's order
 abbrev pub signal : ℕ → ℕ → SignalRecord
@@ -122,3 +127,98 @@ pendingRows =
 
 unfoldable pub rows : List Row
 rows = Values.rows ++ sumRows ++ settleRows ++ pendingRows
+
+-- "Inverter: signals 0 = i, 1 = o, logic, both starting at value 0 (code 2). Process 0: o <= not i after 0; wait on i. Process
+-- 1: i <= 1 after 1; wait."
+abbrev pub inverter : Model
+inverter =
+    record {
+      signals = signal logic 2 ∷ signal logic 2 ∷ [];
+      variables = [];
+      processes = process 0 2 ∷ process 2 2 ∷ [];
+      drivers = driver 0 1 ∷ driver 1 0 ∷ [];
+      nodes = node 4 0 0 0 ∷ node 6 0 0 0 ∷ node 1 0 0 0 ∷ node 2 0 0 3 ∷ node 1 0 0 1 ∷ [];
+      statements = statement 2 1 1 2 0 ∷ statement 5 0 absent absent 1 ∷ statement 2 0 3 4 0 ∷ statement 5 0 absent absent 0 ∷ [];
+    }
+
+-- a block: its number, its kind, its records, and the two bytes of its sum
+abbrev pub block : ℕ → ℕ → ℕ → List ℕ → ℕ → ℕ → List ℕ
+block n kind count records low high = n ∷ 0 ∷ kind ∷ count ∷ records ++ (replicate (506 - 12 * count) 0 ++ (low ∷ high ∷ []))
+
+-- the same model as bytes
+abbrev pub inverterBytes : List ℕ
+inverterBytes =
+    block 0 1 2
+    (1 ∷ 0 ∷ 0 ∷ 0 ∷ 2 ∷ 0 ∷ 0 ∷ 0 ∷ 0 ∷ 0 ∷ 0 ∷ 0
+    ∷ 1 ∷ 0 ∷ 0 ∷ 0 ∷ 2 ∷ 0 ∷ 0 ∷ 0 ∷ 0 ∷ 0 ∷ 0 ∷ 0
+    ∷ [])
+    250 253
+    ++ block 1 3 2
+    (0 ∷ 0 ∷ 2 ∷ 0 ∷ 0 ∷ 0 ∷ 0 ∷ 0 ∷ 0 ∷ 0 ∷ 0 ∷ 0
+    ∷ 2 ∷ 0 ∷ 2 ∷ 0 ∷ 0 ∷ 0 ∷ 0 ∷ 0 ∷ 0 ∷ 0 ∷ 0 ∷ 0
+    ∷ [])
+    247 253
+    ++ block 2 4 2
+    (0 ∷ 1 ∷ 0 ∷ 0 ∷ 0 ∷ 0 ∷ 0 ∷ 0 ∷ 0 ∷ 0 ∷ 0 ∷ 0
+    ∷ 1 ∷ 0 ∷ 0 ∷ 0 ∷ 0 ∷ 0 ∷ 0 ∷ 0 ∷ 0 ∷ 0 ∷ 0 ∷ 0
+    ∷ [])
+    250 252
+    ++ block 3 5 5
+    (4 ∷ 0 ∷ 0 ∷ 0 ∷ 0 ∷ 0 ∷ 0 ∷ 0 ∷ 0 ∷ 0 ∷ 0 ∷ 0
+    ∷ 6 ∷ 0 ∷ 0 ∷ 0 ∷ 0 ∷ 0 ∷ 0 ∷ 0 ∷ 0 ∷ 0 ∷ 0 ∷ 0
+    ∷ 1 ∷ 0 ∷ 0 ∷ 0 ∷ 0 ∷ 0 ∷ 0 ∷ 0 ∷ 0 ∷ 0 ∷ 0 ∷ 0
+    ∷ 2 ∷ 0 ∷ 0 ∷ 0 ∷ 0 ∷ 0 ∷ 0 ∷ 0 ∷ 3 ∷ 0 ∷ 0 ∷ 0
+    ∷ 1 ∷ 0 ∷ 0 ∷ 0 ∷ 0 ∷ 0 ∷ 0 ∷ 0 ∷ 1 ∷ 0 ∷ 0 ∷ 0
+    ∷ [])
+    231 250
+    ++ block 4 6 4
+    (2 ∷ 0 ∷ 1 ∷ 0 ∷ 1 ∷ 0 ∷ 2 ∷ 0 ∷ 0 ∷ 0 ∷ 0 ∷ 0
+    ∷ 5 ∷ 0 ∷ 0 ∷ 0 ∷ 255 ∷ 255 ∷ 255 ∷ 255 ∷ 1 ∷ 0 ∷ 0 ∷ 0
+    ∷ 2 ∷ 0 ∷ 0 ∷ 0 ∷ 3 ∷ 0 ∷ 4 ∷ 0 ∷ 0 ∷ 0 ∷ 0 ∷ 0
+    ∷ 5 ∷ 0 ∷ 0 ∷ 0 ∷ 255 ∷ 255 ∷ 255 ∷ 255 ∷ 0 ∷ 0 ∷ 0 ∷ 0
+    ∷ [])
+    225 251
+
+-- "Orders: settle 10, advance three times, settle 10, advance twice, read 1."
+abbrev pub inverterOrders : List Order
+inverterOrders =
+    settleOrder 10 ∷ advanceOrder ∷ advanceOrder ∷ advanceOrder ∷ settleOrder 10 ∷ advanceOrder ∷ advanceOrder ∷ readOrder 1 ∷ []
+
+-- the same as bytes
+abbrev pub inverterOrderBytes : List ℕ
+inverterOrderBytes =
+    3 ∷ 0 ∷ 10 ∷ 0
+    ∷ 2 ∷ 0 ∷ 0 ∷ 0
+    ∷ 2 ∷ 0 ∷ 0 ∷ 0
+    ∷ 2 ∷ 0 ∷ 0 ∷ 0
+    ∷ 3 ∷ 0 ∷ 10 ∷ 0
+    ∷ 2 ∷ 0 ∷ 0 ∷ 0
+    ∷ 2 ∷ 0 ∷ 0 ∷ 0
+    ∷ 4 ∷ 1 ∷ 0 ∷ 0
+    ∷ []
+
+-- "a line per answer: refusal, byte 1, picks, value (bytes 4-7, signed), time"; no value here is negative
+abbrev pub numbersIn : List ℕ → List ℕ
+numbersIn a = byteAt a 0 ∷ byteAt a 1 ∷ wordAt a 2 ∷ longAt a 4 ∷ timeIn a ∷ []
+
+-- "All it prints"
+abbrev pub inverterLines : List (List ℕ)
+inverterLines =
+    (0 ∷ 0 ∷ 4 ∷ 0 ∷ 0 ∷ [])
+    ∷ (0 ∷ 1 ∷ 0 ∷ 0 ∷ 0 ∷ [])
+    ∷ (0 ∷ 2 ∷ 0 ∷ 0 ∷ 1 ∷ [])
+    ∷ (0 ∷ 1 ∷ 0 ∷ 0 ∷ 1 ∷ [])
+    ∷ (0 ∷ 0 ∷ 2 ∷ 0 ∷ 1 ∷ [])
+    ∷ (0 ∷ 1 ∷ 0 ∷ 0 ∷ 1 ∷ [])
+    ∷ (17 ∷ 0 ∷ 0 ∷ 0 ∷ 1 ∷ [])
+    ∷ (0 ∷ 0 ∷ 0 ∷ 2 ∷ 1 ∷ [])
+    ∷ []
+
+-- the three models are accepted, and the inverter's bytes, played by the rules, give what is printed
+pub record BenchPlayed : Type 0 where
+  pub adder-accepted : Accepted adder
+  pub scheduler-accepted : Accepted scheduler
+  pub inverter-accepted : Accepted inverter
+  pub inverter-read : modelOf inverterBytes ≡ inverter
+  pub orders-read : ordersOf inverterOrderBytes ≡ inverterOrders
+  pub inverter-prints : map numbersIn (played inverter inverterOrders (first inverter) .answers) ≡ inverterLines

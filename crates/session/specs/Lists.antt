@@ -1,5 +1,5 @@
 -- Orders and answers as bytes, and lists of orders of any length.
-use mathlib.Core.Bool.{_&&_}
+use mathlib.Core.Bool.{Bool, false, not, _&&_}
 use mathlib.Core.List.{List, [], _∷_}
 use Prim.Native.Nat.{ℕ, _*_, _/_, _%_, _^_}
 use lib.Dec.{eqb}
@@ -27,15 +27,24 @@ orderOf r = record { kind = byteAt r 0; argument = byteAt r 1; count = wordAt r 
 unfoldable pub ordersOf : List ℕ → List Order
 ordersOf bytes = listBelow (λ i. orderOf (take 4 (drop (4 * i) bytes))) (length bytes / 4)
 
--- "1 pick the process named; 2 advance; 3 settle [..]; 4 read the signal named. Unused bytes are zero."
--- 11. "Unknown kind or unused byte set."
+-- the kind is known, and "Unused bytes are zero": a pick and a read use the argument, a settle the count, an advance neither
+unfoldable pub isKnown : Order → Bool
+isKnown o =
+    o .kind is 1 ⇒ eqb (o .count) 0
+    ∣ o .kind is 2 ⇒ eqb (o .argument) 0 && eqb (o .count) 0
+    ∣ o .kind is 3 ⇒ eqb (o .argument) 0
+    ∣ o .kind is 4 ⇒ eqb (o .count) 0
+    ∣ false
+
+-- 11. "Unknown kind or unused byte set." Else "1 pick the process named; 2 advance; 3 settle [..]; 4 read the signal named": of
+-- the known kinds 4 is the one left.
 unfoldable pub performed : Model → Order → Configuration → Outcome
 performed M o c =
-    o .kind is 1 ⇒ pick (eqb (o .count) 0) (picked M (o .argument) c) (refused 11 c)
-    ∣ o .kind is 2 ⇒ pick (eqb (o .argument) 0 && eqb (o .count) 0) (advanced M c) (refused 11 c)
-    ∣ o .kind is 3 ⇒ pick (eqb (o .argument) 0) (settled M (o .count) c) (refused 11 c)
-    ∣ o .kind is 4 ⇒ pick (eqb (o .count) 0) (readOf M (o .argument) c) (refused 11 c)
-    ∣ refused 11 c
+    pick (not (isKnown o)) (refused 11 c)
+    (o .kind is 1 ⇒ picked M (o .argument) c
+    ∣ o .kind is 2 ⇒ advanced M c
+    ∣ o .kind is 3 ⇒ settled M (o .count) c
+    ∣ readOf M (o .argument) c)
 
 -- byte i of a number, little endian
 abbrev pub byteOf : ℕ → ℕ → ℕ

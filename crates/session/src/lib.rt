@@ -7,8 +7,9 @@ ghost use mathlib.Core.Path.{_≡_};
 ghost use lib.ListN.{length};
 ghost use Rattle.base.specs.Below.{firstFailing};
 ghost use Rattle.values.specs.Bench.{Holds};
-ghost use Rattle.session.specs.Bench.{rows};
+ghost use Rattle.session.specs.Bench.{rows, BenchPlayed};
 ghost use Rattle.session.specs.Demand3.{Determinate};
+ghost use Rattle.session.specs.ListLaws.{ListLaws};
 ghost use Rattle.session.specs.Sessions.{lengthRules, SessionIs};
 use crate::play::play;
 use cycle::config::Config;
@@ -40,6 +41,7 @@ fn lengths_refusal(orders: &[u8], answers: &[u8]) -> usize
 pub fn session(model: &[u8], orders: &[u8], answers: &mut [u8]) -> Ended
     ensures { λ r. ⌜ SessionIs (now (model .entry)) (now (orders .entry)) (now (answers .entry)) (now (answers .exit)) r ⌝ }
     ensures { λ r. ⌜ Determinate ⌝ }
+    ensures { λ r. ⌜ ListLaws ⌝ }
 {
     let loaded = load(model);
     let refusal = loaded.refusal;
@@ -64,10 +66,11 @@ pub fn session(model: &[u8], orders: &[u8], answers: &mut [u8]) -> Ended
     }
 }
 
-// How many rows the proved table of the bench has, and that they hold.
+// How many rows the proved table of the bench has; that they hold, and that the inverter is played as printed.
 pub fn bench_rows() -> usize
     ensures { λ r. ⌜ r ≡ length rows ⌝ }
     ensures { λ r. ⌜ Holds rows ⌝ }
+    ensures { λ r. ⌜ BenchPlayed ⌝ }
 {
     17
 }

@@ -3,58 +3,24 @@ ghost use mathlib.Core.Path.{_≡_};
 ghost use Prim.Native.Nat.{_*_, _/_};
 ghost use lib.ListN.{length};
 ghost use Rattle.model.specs.Records.{modelOf};
-ghost use Rattle.cycle.specs.View.{Runs, Fine, Answers, viewOf};
-ghost use Rattle.session.specs.Lists.{performed, order};
+ghost use Rattle.cycle.specs.View.{Runs, Fine, viewOf};
+ghost use Rattle.session.specs.Lists.{isKnown, order};
 ghost use Rattle.session.specs.Sessions.{PlayedTo};
 use crate::encode::put_answer;
 use base::byte;
 use base::word;
 use cycle::config::Config;
-use cycle::turns::Answered;
 
-// What one order does: 11 for an unknown kind or a set unused byte.
-fn perform<'a>(
-    c: Config,
-    m: &'a [u8],
-    index: &'a [u16; 1376],
-    kind: usize,
-    argument: usize,
-    count: usize,
-) -> Answered
-    requires { ⌜ Runs (now m) (now index) ⌝ }
-    requires { ⌜ Fine (modelOf (now m)) c ⌝ }
-    ensures { λ r. ⌜ Answers (modelOf (now (m .entry))) r (performed (modelOf (now (m .entry))) (order kind argument count) (viewOf c)) ⌝ }
+// The kind is known, and the bytes that it does not use are zero.
+fn known(kind: usize, argument: usize, count: usize) -> bool
+    ensures { λ r. ⌜ r ≡ isKnown (order kind argument count) ⌝ }
 {
     match kind {
-        1 => {
-            if count == 0 {
-                c.pick(m, index, argument)
-            } else {
-                c.refused(11)
-            }
-        }
-        2 => {
-            if (argument == 0) & (count == 0) {
-                c.advance(m, index)
-            } else {
-                c.refused(11)
-            }
-        }
-        3 => {
-            if argument == 0 {
-                c.settle(m, index, count)
-            } else {
-                c.refused(11)
-            }
-        }
-        4 => {
-            if count == 0 {
-                c.read(argument)
-            } else {
-                c.refused(11)
-            }
-        }
-        _ => c.refused(11),
+        1 => count == 0,
+        2 => (argument == 0) & (count == 0),
+        3 => argument == 0,
+        4 => count == 0,
+        _ => false,
     }
 }
 
@@ -79,18 +45,66 @@ pub fn play<'a>(
         let kind = byte(orders, from);
         let argument = byte(orders, from + 1);
         let count = word(orders, from + 2);
-        let r = perform(at, m, index, kind, argument, count);
-        at = r.config;
         let to = 16 * i;
-        put_answer(
-            &mut answers[to..to + 16],
-            r.refusal,
-            r.byte,
-            r.picks,
-            r.value,
-            at.time,
-        );
         i += 1;
+        if !known(kind, argument, count) {
+            put_answer(&mut answers[to..to + 16], 11, 0, 0, 0, at.time);
+            continue;
+        }
+        match kind {
+            1 => {
+                let picked = at.pick(m, index, argument);
+                at = picked.config;
+                put_answer(
+                    &mut answers[to..to + 16],
+                    picked.refusal,
+                    picked.byte,
+                    picked.picks,
+                    picked.value,
+                    at.time,
+                );
+                continue;
+            }
+            2 => {
+                let advanced = at.advance(m, index);
+                at = advanced.config;
+                put_answer(
+                    &mut answers[to..to + 16],
+                    advanced.refusal,
+                    advanced.byte,
+                    advanced.picks,
+                    advanced.value,
+                    at.time,
+                );
+                continue;
+            }
+            3 => {
+                let settled = at.settle(m, index, count);
+                at = settled.config;
+                put_answer(
+                    &mut answers[to..to + 16],
+                    settled.refusal,
+                    settled.byte,
+                    settled.picks,
+                    settled.value,
+                    at.time,
+                );
+                continue;
+            }
+            _ => {
+                let read = at.read(argument);
+                at = read.config;
+                put_answer(
+                    &mut answers[to..to + 16],
+                    read.refusal,
+                    read.byte,
+                    read.picks,
+                    read.value,
+                    at.time,
+                );
+                continue;
+            }
+        }
     }
     at
 }
