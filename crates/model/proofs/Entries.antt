@@ -1,17 +1,41 @@
 -- The laws of the index's further entries: writing one keeps the starts. Assumes nothing.
 use mathlib.Core.Path.{_≡_, _∙_}
 use mathlib.Core.List.{List}
-use Prim.Native.Nat.{ℕ, _+_, _≤_, _<_}
+use Prim.Native.Nat.{ℕ, _+_, _*_, _≤_, _<_}
 use native.Mathlib.Omega.{arith}
 use borrow.Author.Count.{below-more}
+use lib.Dec.{T, leb, lit≤}
 use lib.ListN.{length, getD, set}
 use lib.Seq.{getD-set-same, getD-set-other}
+use mir.Syntax.{w16, w64}
+use mir.Val.{Fits}
 use Rattle.model.specs.Records.{modelOf, statementAt}
 use Rattle.model.specs.Fields.{ownerOf}
 use Rattle.model.specs.Trees.{typeOf}
 use Rattle.model.specs.Owners.{Accepted, driverFor}
 use Rattle.model.specs.Index.{Starts, TypesBelow, DriversBelow, DriversIn, Usable}
 use Rattle.model.proofs.Sections.{starts-kept}
+
+-- entry n of a part of the index that begins at `base`: n is below a total, which is at most `most`
+module _ (base most : ℕ) (s : T (leb (base + most) 1376)) (n k : ℕ) (h : n < k) (l : k ≤ most) where
+  pub entry-place : base + n < 1376
+  entry-place = let g : base + most ≤ 1376 = lit≤ s in omega arith
+
+  pub entry-fits : Fits w64 (base + n)
+  entry-fits = omega (arith, entry-place)
+
+  pub entry-scaled : Fits w64 ((base + n) * 2)
+  entry-scaled = omega (arith, entry-place)
+
+-- it lies behind the starts, and behind the types
+pub past : (base : ℕ) → T (leb 776 base) → (n : ℕ) → 776 ≤ base + n
+past base s n = let g : 776 ≤ base = lit≤ s in omega arith
+
+pub types-before : (k n : ℕ) → k ≤ 400 → 776 + k ≤ 1176 + n
+types-before k n h = omega arith
+
+pub value-fits : (b : ℕ) → T (leb b 64) → (v : ℕ) → v ≤ b → Fits w16 v
+value-fits b s v h = let g : b ≤ 64 = lit≤ s in omega arith
 
 module _ (m index : List ℕ) (i v : ℕ) where
   pub starts-set : 776 ≤ i → Starts m index → Starts m (set index i v)

@@ -72,6 +72,16 @@ module _ (m : List ℕ) (bytes : (i : ℕ) → Fits w8 (getD m i 0)) where
       (λ s. omega (arith, part-byte s 0 (lit< tt), part-byte s 1 (lit< tt), part-byte s 2 (lit< tt), part-byte s 3 (lit< tt)))
       (lit< tt) p)
 
+-- the first process starts at 0
+pub due-first : (M : Model) (p : ℕ) → p ≡ 0 → 0 ≡ dueStart M p
+due-first M p e = rw e
+
+pub some-before : (p : ℕ) → (p ≡ 0 → ⊥) → 1 ≤ p
+some-before p h = omega arith
+
+pub before-there : (p n : ℕ) → p < n → p - 1 < n
+before-there p n h = omega arith
+
 -- each process after the first starts where the one before it ends
 pub due-next : (M : Model) (p : ℕ) {r : ℕ} → 1 ≤ p → r ≡ endOf M (p - 1) → r ≡ dueStart M p
 due-next M zero h e = absurd (not-suc-le-zero h)

@@ -1,6 +1,9 @@
+pub mod BlockForms
+pub mod Counting
 pub mod Drivers
 pub mod Entries
 pub mod Facts
+pub mod FieldForms
 pub mod FieldLaws
 pub mod Lookup
 pub mod NodeFields
@@ -8,6 +11,8 @@ pub mod NodeTypes
 pub mod Operands
 pub mod Own
 pub mod Places
+pub mod RecordLaws
+pub mod RuleForms
 pub mod Rules
 pub mod Sections
 pub mod Spans

@@ -5,6 +5,7 @@ use mathlib.Core.Logic.{⊎-elim}
 use Prim.Native.Nat.{ℕ, _≤_, _<_}
 use native.Mathlib.Omega.{arith}
 use borrow.Author.Tests.{ne-eqb, ltb-true, leb-true}
+use lib.Dec.{T, leb, lit≤}
 use lib.ListN.{length}
 use Rattle.base.proofs.Below.{every-at, all-at, among, split}
 use Rattle.model.specs.Records.{Model, signalAt, variableAt, nodeAt}
@@ -77,6 +78,9 @@ module _ (M : Model) (d : NodeRecord) (ok : nodeOk M d ≡ true) where
   names-signal l h =
       among (λ k. d .kind ≡ k → d .a < length (M .signals)) 4 2 (d .kind)
       ((λ e. ltb-true _ _ (every-at _ 0 (rw e at ok))), ((λ e. ltb-true _ _ (every-at _ 0 (rw e at ok))), tt)) l (omega arith) refl
+
+  pub signal-at : (k : ℕ) → d .kind ≡ k → T (leb 4 k) → T (leb k 5) → d .a < length (M .signals)
+  signal-at k e l h = names-signal (rw e (lit≤ l)) (rw e (lit≤ h))
 
   pub delay-most : d .kind ≡ 5 → d .k ≤ 31
   unfolding nodeOk

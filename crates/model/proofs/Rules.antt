@@ -1,42 +1,19 @@
 -- The rules in checking order: those of the blocks, then those of the model. Assumes nothing.
-use mathlib.Core.Path.{_≡_, refl, sym, ap, _∙_}
+use mathlib.Core.Path.{_≡_, sym, ap, _∙_}
 use mathlib.Core.Bool.{Bool, true, false}
-use mathlib.Core.List.{List, [], _∷_, _++_}
-use Prim.Native.Nat.{ℕ, zero, suc, _+_, _≤_}
-use native.Mathlib.Nat.{add-zero}
+use mathlib.Core.List.{List, [], _∷_}
+use Prim.Native.Nat.{ℕ, suc, _+_, _≤_}
 use native.Mathlib.Omega.{arith}
-use lib.ListN.{length, getD, take, drop, take-append-drop}
+use lib.Dec.{lit<}
+use lib.ListN.{length, take, drop, take-append-drop}
 use Rattle.base.specs.Below.{firstFailing}
+use Rattle.base.proofs.Below.{none-fails, later-decide, first-decides}
 use Rattle.model.specs.Blocks.{lengthOk, headsOk}
 use Rattle.model.specs.Records.{Model, modelOf}
 use Rattle.model.specs.Fields.{totalsOk, fieldsOk}
 use Rattle.model.specs.Trees.{treesOk, typesOk}
 use Rattle.model.specs.Owners.{ownersOk, rulesOf, refusalOf}
 use Rattle.model.specs.Index.{DriversIn, Judged}
-
--- none of the first rules fails: the later ones decide
-first-none : (n : ℕ) (us vs : List Bool) → firstFailing (suc n) us ≡ 0 → firstFailing (suc n) (us ++ vs) ≡ firstFailing (suc n + length us) vs
-unfolding firstFailing
-first-none n [] vs h = rw add-zero
-first-none n (true ∷ us) vs h =
-    let e : suc (suc n) + length us ≡ suc n + suc (length us) = omega arith in
-    rw e at (first-none (suc n) us vs h)
-first-none n (false ∷ us) vs h = absurd (omega arith)
-
--- one of the first rules fails: it decides
-first-some : (n : ℕ) (us vs : List Bool) → (firstFailing n us ≡ 0 → ⊥) → firstFailing n (us ++ vs) ≡ firstFailing n us
-unfolding firstFailing
-first-some n [] vs h = absurd (h refl)
-first-some n (true ∷ us) vs h = first-some (suc n) us vs h
-first-some n (false ∷ us) vs h = refl
-
--- no rule fails: each holds
-pub none-at : (n : ℕ) (us : List Bool) (i : ℕ) → firstFailing (suc n) us ≡ 0 → getD us i true ≡ true
-unfolding firstFailing
-none-at n [] i h = refl
-none-at n (true ∷ us) zero h = refl
-none-at n (true ∷ us) (suc i) h = none-at (suc n) us i h
-none-at n (false ∷ us) i h = absurd (omega arith)
 
 first-most : (n : ℕ) (us : List Bool) → firstFailing n us ≤ n + length us
 unfolding firstFailing
@@ -48,25 +25,25 @@ module _ (m : List ℕ) where
   -- a rule of the blocks fails
   pub blocks-refused : (firstFailing 1 (take 4 (rulesOf m)) ≡ 0 → ⊥) → firstFailing 1 (take 4 (rulesOf m)) ≡ refusalOf m
   unfolding refusalOf
-  blocks-refused h = sym (first-some 1 (take 4 (rulesOf m)) (drop 4 (rulesOf m)) h) ∙ ap (firstFailing 1) (take-append-drop 4 (rulesOf m))
+  blocks-refused h = sym (first-decides 1 (take 4 (rulesOf m)) (drop 4 (rulesOf m)) h) ∙ ap (firstFailing 1) (take-append-drop 4 (rulesOf m))
 
   -- the rules of the blocks hold
   module _ (h : firstFailing 1 (take 4 (rulesOf m)) ≡ 0) where
     pub blocks-passed : firstFailing 5 (drop 4 (rulesOf m)) ≡ refusalOf m
     unfolding refusalOf rulesOf
-    blocks-passed = sym (first-none 0 (take 4 (rulesOf m)) (drop 4 (rulesOf m)) h) ∙ ap (firstFailing 1) (take-append-drop 4 (rulesOf m))
+    blocks-passed = sym (later-decide 0 (take 4 (rulesOf m)) (drop 4 (rulesOf m)) h) ∙ ap (firstFailing 1) (take-append-drop 4 (rulesOf m))
 
     pub length-holds : lengthOk m ≡ true
     unfolding rulesOf
-    length-holds = none-at 0 (take 4 (rulesOf m)) 0 h
+    length-holds = none-fails 1 (take 4 (rulesOf m)) (lit< tt) h 0
 
     pub heads-hold : headsOk m ≡ true
     unfolding rulesOf
-    heads-hold = none-at 0 (take 4 (rulesOf m)) 2 h
+    heads-hold = none-fails 1 (take 4 (rulesOf m)) (lit< tt) h 2
 
     pub totals-hold : totalsOk (modelOf m) ≡ true
     unfolding rulesOf
-    totals-hold = none-at 0 (take 4 (rulesOf m)) 3 h
+    totals-hold = none-fails 1 (take 4 (rulesOf m)) (lit< tt) h 3
 
   pub refusal-most : refusalOf m ≤ 9
   unfolding refusalOf rulesOf
@@ -96,9 +73,9 @@ module _ (m index : List ℕ) where
         unfolding rulesOf firstFailing
         owners-fail d = record { refusal = rw (a, b, c, d); usable = λ z. absurd (omega arith) }
 
-        pub none-fails : ownersOk M ≡ true → DriversIn m index → Judged m index 0
+        pub all-hold : ownersOk M ≡ true → DriversIn m index → Judged m index 0
         unfolding rulesOf firstFailing
-        none-fails d i =
+        all-hold d i =
             let s = i .types .starts in
             record {
               refusal = rw (a, b, c, d);

@@ -5,7 +5,7 @@ use mathlib.Core.Logic.{⊎-elim}
 use Prim.Native.Nat.{ℕ, _^_, _≤_, _<_}
 use native.Mathlib.Omega.{arith}
 use borrow.Author.Tests.{ne-eqb, ltb-true, leb-true, eqb-true}
-use lib.Dec.{eqb, leb}
+use lib.Dec.{T, eqb, leb, lit≤}
 use lib.ListN.{length}
 use Rattle.base.proofs.Below.{every-at, all-at, among, and-left, and-right, split}
 use Rattle.model.specs.Records.{Model, processAt, statementAt}
@@ -50,6 +50,9 @@ module _ (M : Model) (n : ℕ) (s : StatementRecord) (ok : statementOk M n s ≡
       among (λ k. s .kind ≡ k → s .b < length (M .nodes)) 1 3 (s .kind)
       ((λ e. ltb-true _ _ (every-at _ 1 (rw e at ok))), ((λ e. ltb-true _ _ (every-at _ 1 (rw e at ok))), ((λ e. ltb-true _ _ (every-at _ 1 (rw e at ok))), tt)))
       l (omega arith) refl
+
+  pub value-at : (k : ℕ) → s .kind ≡ k → T (leb 1 k) → T (leb k 3) → s .b < length (M .nodes)
+  value-at k e l h = value-node (rw e (lit≤ l)) (rw e (lit≤ h))
 
   pub delay-node : s .kind ≡ 2 → s .c < length (M .nodes)
   unfolding statementOk

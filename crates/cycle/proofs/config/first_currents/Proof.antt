@@ -1,11 +1,10 @@
-use mathlib.Core.Path.{ap}
-use native.Mathlib.Omega.{arith}
+use mathlib.Core.Path.{ap, refl}
 use Rattle.model.specs.declared.records.SignalRecord.{SignalRecord}
-use borrow.Author.Needs.{needs}
-use Prim.Native.Nat.{_≤_, _<_, _-_}
+use Prim.Native.Nat.{_≤_, _-_, zero-le}
+use borrow.Author.Count.{falls}
 use Rattle.model.specs.Records.{modelOf}
 use Rattle.cycle.specs.Arrays.{driverStart}
-use Rattle.cycle.proofs.Arrays.{Filled, filled-none, filled-more, filled-all}
+use Rattle.cycle.proofs.Arrays.{Filled, filled-none, filled-more, filled-all, turn-there, turn-room, turn-fours, turn-next, turn-most}
 use Rattle.cycle.proofs.config.first_currents.Statement.{statement}
 use Rattle.cycle.proofs.config.first_currents.Tie as tie
 
@@ -16,38 +15,49 @@ abbrev μ-loop : tie.MeasureT-loop
 μ-loop m index n r₀ i₀ r i = n - i
 
 loop-holds : tie.Need-loop-holds Inv-loop μ-loop
-loop-holds c = search (needs, filled-none)
+loop-holds c = (zero-le, filled-none _ _ _ refl)
 
 driver-at-requires : tie.Need-driver-at-requires Inv-loop μ-loop
-driver-at-requires c κs = search needs
+driver-at-requires c κs =
+    let s = c .before .before .before in
+    (s .pre .0 .usable .starts, turn-there 64 _ _ _ (s .pre .1) (s .pre .0 .facts .totals .drivers) (c .loop-test .taken))
 
 signal-at-requires : tie.Need-signal-at-requires Inv-loop μ-loop
 signal-at-requires c κs =
-    let f = c .before .before .before .before .pre .0 .facts .driver (c .before .before .loop .i) (omega arith) .signal in
-    (search needs, rw (c .driver-at .ensures) f)
+    let t = c .before in
+    let s = t .before .before .before in
+    let r = s .pre .0 in
+    (r .usable .starts, rw (c .driver-at .ensures) (r .facts .driver (t .before .loop .i) (turn-there 64 _ _ _ (s .pre .1) (r .facts .totals .drivers) (t .loop-test .taken)) .signal))
 
 mul-r : tie.Need-mul-r Inv-loop μ-loop
-mul-r c = search needs
+mul-r c =
+    let t = c .before .before in
+    let s = t .before .before .before in
+    turn-fours 64 _ _ _ (s .pre .1) (s .pre .0 .facts .totals .drivers) (t .loop-test .taken) tt
 
 array-write-r : tie.Need-array-write-r Inv-loop μ-loop
-array-write-r c = search needs
+array-write-r c =
+    let t = c .before .before in
+    let s = t .before .before .before in
+    turn-room 64 _ _ _ (s .pre .1) (s .pre .0 .facts .totals .drivers) (t .loop-test .taken)
 
 add-i : tie.Need-add-i Inv-loop μ-loop
-add-i c = search needs
+add-i c =
+    let t = c .before .before in
+    let s = t .before .before .before in
+    turn-next 64 _ _ _ (s .pre .1) (s .pre .0 .facts .totals .drivers) (t .loop-test .taken) tt
 
 loop-less : tie.Need-loop-less Inv-loop μ-loop
-loop-less c = search needs
+loop-less c = falls _ _ (c .before .before .loop-test .taken)
 
 loop-again : tie.Need-loop-again Inv-loop μ-loop
 loop-again c =
-    let i = c .before .before .before .loop .i in
-    let h : i < 64 = omega arith in
-    let d = c .before .driver-at .ensures in
-    let s = c .signal-at .ensures in
-    (search needs, filled-more _ _ _ _ _ h (ap (λ (s : SignalRecord). s .start) (rw d at s)) (c .before .before .before .loop .inv .1))
+    let t = c .before .before in
+    let s = t .before .before .before in
+    (turn-most _ _ (t .loop-test .taken), filled-more _ _ _ _ _ (turn-room 64 _ _ _ (s .pre .1) (s .pre .0 .facts .totals .drivers) (t .loop-test .taken)) (ap (λ (s : SignalRecord). s .start) (rw (c .before .driver-at .ensures) at (c .signal-at .ensures))) (t .before .loop .inv .1))
 
 returns : tie.Need-returns Inv-loop μ-loop
-returns c = search (needs, filled-all)
+returns c = filled-all _ _ _ _ _ (c .loop-test .left) (c .before .loop .inv .1)
 
 pub first-currents-spec : {M : Type 1} → statement M
 first-currents-spec =

@@ -1,9 +1,9 @@
-use borrow.Author.Needs.{needs}
-use Prim.Native.Nat.{_≤_, _<_, _-_}
-use native.Mathlib.Omega.{arith}
+use mathlib.Core.Path.{refl}
+use Prim.Native.Nat.{_≤_, _-_, zero-le}
+use borrow.Author.Count.{falls}
 use Rattle.model.specs.Records.{modelOf}
 use Rattle.cycle.specs.Arrays.{firstValue}
-use Rattle.cycle.proofs.Arrays.{Filled, filled-none, filled-more, filled-all}
+use Rattle.cycle.proofs.Arrays.{Filled, filled-none, filled-more, filled-all, turn-there, turn-room, turn-fours, turn-next, turn-most}
 use Rattle.cycle.proofs.config.first_values.Statement.{statement}
 use Rattle.cycle.proofs.config.first_values.Tie as tie
 
@@ -14,35 +14,45 @@ abbrev μ-loop : tie.MeasureT-loop
 μ-loop m index currents nd n r₀ i₀ r i = n - i
 
 loop-holds : tie.Need-loop-holds Inv-loop μ-loop
-loop-holds c = search (needs, filled-none)
+loop-holds c = (zero-le, filled-none _ _ _ refl)
 
 signal-at-requires : tie.Need-signal-at-requires Inv-loop μ-loop
-signal-at-requires c κs = search needs
+signal-at-requires c κs =
+    let s = c .before .before .before in
+    (s .pre .0 .usable .starts, turn-there 32 _ _ _ (s .pre .1 .1) (s .pre .0 .facts .totals .signals) (c .loop-test .taken))
 
 resolved-requires : tie.Need-resolved-requires Inv-loop μ-loop
-resolved-requires c κs = search needs
+resolved-requires c κs = let p = c .before .before .before .before .pre in (p .0, p .1 .0)
 
 mul-r : tie.Need-mul-r Inv-loop μ-loop
-mul-r c = search needs
+mul-r c =
+    let t = c .before .before in
+    let s = t .before .before .before in
+    turn-fours 32 _ _ _ (s .pre .1 .1) (s .pre .0 .facts .totals .signals) (t .loop-test .taken) tt
 
 array-write-r : tie.Need-array-write-r Inv-loop μ-loop
-array-write-r c = search needs
+array-write-r c =
+    let t = c .before .before in
+    let s = t .before .before .before in
+    turn-room 32 _ _ _ (s .pre .1 .1) (s .pre .0 .facts .totals .signals) (t .loop-test .taken)
 
 add-i : tie.Need-add-i Inv-loop μ-loop
-add-i c = search needs
+add-i c =
+    let t = c .before .before in
+    let s = t .before .before .before in
+    turn-next 32 _ _ _ (s .pre .1 .1) (s .pre .0 .facts .totals .signals) (t .loop-test .taken) tt
 
 loop-less : tie.Need-loop-less Inv-loop μ-loop
-loop-less c = search needs
+loop-less c = falls _ _ (c .before .before .loop-test .taken)
 
 loop-again : tie.Need-loop-again Inv-loop μ-loop
 loop-again c =
-    let i = c .before .before .before .loop .i in
-    let h : i < 32 = omega arith in
-    let s = c .before .signal-at .ensures in
-    (search needs, filled-more _ _ _ _ _ h (rw s at (c .resolved .ensures)) (c .before .before .before .loop .inv .1))
+    let t = c .before .before in
+    let s = t .before .before .before in
+    (turn-most _ _ (t .loop-test .taken), filled-more _ _ _ _ _ (turn-room 32 _ _ _ (s .pre .1 .1) (s .pre .0 .facts .totals .signals) (t .loop-test .taken)) (rw (c .before .signal-at .ensures) at (c .resolved .ensures)) (t .before .loop .inv .1))
 
 returns : tie.Need-returns Inv-loop μ-loop
-returns c = search (needs, filled-all)
+returns c = filled-all _ _ _ _ _ (c .loop-test .left) (c .before .loop .inv .1)
 
 pub first-values-spec : {M : Type 1} → statement M
 first-values-spec =

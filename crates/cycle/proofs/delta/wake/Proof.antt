@@ -1,8 +1,14 @@
 -- `wake`: the processes passed are those after the step, the others as they were. Assumes nothing.
-use Prim.Native.Nat.{_≤_, _-_}
-use borrow.Author.Needs.{needs}
+use Prim.Native.Nat.{_+_, _*_, _-_, _≤_, _<_, zero-le}
+use borrow.Author.Count.{falls}
+use borrow.Author.Needs.{length-unmapped}
+use denote.Ref.{now}
+use lib.ListN.{length}
+use mir.Syntax.{w64}
+use mir.Val.{Fits}
 use Rattle.model.specs.Records.{modelOf}
 use Rattle.cycle.specs.View.{arrays}
+use Rattle.cycle.proofs.Arrays.{turn-there, turn-room, turn-fours, turn-eights, turn-next, turn-most}
 use Rattle.cycle.proofs.DeltaProcesses.{Waking, waking-none, waking-fine, waking-more, waking-all}
 use Rattle.cycle.proofs.delta.wake.Statement.{statement}
 use Rattle.cycle.proofs.delta.wake.Tie as tie
@@ -13,6 +19,23 @@ Inv-loop m index variables signals changed time np ps₀ p₀ ps p = (p ≤ np) 
 abbrev μ-loop : tie.MeasureT-loop
 μ-loop m index variables signals changed time np ps₀ p₀ ps p = np - p
 
+-- the process is there, and one of 16
+module _ (c : tie.In-loop Inv-loop μ-loop) where
+  there : c .before .loop .p < length (modelOf (now (c .before .before .before .args .m)) .processes)
+  there = let s = c .before .before .before in turn-there 16 _ _ _ (s .pre .1 .0) (s .pre .0 .facts .totals .processes) (c .loop-test .taken)
+
+  small : c .before .loop .p < 16
+  small = let s = c .before .before .before in turn-room 16 _ _ _ (s .pre .1 .0) (s .pre .0 .facts .totals .processes) (c .loop-test .taken)
+
+  eights : Fits w64 (c .before .loop .p * 8)
+  eights = let s = c .before .before .before in turn-eights 16 _ _ _ (s .pre .1 .0) (s .pre .0 .facts .totals .processes) (c .loop-test .taken) tt
+
+  fours : Fits w64 (c .before .loop .p * 4)
+  fours = let s = c .before .before .before in turn-fours 16 _ _ _ (s .pre .1 .0) (s .pre .0 .facts .totals .processes) (c .loop-test .taken) tt
+
+  next : Fits w64 (c .before .loop .p + 1)
+  next = let s = c .before .before .before in turn-next 16 _ _ _ (s .pre .1 .0) (s .pre .0 .facts .totals .processes) (c .loop-test .taken) tt
+
 pub wake-spec : {M : Type 1} → statement M
 wake-spec =
     tie.close
@@ -20,53 +43,53 @@ wake-spec =
     Inv-loop
     μ-loop
     -- loop-holds
-    (λ c. (search needs, waking-none _ _ _ _ _ (record { places = search needs; standings = search needs; deadlines = search needs; faults = search needs })))
+    (λ c. (zero-le, waking-none _ _ _ _ _ (record { places = search (length-unmapped); standings = search (length-unmapped); deadlines = search (length-unmapped); faults = search (length-unmapped) })))
     -- mul-ps
-    (λ c. search needs)
+    (λ c. eights c)
     -- element-copy-out-ps
-    (λ c. search needs)
+    (λ c. small c)
     -- mul-t18
-    (λ c. search needs)
+    (λ c. eights (c .before))
     -- element-copy-out-t21
-    (λ c. search needs)
+    (λ c. small (c .before))
     -- mul-t22
-    (λ c. search needs)
+    (λ c. eights (c .before .before))
     -- element-copy-out-t25
-    (λ c. search needs)
+    (λ c. small (c .before .before))
     -- mul-t26
-    (λ c. search needs)
+    (λ c. fours (c .before .before .before))
     -- element-copy-out-t29
-    (λ c. search needs)
+    (λ c. small (c .before .before .before))
     -- after-delta-requires
     (λ c κs.
     let test = c .before .before .before .before .loop-test in
     let head = c .before .before .before .before .before .loop in
     let start = c .before .before .before .before .before .before .before in
-    (start .pre .0, (search needs, (start .pre .1 .1 .0, waking-fine _ _ _ _ _ _ _ _ (test .taken) (start .pre .1 .1 .1) (head .inv .1)))))
+    (start .pre .0, (there (c .before .before .before .before), (start .pre .1 .1 .0, waking-fine _ _ _ _ _ _ _ _ (test .taken) (start .pre .1 .1 .1) (head .inv .1)))))
     -- mul-ps-2
-    (λ c. search needs)
+    (λ c. eights (c .before .before .before .before .before))
     -- element-write-ps
-    (λ c. search needs)
+    (λ c. small (c .before .before .before .before .before))
     -- mul-ps-3
-    (λ c. search needs)
+    (λ c. eights (c .before .before .before .before .before))
     -- element-write-ps-2
-    (λ c. search needs)
+    (λ c. small (c .before .before .before .before .before))
     -- mul-ps-4
-    (λ c. search needs)
+    (λ c. eights (c .before .before .before .before .before))
     -- element-write-ps-3
-    (λ c. search needs)
+    (λ c. small (c .before .before .before .before .before))
     -- mul-ps-5
-    (λ c. search needs)
+    (λ c. fours (c .before .before .before .before .before))
     -- element-write-ps-4
-    (λ c. search needs)
+    (λ c. small (c .before .before .before .before .before))
     -- add-p
-    (λ c. search needs)
+    (λ c. next (c .before .before .before .before .before))
     -- loop-less
-    (λ c. search needs)
+    (λ c. falls _ _ (c .before .before .before .before .before .loop-test .taken))
     -- loop-again
     (λ c.
     let head = c .before .before .before .before .before .before .loop in
-    (search needs, waking-more _ _ _ _ _ _ _ _ (search needs) (c .after-delta .ensures) (head .inv .1)))
+    (turn-most _ _ (c .before .before .before .before .before .loop-test .taken), waking-more _ _ _ _ _ _ _ _ (small (c .before .before .before .before .before)) (c .after-delta .ensures) (head .inv .1)))
     -- returns
     (λ c.
     let head = c .before .loop in

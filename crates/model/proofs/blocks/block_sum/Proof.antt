@@ -1,11 +1,13 @@
 use mathlib.Core.Path.{_≡_, sym}
-use Prim.Native.Nat.{_+_, _*_, _-_, _≤_}
-use native.Mathlib.Omega.{arith}
+use Prim.Native.Nat.{_+_, _*_, _-_, _≤_, zero-le}
+use native.Mathlib.Nat.{le-antisymm}
+use borrow.Author.Count.{falls}
+use borrow.Author.Needs.{needs}
 use Rattle.base.specs.Below.{sumBelow}
 use Rattle.base.specs.Bytes.{wordAt}
-use Rattle.base.proofs.Below.{sum-none, sum-more}
+use Rattle.base.proofs.Below.{sum-none}
 use Rattle.model.specs.Blocks.{blockSum}
-use borrow.Author.Needs.{needs}
+use Rattle.model.proofs.Counting.{next-most, sum-turn}
 use Rattle.model.proofs.blocks.block_sum.Statement.{statement}
 use Rattle.model.proofs.blocks.block_sum.Tie as tie
 
@@ -16,7 +18,7 @@ abbrev μ-loop : tie.MeasureT-loop
 μ-loop m b sum₀ i₀ sum i = 256 - i
 
 loop-holds : tie.Need-loop-holds Inv-loop μ-loop
-loop-holds c = (search needs, search needs, sym (sum-none _))
+loop-holds c = (zero-le, zero-le, sym (sum-none _))
 
 mul-word : tie.Need-mul-word Inv-loop μ-loop
 mul-word c = search needs
@@ -37,14 +39,14 @@ add-i : tie.Need-add-i Inv-loop μ-loop
 add-i c = search needs
 
 loop-less : tie.Need-loop-less Inv-loop μ-loop
-loop-less c = search needs
+loop-less c = falls _ _ (c .before .loop-test .taken)
 
 loop-again : tie.Need-loop-again Inv-loop μ-loop
-loop-again c = (search needs, search needs, rw sum-more (cc (c .word .ensures .value)))
+loop-again c = (next-most _ _ (c .before .loop-test .taken), search needs, sum-turn _ _ _ _ (c .before .before .loop .inv .2) (c .word .ensures .value))
 
 returns : tie.Need-returns Inv-loop μ-loop
 unfolding blockSum
-returns c = let e : c .before .loop .i ≡ 256 = omega arith in rw e at (c .before .loop .inv .2)
+returns c = let l = c .before .loop in rw (le-antisymm (l .inv .0) (c .loop-test .left)) at (l .inv .2)
 
 pub block-sum-spec : {M : Type 1} → statement M
 block-sum-spec =

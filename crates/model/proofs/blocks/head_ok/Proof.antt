@@ -1,6 +1,5 @@
-use Rattle.base.specs.Below.{every}
-use Rattle.model.specs.Blocks.{headOk}
 use borrow.Author.Needs.{needs}
+use Rattle.model.proofs.BlockForms.{head-form}
 use Rattle.model.proofs.blocks.head_ok.Statement.{statement}
 use Rattle.model.proofs.blocks.head_ok.Tie as tie
 
@@ -38,8 +37,10 @@ trailing-ok-requires : tie.Need-trailing-ok-requires
 trailing-ok-requires c κs = search needs
 
 returns : tie.Need-returns
-unfolding headOk every
-returns c = cc
+returns c =
+    let k = c .before .before in
+    let w = k .before .before in
+    head-form _ _ (w .before .byte .ensures) (w .word .ensures) (k .before .byte2 .ensures) (k .before2 .ensures) (c .before .byte3 .ensures) (c .trailing-ok .ensures)
 
 pub head-ok-spec : {M : Type 1} → statement M
 head-ok-spec =

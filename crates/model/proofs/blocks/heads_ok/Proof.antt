@@ -1,10 +1,11 @@
-use mathlib.Core.Path.{_≡_, sym, ap, _∙_}
-use Prim.Native.Nat.{_-_, _≤_}
+use mathlib.Core.Path.{_≡_, ap, _∙_}
+use Prim.Native.Nat.{_-_, _≤_, zero-le}
 use native.Mathlib.Nat.{le-antisymm}
-use Rattle.base.specs.Below.{allBelow}
-use Rattle.base.proofs.Below.{all-none, all-next}
-use Rattle.model.specs.Blocks.{headOk, headsOk}
+use borrow.Author.Count.{falls}
 use borrow.Author.Needs.{needs}
+use Rattle.base.specs.Below.{allBelow}
+use Rattle.model.specs.Blocks.{headOk, headsOk}
+use Rattle.model.proofs.Counting.{next-most, all-begun, all-turn}
 use Rattle.model.proofs.blocks.heads_ok.Statement.{statement}
 use Rattle.model.proofs.blocks.heads_ok.Tie as tie
 
@@ -15,7 +16,7 @@ abbrev μ-loop : tie.MeasureT-loop
 μ-loop m blocks ok₀ b₀ ok b = blocks - b
 
 loop-holds : tie.Need-loop-holds Inv-loop μ-loop
-loop-holds c = (search needs, sym (all-none _))
+loop-holds c = (zero-le, all-begun _)
 
 head-ok-requires : tie.Need-head-ok-requires Inv-loop μ-loop
 head-ok-requires c κs = search needs
@@ -24,10 +25,10 @@ add-b : tie.Need-add-b Inv-loop μ-loop
 add-b c = search needs
 
 loop-less : tie.Need-loop-less Inv-loop μ-loop
-loop-less c = search needs
+loop-less c = falls _ _ (c .before .loop-test .taken)
 
 loop-again : tie.Need-loop-again Inv-loop μ-loop
-loop-again c = (search needs, rw (all-next, ← c .before .before .loop .inv .1, ← c .head-ok .ensures))
+loop-again c = (next-most _ _ (c .before .loop-test .taken), all-turn _ _ _ _ (c .before .before .loop .inv .1) (c .head-ok .ensures))
 
 returns : tie.Need-returns Inv-loop μ-loop
 unfolding headsOk

@@ -1,10 +1,12 @@
 use mathlib.Core.Path.{_≡_, sym, ap, _∙_}
-use Prim.Native.Nat.{_*_, _-_, _≤_}
+use Prim.Native.Nat.{_*_, _-_, _≤_, zero-le}
 use native.Mathlib.Nat.{le-antisymm}
-use Rattle.base.specs.Below.{sumBelow}
-use Rattle.base.proofs.Below.{sum-none, sum-more}
-use Rattle.model.specs.Blocks.{countIn, totalOf}
+use borrow.Author.Count.{falls}
 use borrow.Author.Needs.{needs}
+use Rattle.base.specs.Below.{sumBelow}
+use Rattle.base.proofs.Below.{sum-none}
+use Rattle.model.specs.Blocks.{countIn, totalOf}
+use Rattle.model.proofs.Counting.{next-most, sum-turn}
 use Rattle.model.proofs.blocks.total.Statement.{statement}
 use Rattle.model.proofs.blocks.total.Tie as tie
 
@@ -15,7 +17,7 @@ abbrev μ-loop : tie.MeasureT-loop
 μ-loop m kind blocks n₀ b₀ n b = blocks - b
 
 loop-holds : tie.Need-loop-holds Inv-loop μ-loop
-loop-holds c = (search needs, search needs, sym (sum-none _))
+loop-holds c = (zero-le, zero-le, sym (sum-none _))
 
 count-in-requires : tie.Need-count-in-requires Inv-loop μ-loop
 count-in-requires c κs = search needs
@@ -27,10 +29,10 @@ add-b : tie.Need-add-b Inv-loop μ-loop
 add-b c = search needs
 
 loop-less : tie.Need-loop-less Inv-loop μ-loop
-loop-less c = search needs
+loop-less c = falls _ _ (c .before .loop-test .taken)
 
 loop-again : tie.Need-loop-again Inv-loop μ-loop
-loop-again c = (search needs, search needs, rw sum-more (cc))
+loop-again c = (next-most _ _ (c .before .loop-test .taken), search needs, sum-turn _ _ _ _ (c .before .before .loop .inv .2) (c .count-in .ensures .value))
 
 returns : tie.Need-returns Inv-loop μ-loop
 unfolding totalOf

@@ -1,26 +1,25 @@
 use mathlib.Core.Path.{sym, _∙_}
 use Rattle.model.proofs.Lookup.{signals-length, variables-length, processes-length, drivers-length, nodes-length, statements-length}
-use borrow.Author.Needs.{needs}
 use Rattle.model.proofs.blocks.totals.Statement.{statement}
 use Rattle.model.proofs.blocks.totals.Tie as tie
 
 total-requires : tie.Need-total-requires
-total-requires c κs = search needs
+total-requires c κs = tt
 
 total-requires-2 : tie.Need-total-requires-2
-total-requires-2 c κs = search needs
+total-requires-2 c κs = tt
 
 total-requires-3 : tie.Need-total-requires-3
-total-requires-3 c κs = search needs
+total-requires-3 c κs = tt
 
 total-requires-4 : tie.Need-total-requires-4
-total-requires-4 c κs = search needs
+total-requires-4 c κs = tt
 
 total-requires-5 : tie.Need-total-requires-5
-total-requires-5 c κs = search needs
+total-requires-5 c κs = tt
 
 total-requires-6 : tie.Need-total-requires-6
-total-requires-6 c κs = search needs
+total-requires-6 c κs = tt
 
 returns : tie.Need-returns
 returns c =

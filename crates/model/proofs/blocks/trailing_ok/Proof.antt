@@ -1,10 +1,12 @@
-use mathlib.Core.Path.{_≡_, sym}
-use Prim.Native.Nat.{_-_, _≤_}
-use native.Mathlib.Omega.{arith}
-use Rattle.base.specs.Below.{allBelow}
-use Rattle.base.proofs.Below.{all-none, all-next}
-use Rattle.model.specs.Blocks.{trailingAt, trailingOk}
+use mathlib.Core.Path.{_≡_}
+use Prim.Native.Nat.{_-_, _≤_, zero-le}
+use native.Mathlib.Nat.{le-antisymm}
+use borrow.Author.Count.{falls}
 use borrow.Author.Needs.{needs}
+use Rattle.base.specs.Below.{allBelow}
+use Rattle.model.specs.Blocks.{trailingAt, trailingOk}
+use Rattle.model.proofs.BlockForms.{trailing-form}
+use Rattle.model.proofs.Counting.{next-most, all-begun, all-turn}
 use Rattle.model.proofs.blocks.trailing_ok.Statement.{statement}
 use Rattle.model.proofs.blocks.trailing_ok.Tie as tie
 
@@ -30,7 +32,7 @@ add-end : tie.Need-add-end Inv-loop μ-loop
 add-end c = search needs
 
 loop-holds : tie.Need-loop-holds Inv-loop μ-loop
-loop-holds c = (search needs, sym (all-none _))
+loop-holds c = (zero-le, all-begun _)
 
 mul-byte-2 : tie.Need-mul-byte-2 Inv-loop μ-loop
 mul-byte-2 c = search needs
@@ -45,15 +47,16 @@ add-i : tie.Need-add-i Inv-loop μ-loop
 add-i c = search needs
 
 loop-less : tie.Need-loop-less Inv-loop μ-loop
-loop-less c = search needs
+loop-less c = falls _ _ (c .before .loop-test .taken)
 
 loop-again : tie.Need-loop-again Inv-loop μ-loop
-unfolding trailingAt
-loop-again c = (search needs, rw all-next (cc))
+loop-again c =
+    let l = c .before .before in
+    (next-most _ _ (c .before .loop-test .taken), all-turn _ _ _ _ (l .loop .inv .1) (trailing-form _ _ _ _ _ (l .before .byte .ensures) (c .byte2 .ensures)))
 
 returns : tie.Need-returns Inv-loop μ-loop
 unfolding trailingOk
-returns c = let e : c .before .loop .i ≡ 510 = omega arith in rw e at (c .before .loop .inv .1)
+returns c = let l = c .before .loop in rw (le-antisymm (l .inv .0) (c .loop-test .left)) at (l .inv .1)
 
 pub trailing-ok-spec : {M : Type 1} → statement M
 trailing-ok-spec =

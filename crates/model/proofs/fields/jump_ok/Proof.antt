@@ -1,19 +1,24 @@
-use mathlib.Core.Path.{sym}
+use mathlib.Core.Path.{sym, ap, _∙_}
+use denote.Ref.{now}
+use Rattle.model.specs.Records.{modelOf}
+use Rattle.model.specs.Fields.{inSpan}
+use Rattle.model.proofs.Counting.{below-total}
 use Rattle.model.proofs.FieldLaws.{no-span}
-use borrow.Author.Needs.{needs}
 use Rattle.model.proofs.fields.jump_ok.Statement.{statement}
 use Rattle.model.proofs.fields.jump_ok.Tie as tie
 
 owner-of-requires : tie.Need-owner-of-requires
-owner-of-requires c κs = search needs
+owner-of-requires c κs = c .before .pre
 
 in-span-requires : tie.Need-in-span-requires
 in-span-requires c κs =
-    let a = c .before .before .before .before in
-    (a .pre .0, rw (a .pre .1 .processes) at (c .if1 .taken))
+    let s = c .before .before .before .before in
+    (s .pre .0, below-total _ _ _ (s .pre .1 .processes) (c .if1 .taken))
 
 returns : tie.Need-returns
-returns c = cc
+returns c =
+    let o = c .before .before .before in
+    c .in-span .ensures ∙ ap (λ p. inSpan (modelOf (now (o .before .before .args .m))) p (o .before .before .args .a)) (o .owner-of .ensures)
 
 returns-2 : tie.Need-returns-2
 returns-2 c =

@@ -1,42 +1,48 @@
 use mathlib.Core.Path.{_≡_}
-use mathlib.Core.Logic.{⊎-elim, inl, inr}
+use mathlib.Core.Logic.{inl, inr}
 use native.Mathlib.Omega.{arith}
 use Rattle.base.specs.Below.{every}
 use Rattle.model.specs.Fields.{nodeOk}
 use Rattle.model.proofs.FieldLaws.{node-binary, node-past, at-least-seven}
-use borrow.Author.Needs.{needs}
+use Rattle.model.proofs.FieldForms.{integer-form, logic-form, variable-node, signal-node, past-node, one-operand}
 use Rattle.model.proofs.fields.node_ok.Statement.{statement}
 use Rattle.model.proofs.fields.node_ok.Tie as tie
 
 value-ok-requires : tie.Need-value-ok-requires
-value-ok-requires c κs = search needs
+value-ok-requires c κs = tt
 
 value-ok-requires-2 : tie.Need-value-ok-requires-2
-value-ok-requires-2 c κs = search needs
+value-ok-requires-2 c κs = tt
 
 returns : tie.Need-returns
-unfolding nodeOk every
-returns c M h = rw (c .before .before .before .before .match .keys1) (cc)
+returns c M h =
+    let k = c .before .before .before .before in
+    integer-form M _ h (k .before .args .d) (k .match .keys1) _ (c .before .value-ok .ensures)
 
 returns-2 : tie.Need-returns-2
-unfolding nodeOk every
-returns-2 c M h = rw (c .before .before .before .before .match .keys2) (cc)
+returns-2 c M h =
+    let k = c .before .before .before .before in
+    logic-form M _ h (k .before .args .d) (k .match .keys2) _ (c .before .value-ok2 .ensures)
 
 returns-3 : tie.Need-returns-3
-unfolding nodeOk every
-returns-3 c M h = rw (c .before .before .before .before .before .match .keys3) (cc)
+returns-3 c M h =
+    let k = c .before .before .before .before .before in
+    variable-node M _ h (k .before .args .d) (k .match .keys3)
 
 returns-4 : tie.Need-returns-4
-unfolding nodeOk every
-returns-4 c M h = rw (c .before .before .before .before .before .match .keys4) (cc)
+returns-4 c M h =
+    let k = c .before .before .before .before .before in
+    signal-node M _ h (k .before .args .d) (k .match .keys4)
 
 returns-5 : tie.Need-returns-5
-unfolding nodeOk every
-returns-5 c M h = rw (c .before .before .before .before .before .match .keys5) (cc)
+returns-5 c M h =
+    let k = c .before .before .before .before .before in
+    past-node M _ h (k .before .args .d) (k .match .keys5)
 
 returns-6 : tie.Need-returns-6
-unfolding nodeOk every
-returns-6 c M h = ⊎-elim (λ e. rw e) (λ e. rw e) (c .before .before .before .match .keys6)
+returns-6 c M h =
+    let k = c .before .before .before in
+    one-operand M _ h (k .before .args .d) (k .match .keys6)
 
 returns-7 : tie.Need-returns-7
 returns-7 c M h =

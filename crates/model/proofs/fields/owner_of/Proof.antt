@@ -1,15 +1,15 @@
 use mathlib.Core.Path.{_≡_, sym, _∙_}
-use Prim.Native.Nat.{ℕ, _-_, _≤_, _<_}
 use mathlib.Core.Bool.{false}
+use Prim.Native.Nat.{ℕ, _-_, _≤_, _<_, zero-le}
 use native.Mathlib.Nat.{le-antisymm, not-suc-le-zero}
-use native.Mathlib.Omega.{arith}
-use borrow.Author.Count.{below-more}
+use borrow.Author.Count.{falls, below-more}
 use borrow.Author.Tests.{lt-ltb, le-ltb}
 use lib.Dec.{ltb}
 use Rattle.base.proofs.Course.{first-found, first-none}
 use Rattle.model.specs.Records.{modelOf}
 use Rattle.model.specs.Fields.{endOf, ownerOf}
-use borrow.Author.Needs.{needs}
+use Rattle.model.proofs.Counting.{below-total, next-fits, next-most}
+use Rattle.model.proofs.Lookup.{processes-most}
 use Rattle.model.proofs.fields.owner_of.Statement.{statement}
 use Rattle.model.proofs.fields.owner_of.Tie as tie
 
@@ -20,30 +20,33 @@ abbrev μ-loop : tie.MeasureT-loop
 μ-loop m index t n p₀ p = t .processes - p
 
 loop-holds : tie.Need-loop-holds Inv-loop μ-loop
-loop-holds c = (search needs, λ k h. absurd (not-suc-le-zero h))
+loop-holds c = (zero-le, λ k h. absurd (not-suc-le-zero h))
 
 end-of-requires : tie.Need-end-of-requires Inv-loop μ-loop
-end-of-requires c κs = search needs
+end-of-requires c κs = let s = c .before .before .before .before in (s .pre .0, below-total _ _ _ (s .pre .1 .processes) (c .if1 .taken))
 
 returns : tie.Need-returns Inv-loop μ-loop
 unfolding ownerOf
 returns c =
-    let head = c .before .before .before .before in
-    let s = head .before .before in
+    let d = c .before .before in
+    let l = d .before .before in
     sym
-    (first-found _ _ _ (omega (arith, s .pre .1 .processes)) (head .loop .inv .1)
+    (first-found _ _ _ (below-total _ _ _ (l .before .before .pre .1 .processes) (d .if1 .taken)) (l .loop .inv .1)
     (rw (c .before .end-of .ensures) at (lt-ltb _ _ (c .if2 .taken))))
 
 add-p : tie.Need-add-p Inv-loop μ-loop
-add-p c = search needs
+add-p c =
+    let d = c .before .before in
+    let s = d .before .before .before .before in
+    next-fits _ _ _ (s .pre .1 .processes) (d .if1 .taken) 16 (processes-most _ (s .pre .0 .totals)) tt
 
 loop-less : tie.Need-loop-less Inv-loop μ-loop
-loop-less c = search needs
+loop-less c = falls _ _ (c .before .before .if1 .taken)
 
 loop-again : tie.Need-loop-again Inv-loop μ-loop
 loop-again c =
-    let head = c .before .before .before .before in
-    (search needs, below-more _ _ (head .loop .inv .1) (rw (c .before .end-of .ensures) at (le-ltb _ _ (c .if2 .left))))
+    let d = c .before .before in
+    (next-most _ _ (d .if1 .taken), below-more _ _ (d .before .before .loop .inv .1) (rw (c .before .end-of .ensures) at (le-ltb _ _ (c .if2 .left))))
 
 returns-2 : tie.Need-returns-2 Inv-loop μ-loop
 unfolding ownerOf

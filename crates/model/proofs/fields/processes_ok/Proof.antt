@@ -1,11 +1,11 @@
-use mathlib.Core.Path.{_≡_, sym, ap, _∙_}
-use Prim.Native.Nat.{_-_, _≤_}
-use native.Mathlib.Nat.{le-antisymm}
+use mathlib.Core.Path.{_≡_}
+use Prim.Native.Nat.{_-_, _≤_, zero-le}
+use borrow.Author.Count.{falls}
 use Rattle.base.specs.Below.{allBelow}
-use Rattle.base.proofs.Below.{all-none, all-next}
 use Rattle.model.specs.Records.{modelOf}
 use Rattle.model.specs.Fields.{processOk}
-use borrow.Author.Needs.{needs}
+use Rattle.model.proofs.Counting.{below-total, next-fits, next-most, all-begun, all-turn, all-ended}
+use Rattle.model.proofs.Lookup.{processes-most}
 use Rattle.model.proofs.fields.processes_ok.Statement.{statement}
 use Rattle.model.proofs.fields.processes_ok.Tie as tie
 
@@ -16,24 +16,27 @@ abbrev μ-loop : tie.MeasureT-loop
 μ-loop m index t ok₀ p₀ ok p = t .processes - p
 
 loop-holds : tie.Need-loop-holds Inv-loop μ-loop
-loop-holds c = (search needs, sym (all-none _))
+loop-holds c = (zero-le, all-begun _)
 
 process-ok-requires : tie.Need-process-ok-requires Inv-loop μ-loop
-process-ok-requires c κs = search needs
+process-ok-requires c κs = let s = c .before .before .before .before in (s .pre .0, below-total _ _ _ (s .pre .1 .processes) (c .if1 .taken))
 
 add-p : tie.Need-add-p Inv-loop μ-loop
-add-p c = search needs
+add-p c =
+    let d = c .before in
+    let s = d .before .before .before .before in
+    next-fits _ _ _ (s .pre .1 .processes) (d .if1 .taken) 16 (processes-most _ (s .pre .0 .totals)) tt
 
 loop-less : tie.Need-loop-less Inv-loop μ-loop
-loop-less c = search needs
+loop-less c = falls _ _ (c .before .if1 .taken)
 
 loop-again : tie.Need-loop-again Inv-loop μ-loop
-loop-again c = (search needs, rw all-next (cc))
+loop-again c = (next-most _ _ (c .before .if1 .taken), all-turn _ _ _ _ (c .before .before .before .loop .inv .1) (c .process-ok .ensures))
 
 returns : tie.Need-returns Inv-loop μ-loop
 returns c =
-    let head = c .before .before in
-    head .loop .inv .1 ∙ ap (allBelow _) (le-antisymm (head .loop .inv .0) (c .if1 .left) ∙ head .before .before .pre .1 .processes)
+    let l = c .before .before in
+    all-ended _ _ _ _ _ (l .loop .inv .1) (l .loop .inv .0) (c .if1 .left) (l .before .before .pre .1 .processes)
 
 pub processes-ok-spec : {M : Type 1} → statement M
 processes-ok-spec =

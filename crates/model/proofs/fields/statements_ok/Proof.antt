@@ -1,11 +1,12 @@
-use mathlib.Core.Path.{_≡_, sym, ap, _∙_}
-use Prim.Native.Nat.{_-_, _≤_}
-use native.Mathlib.Nat.{le-antisymm}
+use mathlib.Core.Path.{_≡_, ap, _∙_}
+use Prim.Native.Nat.{_-_, _≤_, zero-le}
+use borrow.Author.Count.{falls}
+use denote.Ref.{now}
 use Rattle.base.specs.Below.{allBelow}
-use Rattle.base.proofs.Below.{all-none, all-next}
 use Rattle.model.specs.Records.{modelOf, statementAt}
 use Rattle.model.specs.Fields.{statementOk}
-use borrow.Author.Needs.{needs}
+use Rattle.model.proofs.Counting.{below-total, next-fits, next-most, all-begun, all-turn, all-ended}
+use Rattle.model.proofs.Lookup.{statements-most}
 use Rattle.model.proofs.fields.statements_ok.Statement.{statement}
 use Rattle.model.proofs.fields.statements_ok.Tie as tie
 
@@ -16,27 +17,34 @@ abbrev μ-loop : tie.MeasureT-loop
 μ-loop m index t ok₀ n₀ ok n = t .statements - n
 
 loop-holds : tie.Need-loop-holds Inv-loop μ-loop
-loop-holds c = (search needs, sym (all-none _))
+loop-holds c = (zero-le, all-begun _)
 
 statement-at-requires : tie.Need-statement-at-requires Inv-loop μ-loop
-statement-at-requires c κs = search needs
+statement-at-requires c κs = let s = c .before .before .before .before in (s .pre .0, below-total _ _ _ (s .pre .1 .statements) (c .if1 .taken))
 
 statement-ok-requires : tie.Need-statement-ok-requires Inv-loop μ-loop
-statement-ok-requires c κs = search needs
+statement-ok-requires c κs = let s = c .before .before .before .before .before in s .pre
 
 add-n : tie.Need-add-n Inv-loop μ-loop
-add-n c = search needs
+add-n c =
+    let d = c .before .before in
+    let s = d .before .before .before .before in
+    next-fits _ _ _ (s .pre .1 .statements) (d .if1 .taken) 200 (statements-most _ (s .pre .0 .totals)) tt
 
 loop-less : tie.Need-loop-less Inv-loop μ-loop
-loop-less c = search needs
+loop-less c = falls _ _ (c .before .before .if1 .taken)
 
 loop-again : tie.Need-loop-again Inv-loop μ-loop
-loop-again c = (search needs, rw all-next (cc))
+loop-again c =
+    let d = c .before .before in
+    let l = d .before .before in
+    let s = l .before .before in
+    (next-most _ _ (d .if1 .taken), all-turn _ _ _ _ (l .loop .inv .1) (c .statement-ok .ensures ∙ ap (statementOk (modelOf (now (s .args .m))) (l .loop .n)) (c .before .statement-at .ensures)))
 
 returns : tie.Need-returns Inv-loop μ-loop
 returns c =
-    let head = c .before .before in
-    head .loop .inv .1 ∙ ap (allBelow _) (le-antisymm (head .loop .inv .0) (c .if1 .left) ∙ head .before .before .pre .1 .statements)
+    let l = c .before .before in
+    all-ended _ _ _ _ _ (l .loop .inv .1) (l .loop .inv .0) (c .if1 .left) (l .before .before .pre .1 .statements)
 
 pub statements-ok-spec : {M : Type 1} → statement M
 statements-ok-spec =

@@ -1,15 +1,12 @@
-use Rattle.model.specs.Fields.{variableOk}
-use Rattle.base.specs.Below.{every}
-use borrow.Author.Needs.{needs}
+use Rattle.model.proofs.FieldForms.{variable-form}
 use Rattle.model.proofs.fields.variable_ok.Statement.{statement}
 use Rattle.model.proofs.fields.variable_ok.Tie as tie
 
 value-ok-requires : tie.Need-value-ok-requires
-value-ok-requires c κs = search needs
+value-ok-requires c κs = tt
 
 returns : tie.Need-returns
-unfolding variableOk every
-returns c M h = cc
+returns c M h = let v = c .before .before .before in variable-form M _ h (v .before .args .d) _ (v .value-ok .ensures)
 
 pub variable-ok-spec : {M : Type 1} → statement M
 variable-ok-spec = tie.close (tie.spec value-ok-requires returns)

@@ -4,22 +4,23 @@ use native.Mathlib.Omega.{arith}
 use lib.ListN.{length}
 use Rattle.model.specs.Records.{modelOf, variableOf}
 use Rattle.model.specs.Index.{sectionOf}
+use Rattle.model.proofs.Entries.{entry-place, entry-fits, entry-scaled}
 use Rattle.model.proofs.Lookup.{variables-length, variables-most, inside, recorded}
 use borrow.Author.Needs.{needs}
 use Rattle.model.proofs.index.variable_at.Statement.{statement}
 use Rattle.model.proofs.index.variable_at.Tie as tie
 
 add-wide : tie.Need-add-wide
-add-wide c = omega (arith, variables-most _ (c .before .pre .0 .totals))
+add-wide c = let p = c .before .pre in entry-fits 32 64 tt _ _ (p .1) (variables-most _ (p .0 .totals))
 
 mul-wide : tie.Need-mul-wide
-mul-wide c = omega (arith, variables-most _ (c .before .pre .0 .totals))
+mul-wide c = let p = c .before .pre in entry-scaled 32 64 tt _ _ (p .1) (variables-most _ (p .0 .totals))
 
 element-copy-out-wide : tie.Need-element-copy-out-wide
-element-copy-out-wide c = omega (arith, variables-most _ (c .before .pre .0 .totals))
+element-copy-out-wide c = let p = c .before .pre in entry-place 32 64 tt _ _ (p .1) (variables-most _ (p .0 .totals))
 
 wide-requires : tie.Need-wide-requires
-wide-requires c κs = search needs
+wide-requires c κs = tt
 
 -- the record lies within the model
 within : (c : tie.After-wide) → c .wide .result + 12 ≤ length (c .before .before .before .args .m .now)

@@ -4,12 +4,11 @@ use mathlib.Core.Bool.{true}
 use Rattle.base.specs.Below.{firstFailing}
 use Rattle.model.specs.Blocks.{lengthOk, sumsOk, headsOk}
 use Rattle.model.specs.Owners.{rulesOf}
-use borrow.Author.Needs.{needs}
 use Rattle.model.proofs.load.blocks_refusal.Statement.{statement}
 use Rattle.model.proofs.load.blocks_refusal.Tie as tie
 
 length-ok-requires : tie.Need-length-ok-requires
-length-ok-requires c κs = search needs
+length-ok-requires c κs = tt
 
 returns : tie.Need-returns
 unfolding rulesOf firstFailing
@@ -29,21 +28,21 @@ third : (c : tie.Else3) → headsOk (start (c .before .before .before .before) .
 third c = sym (c .before .heads-ok .ensures) ∙ not-false _ (c .if3 .left)
 
 sums-ok-requires : tie.Need-sums-ok-requires
-sums-ok-requires c κs = search needs
+sums-ok-requires c κs = tt
 
 returns-2 : tie.Need-returns-2
 unfolding rulesOf firstFailing
 returns-2 c = rw (first (c .before .before), sym (c .before .sums-ok .ensures) ∙ not-true _ (c .if2 .taken))
 
 heads-ok-requires : tie.Need-heads-ok-requires
-heads-ok-requires c κs = search needs
+heads-ok-requires c κs = tt
 
 returns-3 : tie.Need-returns-3
 unfolding rulesOf firstFailing
 returns-3 c = let c2 = c .before .before in rw (first (c2 .before .before), second c2, sym (c .before .heads-ok .ensures) ∙ not-true _ (c .if3 .taken))
 
 totals-ok-requires : tie.Need-totals-ok-requires
-totals-ok-requires c κs = search needs
+totals-ok-requires c κs = tt
 
 returns-4 : tie.Need-returns-4
 unfolding rulesOf firstFailing

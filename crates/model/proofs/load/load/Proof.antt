@@ -8,10 +8,10 @@ use Rattle.model.proofs.load.load.Statement.{statement}
 use Rattle.model.proofs.load.load.Tie as tie
 
 totals-requires : tie.Need-totals-requires
-totals-requires c κs = search needs
+totals-requires c κs = tt
 
 blocks-refusal-requires : tie.Need-blocks-refusal-requires
-blocks-refusal-requires c κs = search needs
+blocks-refusal-requires c κs = c .totals .ensures
 
 slice-aggregate-put-index : tie.Need-slice-aggregate-put-index
 slice-aggregate-put-index c = search needs

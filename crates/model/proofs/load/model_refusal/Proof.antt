@@ -1,16 +1,15 @@
 use mathlib.Core.Path.{_≡_, sym, _∙_}
 use mathlib.Core.Bool.{true}
-use borrow.Author.Needs.{needs}
 use borrow.Author.Tests.{not-true, not-false}
 use Rattle.model.specs.Records.{modelOf}
 use Rattle.model.specs.Fields.{fieldsOk}
 use Rattle.model.specs.Trees.{treesOk, typesOk}
-use Rattle.model.proofs.Rules.{fields-fail, trees-fail, types-fail, owners-fail, none-fails}
+use Rattle.model.proofs.Rules.{fields-fail, trees-fail, types-fail, owners-fail, all-hold}
 use Rattle.model.proofs.load.model_refusal.Statement.{statement}
 use Rattle.model.proofs.load.model_refusal.Tie as tie
 
 fields-ok-requires : tie.Need-fields-ok-requires
-fields-ok-requires c κs = search needs
+fields-ok-requires c κs = c .before .before .pre .1
 
 returns : tie.Need-returns
 returns c = fields-fail _ _ (sym (c .before .fields-ok .ensures) ∙ not-true _ (c .if1 .taken))
@@ -19,7 +18,7 @@ fields : (c : tie.Else1) → fieldsOk (modelOf (c .before .before .before .befor
 fields c = sym (c .before .fields-ok .ensures) ∙ not-false _ (c .if1 .left)
 
 trees-ok-requires : tie.Need-trees-ok-requires
-trees-ok-requires c κs = search needs
+trees-ok-requires c κs = c .before .before .before .before .before .pre .1
 
 returns-2 : tie.Need-returns-2
 returns-2 c = trees-fail _ _ (fields (c .before .before .before)) (sym (c .before .trees-ok .ensures) ∙ not-true _ (c .if2 .taken))
@@ -59,7 +58,7 @@ returns-5 : tie.Need-returns-5
 returns-5 c =
     let c3 = c .before .before .before in
     let c2 = c3 .before .before .before in
-    none-fails _ _ (fields (c2 .before .before .before)) (trees c2) (types c3) (sym (c .before .owners-ok .ensures .0) ∙ not-false _ (c .if4 .left)) (c .before .owners-ok .ensures .1)
+    all-hold _ _ (fields (c2 .before .before .before)) (trees c2) (types c3) (sym (c .before .owners-ok .ensures .0) ∙ not-false _ (c .if4 .left)) (c .before .owners-ok .ensures .1)
 
 pub model-refusal-spec : {M : Type 1} → statement M
 model-refusal-spec =

@@ -1,14 +1,14 @@
 use mathlib.Core.Path.{_≡_, sym, _∙_}
 use mathlib.Core.Bool.{false}
-use Prim.Native.Nat.{ℕ, _-_, _≤_, _<_}
+use Prim.Native.Nat.{ℕ, _-_, _≤_, _<_, zero-le}
 use native.Mathlib.Nat.{le-antisymm, not-suc-le-zero}
-use native.Mathlib.Omega.{arith}
-use borrow.Author.Count.{below-more}
-use borrow.Author.Needs.{needs}
+use borrow.Author.Count.{falls, below-more}
 use Rattle.base.proofs.Course.{first-found, first-none}
 use Rattle.model.specs.Records.{modelOf}
 use Rattle.model.specs.Owners.{driverFor}
+use Rattle.model.proofs.Counting.{below-total, next-fits, next-most}
 use Rattle.model.proofs.Drivers.{isFor}
+use Rattle.model.proofs.Lookup.{drivers-most}
 use Rattle.model.proofs.owners.driver_for.Statement.{statement}
 use Rattle.model.proofs.owners.driver_for.Tie as tie
 
@@ -19,30 +19,33 @@ abbrev μ-loop : tie.MeasureT-loop
 μ-loop m index t p s i₀ i = t .drivers - i
 
 loop-holds : tie.Need-loop-holds Inv-loop μ-loop
-loop-holds c = (search needs, λ k h. absurd (not-suc-le-zero h))
+loop-holds c = (zero-le, λ k h. absurd (not-suc-le-zero h))
 
 driver-at-requires : tie.Need-driver-at-requires Inv-loop μ-loop
-driver-at-requires c κs = search needs
+driver-at-requires c κs = let s = c .before .before .before .before in (s .pre .0, below-total _ _ _ (s .pre .1 .drivers) (c .if1 .taken))
 
 returns : tie.Need-returns Inv-loop μ-loop
 unfolding driverFor
 returns c =
-    let head = c .before .before .before .before .before .before in
-    let s = head .before .before in
+    let d = c .before .before .before in
+    let l = d .before .before .before in
     sym
-    (first-found _ _ _ (omega (arith, s .pre .1 .drivers)) (head .loop .inv .1)
-    (rw (c .before .before .before .driver-at .ensures) at (c .if2 .taken)))
+    (first-found _ _ _ (below-total _ _ _ (l .before .before .pre .1 .drivers) (d .before .if1 .taken)) (l .loop .inv .1)
+    (rw (d .driver-at .ensures) at (c .if2 .taken)))
 
 add-i : tie.Need-add-i Inv-loop μ-loop
-add-i c = search needs
+add-i c =
+    let d = c .before .before .before .before in
+    let s = d .before .before .before .before in
+    next-fits _ _ _ (s .pre .1 .drivers) (d .if1 .taken) 64 (drivers-most _ (s .pre .0 .totals)) tt
 
 loop-less : tie.Need-loop-less Inv-loop μ-loop
-loop-less c = search needs
+loop-less c = falls _ _ (c .before .before .before .before .if1 .taken)
 
 loop-again : tie.Need-loop-again Inv-loop μ-loop
 loop-again c =
-    let head = c .before .before .before .before .before .before in
-    (search needs, below-more _ _ (head .loop .inv .1) (rw (c .before .before .before .driver-at .ensures) at (c .if2 .left)))
+    let d = c .before .before .before in
+    (next-most _ _ (d .before .if1 .taken), below-more _ _ (d .before .before .before .loop .inv .1) (rw (d .driver-at .ensures) at (c .if2 .left)))
 
 returns-2 : tie.Need-returns-2 Inv-loop μ-loop
 unfolding driverFor

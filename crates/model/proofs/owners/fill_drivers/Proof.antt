@@ -1,16 +1,16 @@
 -- `model::owners::fill_drivers` meets its contract: the entries of the statements passed are their drivers, and the starts and
 -- the types are kept. Assumes nothing.
 use mathlib.Core.Path.{_∙_}
-use Prim.Native.Nat.{_+_, _-_, _≤_, _<_}
+use Prim.Native.Nat.{_+_, _-_, _≤_, _<_, zero-le}
 use native.Mathlib.Nat.{le-antisymm, not-suc-le-zero}
-use native.Mathlib.Omega.{arith}
-use borrow.Author.Needs.{needs}
+use borrow.Author.Count.{falls}
 use denote.Ref.{now}
 use lib.ListN.{length, length-set}
 use Rattle.model.specs.Records.{modelOf}
 use Rattle.model.specs.Index.{TypesIn, DriversBelow}
+use Rattle.model.proofs.Counting.{below-total, next-fits, next-most}
 use Rattle.model.proofs.Lookup.{nodes-most, statements-most}
-use Rattle.model.proofs.Entries.{starts-set, types-kept, drivers-next}
+use Rattle.model.proofs.Entries.{entry-place, entry-fits, entry-scaled, value-fits, past, types-before, starts-set, types-kept, drivers-next}
 use Rattle.model.proofs.owners.fill_drivers.Statement.{statement}
 use Rattle.model.proofs.owners.fill_drivers.Tie as tie
 
@@ -21,52 +21,54 @@ abbrev μ-loop : tie.MeasureT-loop
 μ-loop m index₀ t n₀ index n = t .statements - n
 
 loop-holds : tie.Need-loop-holds Inv-loop μ-loop
-loop-holds c = (search needs, c .before .pre .0, λ k h. absurd (not-suc-le-zero h))
+loop-holds c = (zero-le, c .before .pre .0, λ k h. absurd (not-suc-le-zero h))
 
--- the statement's number is below the limit
-small : (c : tie.Then1 Inv-loop μ-loop) → c .before .before .loop .n < 200
-small c =
-    let s = c .before .before .before .before in
-    omega (arith, c .if1 .taken, s .pre .1 .statements, statements-most (modelOf (now (s .args .m))) (s .pre .0 .starts .totals))
+-- the statement is there, and below the limit
+there : (c : tie.Then1 Inv-loop μ-loop) → c .before .before .loop .n < length (modelOf (now (c .before .before .before .before .args .m)) .statements)
+there c = below-total _ _ _ (c .before .before .before .before .pre .1 .statements) (c .if1 .taken)
+
+most : (c : tie.Then1 Inv-loop μ-loop) → length (modelOf (now (c .before .before .before .before .args .m)) .statements) ≤ 200
+most c = statements-most _ (c .before .before .before .before .pre .0 .starts .totals)
 
 statement-driver-requires : tie.Need-statement-driver-requires Inv-loop μ-loop
 statement-driver-requires c κs =
-    let p = c .before .before .before .before .before .pre in
-    (c .before .before .before .loop .inv .1 .starts, (p .1, omega (arith, c .before .if1 .taken, p .1 .statements)))
+    let d = c .before in
+    (d .before .before .loop .inv .1 .starts, (d .before .before .before .before .pre .1, there d))
 
 cast-index : tie.Need-cast-index Inv-loop μ-loop
-cast-index c = omega (arith, c .statement-driver .ensures .1)
+cast-index c = value-fits 64 tt _ (c .statement-driver .ensures .1)
 
 add-index : tie.Need-add-index Inv-loop μ-loop
-add-index c = omega (arith, small (c .before .before))
+add-index c = entry-fits 1176 200 tt _ _ (there (c .before .before)) (most (c .before .before))
 
 mul-index : tie.Need-mul-index Inv-loop μ-loop
-mul-index c = omega (arith, small (c .before .before))
+mul-index c = entry-scaled 1176 200 tt _ _ (there (c .before .before)) (most (c .before .before))
 
 element-write-index : tie.Need-element-write-index Inv-loop μ-loop
-element-write-index c = omega (arith, small (c .before .before))
+element-write-index c = entry-place 1176 200 tt _ _ (there (c .before .before)) (most (c .before .before))
 
 add-n : tie.Need-add-n Inv-loop μ-loop
-add-n c = search needs
+add-n c = let d = c .before .before in next-fits _ _ _ (d .before .before .before .before .pre .1 .statements) (d .if1 .taken) 200 (most d) tt
 
 loop-less : tie.Need-loop-less Inv-loop μ-loop
-loop-less c = search needs
+loop-less c = falls _ _ (c .before .before .if1 .taken)
 
 loop-again : tie.Need-loop-again Inv-loop μ-loop
 loop-again c =
-    let h = c .before .before .before .before .loop in
-    let s = c .before .before .before .before .before .before in
+    let d = c .before .before in
+    let h = d .before .before .loop in
+    let s = d .before .before .before .before in
     let i = 1176 + h .n in
     let k = c .statement-driver .result in
     let types = h .inv .1 in
-    let room : i < length (h .index) = omega (arith, types .size, small (c .before .before)) in (
-      search needs,
+    let place = entry-place 1176 200 tt _ _ (there d) (most d) in (
+      next-most _ _ (d .if1 .taken),
       record {
         size = simp length-set (types .size);
-        starts = starts-set _ (h .index) i k (omega arith) (types .starts);
-        type = types-kept _ (h .index) i k _ (omega (arith, nodes-most (modelOf (now (s .args .m))) (types .starts .totals))) (types .type);
+        starts = starts-set _ (h .index) i k (past 1176 tt (h .n)) (types .starts);
+        type = types-kept _ (h .index) i k _ (types-before _ (h .n) (nodes-most (modelOf (now (s .args .m))) (types .starts .totals))) (types .type);
       },
-      drivers-next _ (h .index) (h .n) k room (λ e. c .statement-driver .ensures .0) (h .inv .2),
+      drivers-next _ (h .index) (h .n) k (rw (types .size) place) (λ e. c .statement-driver .ensures .0) (h .inv .2),
     )
 
 returns : tie.Need-returns Inv-loop μ-loop

@@ -1,11 +1,11 @@
-use mathlib.Core.Path.{_≡_, sym, ap, _∙_}
-use Prim.Native.Nat.{_-_, _≤_}
-use native.Mathlib.Nat.{le-antisymm}
-use borrow.Author.Needs.{needs}
+use mathlib.Core.Path.{_≡_}
+use Prim.Native.Nat.{_-_, _≤_, zero-le}
+use borrow.Author.Count.{falls}
 use Rattle.base.specs.Below.{allBelow}
-use Rattle.base.proofs.Below.{all-none, all-next}
 use Rattle.model.specs.Records.{modelOf}
 use Rattle.model.specs.Owners.{singleOk}
+use Rattle.model.proofs.Counting.{below-total, next-fits, next-most, all-begun, all-turn, all-ended}
+use Rattle.model.proofs.Lookup.{signals-most}
 use Rattle.model.proofs.owners.singles_ok.Statement.{statement}
 use Rattle.model.proofs.owners.singles_ok.Tie as tie
 
@@ -16,24 +16,27 @@ abbrev μ-loop : tie.MeasureT-loop
 μ-loop m index t ok₀ s₀ ok s = t .signals - s
 
 loop-holds : tie.Need-loop-holds Inv-loop μ-loop
-loop-holds c = (search needs, sym (all-none _))
+loop-holds c = (zero-le, all-begun _)
 
 single-ok-requires : tie.Need-single-ok-requires Inv-loop μ-loop
-single-ok-requires c κs = search needs
+single-ok-requires c κs = let p = c .before .before .before .before .pre in (p .0, (p .1, below-total _ _ _ (p .1 .signals) (c .if1 .taken)))
 
 add-s : tie.Need-add-s Inv-loop μ-loop
-add-s c = search needs
+add-s c =
+    let d = c .before in
+    let p = d .before .before .before .before .pre in
+    next-fits _ _ _ (p .1 .signals) (d .if1 .taken) 32 (signals-most _ (p .0 .totals)) tt
 
 loop-less : tie.Need-loop-less Inv-loop μ-loop
-loop-less c = search needs
+loop-less c = falls _ _ (c .before .if1 .taken)
 
 loop-again : tie.Need-loop-again Inv-loop μ-loop
-loop-again c = (search needs, rw (all-next, ← c .before .before .before .loop .inv .1, ← c .single-ok .ensures))
+loop-again c = (next-most _ _ (c .before .if1 .taken), all-turn _ _ _ _ (c .before .before .before .loop .inv .1) (c .single-ok .ensures))
 
 returns : tie.Need-returns Inv-loop μ-loop
 returns c =
-    let h = c .before .before .loop in
-    h .inv .1 ∙ ap (allBelow _) (le-antisymm (h .inv .0) (c .if1 .left) ∙ c .before .before .before .before .pre .1 .signals)
+    let l = c .before .before in
+    all-ended _ _ _ _ _ (l .loop .inv .1) (l .loop .inv .0) (c .if1 .left) (l .before .before .pre .1 .signals)
 
 pub singles-ok-spec : {M : Type 1} → statement M
 singles-ok-spec =

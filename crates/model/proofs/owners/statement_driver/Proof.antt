@@ -1,17 +1,18 @@
-use native.Mathlib.Omega.{arith}
-use borrow.Author.Needs.{needs}
-use denote.Ref.{now}
-use Rattle.model.specs.Records.{modelOf}
-use Rattle.model.proofs.Drivers.{driver-most}
-use Rattle.model.proofs.Lookup.{drivers-most}
+use Rattle.model.proofs.RuleForms.{driver-named, driver-small}
 use Rattle.model.proofs.owners.statement_driver.Statement.{statement}
 use Rattle.model.proofs.owners.statement_driver.Tie as tie
 
 returns : tie.Need-returns
 returns c =
-    let s = c .before .before .before .before in
-    let M = modelOf (now (s .args .m)) in
-    (cc, rw (c .driver-for .ensures) (omega (arith, driver-most M (c .before .owner-of .result) (c .before .before .statement-at .result .a), drivers-most M (s .pre .0 .totals))))
+    let o = c .before in
+    let d = o .before .statement-at in
+    (driver-named _ _ _ (d .ensures) _ _ (o .owner-of .ensures) _ (c .driver-for .ensures), driver-small _ (o .before .before .before .pre .0 .totals) _ _ _ (c .driver-for .ensures))
 
 pub statement-driver-spec : {M : Type 1} → statement M
-statement-driver-spec = tie.close (tie.spec (λ c κs. search needs) (λ c κs. search needs) (λ c κs. search needs) returns)
+statement-driver-spec =
+    tie.close
+    (tie.spec
+    (λ c κs. (c .before .pre .0, c .before .pre .1 .1))
+    (λ c κs. let p = c .before .before .pre in (p .0, p .1 .0))
+    (λ c κs. let p = c .before .before .before .pre in (p .0, p .1 .0))
+    returns)

@@ -2,26 +2,22 @@
 use mathlib.Core.Path.{_≡_}
 use mathlib.Core.Bool.{true}
 use Prim.Native.Nat.{ℕ, _<_}
-use native.Mathlib.Omega.{arith}
-use borrow.Author.Needs.{needs}
-use borrow.Author.Tests.{ne-eqb}
 use denote.Ref.{now}
 use lib.ListN.{length}
-use Rattle.base.specs.Below.{every}
 use Rattle.model.specs.Records.{modelOf}
 use Rattle.model.specs.Fields.{fieldsOk, statementOk}
 use Rattle.model.specs.Trees.{treesOk}
-use Rattle.model.specs.Owners.{statementOwned}
 use Rattle.model.specs.Index.{Starts}
-use Rattle.model.proofs.StatementFields.{statement-ok, names-variable, value-node, delay-node, wait-condition, wait-delay}
+use Rattle.model.proofs.StatementFields.{statement-ok, names-variable, value-at, delay-node, wait-condition, wait-delay}
+use Rattle.model.proofs.RuleForms.{variable-owned, signal-owned, branch-owned, wait-owned, other-owned}
 use Rattle.model.proofs.owners.statement_owned.Statement.{statement}
 use Rattle.model.proofs.owners.statement_owned.Tie as tie
 
 statement-at-requires : tie.Need-statement-at-requires
-statement-at-requires c κs = search needs
+statement-at-requires c κs = let p = c .before .pre in (p .0 .types .starts, p .1 .1 .1 .1)
 
 owner-of-requires : tie.Need-owner-of-requires
-owner-of-requires c κs = search needs
+owner-of-requires c κs = let p = c .before .before .pre in (p .0 .types .starts, p .1 .0)
 
 -- the statement that was read passes rule 5
 ok : (c : tie.After-owner-of) → statementOk (modelOf (now (c .before .before .before .args .m))) (c .before .before .before .args .n) (c .before .statement-at .result) ≡ true
@@ -43,7 +39,7 @@ reads-own-requires : tie.Need-reads-own-requires
 reads-own-requires c κs =
     let o = c .before .before in
     let s = o .before .before .before in
-    read o _ (value-node (modelOf (now (s .args .m))) (s .args .n) (o .before .statement-at .result) (ok o) (omega (arith, c .before .match .keys1)) (omega (arith, c .before .match .keys1)))
+    read o _ (value-at (modelOf (now (s .args .m))) (s .args .n) (o .before .statement-at .result) (ok o) 1 (c .before .match .keys1) tt tt)
 
 assignment-driver-requires : tie.Need-assignment-driver-requires
 assignment-driver-requires c κs =
@@ -55,8 +51,7 @@ reads-own-requires-2 : tie.Need-reads-own-requires-2
 reads-own-requires-2 c κs =
     let o = c .before .before .before in
     let s = o .before .before .before in
-    let e = c .before .before .match .keys2 in
-    read o _ (value-node (modelOf (now (s .args .m))) (s .args .n) (o .before .statement-at .result) (ok o) (omega (arith, e)) (omega (arith, e)))
+    read o _ (value-at (modelOf (now (s .args .m))) (s .args .n) (o .before .statement-at .result) (ok o) 2 (c .before .before .match .keys2) tt tt)
 
 reads-own-requires-3 : tie.Need-reads-own-requires-3
 reads-own-requires-3 c κs =
@@ -68,7 +63,7 @@ reads-own-requires-4 : tie.Need-reads-own-requires-4
 reads-own-requires-4 c κs =
     let o = c .before in
     let s = o .before .before .before in
-    read o _ (value-node (modelOf (now (s .args .m))) (s .args .n) (o .before .statement-at .result) (ok o) (omega (arith, c .match .keys3)) (omega (arith, c .match .keys3)))
+    read o _ (value-at (modelOf (now (s .args .m))) (s .args .n) (o .before .statement-at .result) (ok o) 3 (c .match .keys3) tt tt)
 
 own-or-absent-requires : tie.Need-own-or-absent-requires
 own-or-absent-requires c κs =
@@ -85,37 +80,31 @@ own-or-absent-requires-2 c κs =
     (p .0 .types .starts, (p .1 .1 .0, (p .1 .1 .1 .0, wait-delay (modelOf (now (s .args .m))) (s .args .n) (o .before .statement-at .result) (ok o) (c .before .match .keys4))))
 
 returns : tie.Need-returns
-unfolding statementOwned
 returns c =
     let o = c .before .before .before in
-    rw (← o .before .statement-at .ensures, ← o .owner-of .ensures, c .before .before .match .keys1) (cc)
+    variable-owned _ _ _ (o .before .statement-at .ensures) _ _ (o .owner-of .ensures) (c .before .before .match .keys1) _ _ (c .before .variable-process .ensures) (c .reads-own .ensures)
 
 returns-2 : tie.Need-returns-2
-unfolding statementOwned every
 returns-2 c =
     let e = c .before .before .before in
     let o = e .before .before in
-    let s = o .before .before .before in
-    rw (← o .before .statement-at .ensures, ← o .owner-of .ensures, e .before .match .keys2, ← s .pre .1 .0 .drivers) (cc)
+    signal-owned _ _ _ (o .before .statement-at .ensures) _ _ (o .owner-of .ensures) (e .before .match .keys2) _ _ _ _ (e .assignment-driver .ensures) (o .before .before .before .pre .1 .0 .drivers) (c .before .reads-own2 .ensures)
+    (c .reads-own3 .ensures)
 
 returns-3 : tie.Need-returns-3
-unfolding statementOwned
 returns-3 c =
     let o = c .before .before in
-    rw (← o .before .statement-at .ensures, ← o .owner-of .ensures, c .before .match .keys3) (c .reads-own4 .ensures)
+    branch-owned _ _ _ (o .before .statement-at .ensures) _ _ (o .owner-of .ensures) (c .before .match .keys3) _ (c .reads-own4 .ensures)
 
 returns-4 : tie.Need-returns-4
-unfolding statementOwned
 returns-4 c =
     let o = c .before .before .before in
-    rw (← o .before .statement-at .ensures, ← o .owner-of .ensures, c .before .before .match .keys4) (cc)
+    wait-owned _ _ _ (o .before .statement-at .ensures) _ _ (o .owner-of .ensures) (c .before .before .match .keys4) _ _ (c .before .own-or-absent .ensures) (c .own-or-absent2 .ensures)
 
 returns-5 : tie.Need-returns-5
-unfolding statementOwned
 returns-5 c =
-    let o = c .before in
     let r = c .match .rest in
-    rw (← o .before .statement-at .ensures, ne-eqb _ _ (r .0 .0 .0 .1), ne-eqb _ _ (r .0 .0 .1), ne-eqb _ _ (r .0 .1), ne-eqb _ _ (r .1))
+    other-owned _ _ _ (c .before .before .statement-at .ensures) _ (r .0 .0 .0 .1) (r .0 .0 .1) (r .0 .1) (r .1)
 
 pub statement-owned-spec : {M : Type 1} → statement M
 statement-owned-spec =

@@ -1,9 +1,11 @@
-use mathlib.Core.Path.{_≡_, sym, ap, _∙_}
-use Prim.Native.Nat.{_-_, _≤_}
+use mathlib.Core.Path.{_≡_, ap, _∙_}
+use Prim.Native.Nat.{_-_, _≤_, zero-le}
 use native.Mathlib.Nat.{le-antisymm}
-use Rattle.base.proofs.Below.{all-none, all-next}
-use Rattle.model.specs.Records.{zerosAt}
+use borrow.Author.Count.{falls}
 use borrow.Author.Needs.{needs}
+use lib.Dec.{eqb}
+use Rattle.model.specs.Records.{zerosAt}
+use Rattle.model.proofs.Counting.{next-most, all-begun, all-turn}
 use Rattle.model.proofs.records.zeros.Statement.{statement}
 use Rattle.model.proofs.records.zeros.Tie as tie
 
@@ -15,7 +17,7 @@ abbrev μ-loop : tie.MeasureT-loop
 
 loop-holds : tie.Need-loop-holds Inv-loop μ-loop
 unfolding zerosAt
-loop-holds c = (search needs, sym (all-none _))
+loop-holds c = (zero-le, all-begun _)
 
 add-byte : tie.Need-add-byte Inv-loop μ-loop
 add-byte c = search needs
@@ -27,11 +29,11 @@ add-j : tie.Need-add-j Inv-loop μ-loop
 add-j c = search needs
 
 loop-less : tie.Need-loop-less Inv-loop μ-loop
-loop-less c = search needs
+loop-less c = falls _ _ (c .before .loop-test .taken)
 
 loop-again : tie.Need-loop-again Inv-loop μ-loop
 unfolding zerosAt
-loop-again c = (search needs, rw all-next (cc))
+loop-again c = (next-most _ _ (c .before .loop-test .taken), all-turn _ _ _ _ (c .before .before .loop .inv .1) (ap (λ x. eqb x 0) (c .byte .ensures .value)))
 
 returns : tie.Need-returns Inv-loop μ-loop
 returns c = c .before .loop .inv .1 ∙ ap (zerosAt _ _) (le-antisymm (c .before .loop .inv .0) (c .loop-test .left))

@@ -1,12 +1,11 @@
 use mathlib.Core.Path.{sym, _∙_}
 use borrow.Author.Tests.{ne-eqb}
 use Rattle.model.specs.Trees.{lowerOk}
-use borrow.Author.Needs.{needs}
 use Rattle.model.proofs.trees.lower_ok.Statement.{statement}
 use Rattle.model.proofs.trees.lower_ok.Tie as tie
 
 operands-of-requires : tie.Need-operands-of-requires
-operands-of-requires c κs = search needs
+operands-of-requires c κs = tt
 
 returns : tie.Need-returns
 unfolding lowerOk

@@ -1,14 +1,13 @@
 use mathlib.Core.Path.{sym, _∙_}
 use Rattle.model.specs.Trees.{treeOk}
-use borrow.Author.Needs.{needs}
 use Rattle.model.proofs.trees.tree_ok.Statement.{statement}
 use Rattle.model.proofs.trees.tree_ok.Tie as tie
 
 node-at-requires : tie.Need-node-at-requires
-node-at-requires c κs = search needs
+node-at-requires c κs = let p = c .before .pre in (p .0, p .1 .0)
 
 lower-ok-requires : tie.Need-lower-ok-requires
-lower-ok-requires c κs = search needs
+lower-ok-requires c κs = tt
 
 tree-size-requires : tie.Need-tree-size-requires
 tree-size-requires c κs =

@@ -1,14 +1,15 @@
 use mathlib.Core.Path.{_≡_, sym, _∙_}
 use mathlib.Core.Bool.{true}
-use Prim.Native.Nat.{_-_, _≤_}
+use Prim.Native.Nat.{_-_, _≤_, zero-le}
 use native.Mathlib.Nat.{le-antisymm}
-use native.Mathlib.Omega.{arith}
+use borrow.Author.Count.{falls}
 use borrow.Author.Tests.{not-true, not-false}
 use Rattle.base.specs.Below.{allBelow}
 use Rattle.base.proofs.Below.{all-none, all-at, all-more, all-fails}
 use Rattle.model.specs.Records.{modelOf}
 use Rattle.model.specs.Trees.{treeOk, treesOk}
-use borrow.Author.Needs.{needs}
+use Rattle.model.proofs.Counting.{below-total, next-fits, next-most}
+use Rattle.model.proofs.Lookup.{nodes-most}
 use Rattle.model.proofs.trees.trees_ok.Statement.{statement}
 use Rattle.model.proofs.trees.trees_ok.Tie as tie
 
@@ -19,31 +20,33 @@ abbrev μ-loop : tie.MeasureT-loop
 μ-loop m index t n₀ n = t .nodes - n
 
 loop-holds : tie.Need-loop-holds Inv-loop μ-loop
-loop-holds c = (search needs, all-none _)
+loop-holds c = (zero-le, all-none _)
 
 tree-ok-requires : tie.Need-tree-ok-requires Inv-loop μ-loop
 tree-ok-requires c κs =
-    let head = c .before .before in
-    let s = head .before .before in
-    (s .pre .0, (omega (arith, s .pre .1 .nodes), λ k l. all-at _ _ k l (head .loop .inv .1)))
+    let l = c .before .before in
+    let s = l .before .before in
+    (s .pre .0, (below-total _ _ _ (s .pre .1 .nodes) (c .if1 .taken), λ k h. all-at _ _ k h (l .loop .inv .1)))
 
 returns : tie.Need-returns Inv-loop μ-loop
 unfolding treesOk
 returns c =
-    let head = c .before .before .before .before in
-    let s = head .before .before in
-    sym (all-fails _ _ _ (omega (arith, s .pre .1 .nodes)) (sym (c .before .tree-ok .ensures) ∙ not-true _ (c .if2 .taken)))
+    let d = c .before .before in
+    sym (all-fails _ _ _ (below-total _ _ _ (d .before .before .before .before .pre .1 .nodes) (d .if1 .taken)) (sym (c .before .tree-ok .ensures) ∙ not-true _ (c .if2 .taken)))
 
 add-n : tie.Need-add-n Inv-loop μ-loop
-add-n c = search needs
+add-n c =
+    let d = c .before .before in
+    let s = d .before .before .before .before in
+    next-fits _ _ _ (s .pre .1 .nodes) (d .if1 .taken) 400 (nodes-most _ (s .pre .0 .totals)) tt
 
 loop-less : tie.Need-loop-less Inv-loop μ-loop
-loop-less c = search needs
+loop-less c = falls _ _ (c .before .before .if1 .taken)
 
 loop-again : tie.Need-loop-again Inv-loop μ-loop
 loop-again c =
-    let head = c .before .before .before .before in
-    (search needs, all-more _ _ (head .loop .inv .1) (sym (c .before .tree-ok .ensures) ∙ not-false _ (c .if2 .left)))
+    let d = c .before .before in
+    (next-most _ _ (d .if1 .taken), all-more _ _ (d .before .before .loop .inv .1) (sym (c .before .tree-ok .ensures) ∙ not-false _ (c .if2 .left)))
 
 returns-2 : tie.Need-returns-2 Inv-loop μ-loop
 unfolding treesOk

@@ -1,20 +1,19 @@
 -- `model::types::fill_types` meets its contract: the entries of the nodes passed are their types, and the starts are kept.
 -- Assumes nothing.
-use mathlib.Core.Path.{_≡_, sym, ap, _∙_}
-use Prim.Native.Nat.{_+_, _-_, _≤_, _<_}
+use mathlib.Core.Path.{_≡_, ap, _∙_}
+use Prim.Native.Nat.{_+_, _-_, _≤_, _<_, zero-le}
 use native.Mathlib.Nat.{le-antisymm, not-suc-le-zero}
-use native.Mathlib.Omega.{arith}
-use borrow.Author.Needs.{needs}
+use borrow.Author.Count.{falls}
 use denote.Ref.{now}
 use lib.Dec.{leb}
 use lib.ListN.{length, length-set}
 use Rattle.base.specs.Below.{allBelow}
-use Rattle.base.proofs.Below.{all-none, all-next}
 use Rattle.model.specs.Records.{modelOf}
 use Rattle.model.specs.Trees.{typeOf}
 use Rattle.model.specs.Index.{Starts, TypesBelow}
+use Rattle.model.proofs.Counting.{below-total, next-fits, next-most, all-begun, all-turn}
 use Rattle.model.proofs.Lookup.{nodes-most}
-use Rattle.model.proofs.Entries.{starts-set, types-next}
+use Rattle.model.proofs.Entries.{entry-place, entry-fits, entry-scaled, value-fits, past, starts-set, types-next}
 use Rattle.model.proofs.types.fill_types.Statement.{statement}
 use Rattle.model.proofs.types.fill_types.Tie as tie
 
@@ -28,47 +27,50 @@ abbrev μ-loop : tie.MeasureT-loop
 loop-holds : tie.Need-loop-holds Inv-loop μ-loop
 loop-holds c =
     let p = c .before .pre in
-    (omega arith, p .0, p .1 .0, (λ k h. absurd (not-suc-le-zero h)), sym (all-none _))
+    (zero-le, p .0, p .1 .0, (λ k h. absurd (not-suc-le-zero h)), all-begun _)
 
--- the node's number is below the limit
-small : (c : tie.Then1 Inv-loop μ-loop) → c .before .before .loop .n < 400
-small c =
-    let s = c .before .before .before .before in
-    omega (arith, c .if1 .taken, s .pre .1 .1 .0 .nodes, nodes-most (modelOf (now (s .args .m))) (s .pre .1 .0 .totals))
+-- the node is there, and below the limit
+there : (c : tie.Then1 Inv-loop μ-loop) → c .before .before .loop .n < length (modelOf (now (c .before .before .before .before .args .m)) .nodes)
+there c = below-total _ _ _ (c .before .before .before .before .pre .1 .1 .0 .nodes) (c .if1 .taken)
+
+most : (c : tie.Then1 Inv-loop μ-loop) → length (modelOf (now (c .before .before .before .before .args .m)) .nodes) ≤ 400
+most c = nodes-most _ (c .before .before .before .before .pre .1 .0 .totals)
 
 next-type-requires : tie.Need-next-type-requires Inv-loop μ-loop
 next-type-requires c κs =
-    let h = c .before .before .before .loop in
-    let p = c .before .before .before .before .before .pre in
-    (h .inv .2, (p .1 .1 .1, (omega (arith, c .before .if1 .taken, p .1 .1 .0 .nodes), h .inv .3)))
+    let d = c .before in
+    let h = d .before .before .loop in
+    (h .inv .2, (d .before .before .before .before .pre .1 .1 .1, (there d, h .inv .3)))
 
 cast-index : tie.Need-cast-index Inv-loop μ-loop
-cast-index c = omega (arith, c .next-type .ensures .1)
+cast-index c = value-fits 3 tt _ (c .next-type .ensures .1)
 
 add-index : tie.Need-add-index Inv-loop μ-loop
-add-index c = omega (arith, small (c .before .before))
+add-index c = entry-fits 776 400 tt _ _ (there (c .before .before)) (most (c .before .before))
 
 mul-index : tie.Need-mul-index Inv-loop μ-loop
-mul-index c = omega (arith, small (c .before .before))
+mul-index c = entry-scaled 776 400 tt _ _ (there (c .before .before)) (most (c .before .before))
 
 element-write-index : tie.Need-element-write-index Inv-loop μ-loop
-element-write-index c = omega (arith, small (c .before .before))
+element-write-index c = entry-place 776 400 tt _ _ (there (c .before .before)) (most (c .before .before))
 
 add-n : tie.Need-add-n Inv-loop μ-loop
-add-n c = search needs
+add-n c = let d = c .before .before in next-fits _ _ _ (d .before .before .before .before .pre .1 .1 .0 .nodes) (d .if1 .taken) 400 (most d) tt
 
 loop-less : tie.Need-loop-less Inv-loop μ-loop
-loop-less c = search needs
+loop-less c = falls _ _ (c .before .before .if1 .taken)
 
 loop-again : tie.Need-loop-again Inv-loop μ-loop
 loop-again c =
-    let h = c .before .before .before .before .loop in
-    let e = c .next-type .ensures .0 in (
-      search needs,
+    let d = c .before .before in
+    let h = d .before .before .loop in
+    let e = c .next-type .ensures .0 in
+    let place = entry-place 776 400 tt _ _ (there d) (most d) in (
+      next-most _ _ (d .if1 .taken),
       simp length-set (h .inv .1),
-      starts-set _ (h .index) (776 + h .n) (c .next-type .result) (omega arith) (h .inv .2),
-      types-next _ (h .index) (h .n) (c .next-type .result) (omega (arith, h .inv .1, small (c .before .before))) e (h .inv .3),
-      rw (all-next, ← h .inv .4, ← e),
+      starts-set _ (h .index) (776 + h .n) (c .next-type .result) (past 776 tt (h .n)) (h .inv .2),
+      types-next _ (h .index) (h .n) (c .next-type .result) (rw (h .inv .1) place) e (h .inv .3),
+      all-turn _ _ _ _ (h .inv .4) (ap (λ k. leb k 2) e),
     )
 
 returns : tie.Need-returns Inv-loop μ-loop

@@ -1,8 +1,7 @@
 -- `model::types::next_type` meets its contract: the entries below n are what `typeOf` knows of the operands. Assumes nothing.
 use mathlib.Core.Bool.{true}
 use mathlib.Core.Path.{_≡_}
-use native.Mathlib.Omega.{arith}
-use borrow.Author.Needs.{needs}
+use native.Mathlib.Nat.{le-of-lt, lt-of-lt-of-le}
 use denote.Ref.{now}
 use Rattle.model.specs.Records.{modelOf}
 use Rattle.model.specs.Fields.{nodeOk}
@@ -13,17 +12,17 @@ use Rattle.model.proofs.types.next_type.Statement.{statement}
 use Rattle.model.proofs.types.next_type.Tie as tie
 
 node-at-requires : tie.Need-node-at-requires
-node-at-requires c κs = search needs
+node-at-requires c κs = let p = c .before .pre in (p .0, p .1 .1 .0)
 
 operand-type-requires : tie.Need-operand-type-requires
 operand-type-requires c κs =
     let s = c .before .before in
-    omega (arith, nodes-most (modelOf (now (s .args .m))) (s .pre .0 .totals), s .pre .1 .1 .0)
+    le-of-lt (lt-of-lt-of-le (s .pre .1 .1 .0) (nodes-most (modelOf (now (s .args .m))) (s .pre .0 .totals)))
 
 operand-type-requires-2 : tie.Need-operand-type-requires-2
 operand-type-requires-2 c κs =
     let s = c .before .before .before in
-    omega (arith, nodes-most (modelOf (now (s .args .m))) (s .pre .0 .totals), s .pre .1 .1 .0)
+    le-of-lt (lt-of-lt-of-le (s .pre .1 .1 .0) (nodes-most (modelOf (now (s .args .m))) (s .pre .0 .totals)))
 
 -- the node that was read passes rule 5
 ok : (c : tie.After-node-at) → nodeOk (modelOf (now (c .before .before .args .m))) (c .node-at .result) ≡ true

@@ -1,13 +1,11 @@
 -- `model::types::statement_typed` meets its contract: each arm is a case of `statementTyped`. Assumes nothing.
 use mathlib.Core.Path.{_≡_}
 use mathlib.Core.Bool.{true}
-use native.Mathlib.Omega.{arith}
-use borrow.Author.Tests.{ne-eqb}
 use denote.Ref.{now}
 use Rattle.model.specs.Records.{modelOf}
 use Rattle.model.specs.Fields.{statementOk}
-use Rattle.model.specs.Trees.{statementTyped}
-use Rattle.model.proofs.StatementFields.{statement-ok, names-variable, names-signal, value-node, delay-node, wait-condition, wait-delay}
+use Rattle.model.proofs.StatementFields.{statement-ok, names-variable, names-signal, value-at, delay-node, wait-condition, wait-delay}
+use Rattle.model.proofs.RuleForms.{variable-typed, signal-typed, branch-typed, wait-typed, other-typed}
 use Rattle.model.proofs.types.statement_typed.Statement.{statement}
 use Rattle.model.proofs.types.statement_typed.Tie as tie
 
@@ -23,7 +21,7 @@ ok c =
 type-at-requires : tie.Need-type-at-requires
 type-at-requires c κs =
     let s = c .before .before .before in
-    (s .pre .0 .starts, (s .pre .0 .type, value-node (modelOf (now (s .args .m))) (s .args .n) (c .before .statement-at .result) (ok (c .before)) (omega arith) (omega arith)))
+    (s .pre .0 .starts, (s .pre .0 .type, value-at (modelOf (now (s .args .m))) (s .args .n) (c .before .statement-at .result) (ok (c .before)) 1 (c .match .keys1) tt tt))
 
 variable-type-requires : tie.Need-variable-type-requires
 variable-type-requires c κs =
@@ -33,7 +31,7 @@ variable-type-requires c κs =
 type-at-requires-2 : tie.Need-type-at-requires-2
 type-at-requires-2 c κs =
     let s = c .before .before .before in
-    (s .pre .0 .starts, (s .pre .0 .type, value-node (modelOf (now (s .args .m))) (s .args .n) (c .before .statement-at .result) (ok (c .before)) (omega arith) (omega arith)))
+    (s .pre .0 .starts, (s .pre .0 .type, value-at (modelOf (now (s .args .m))) (s .args .n) (c .before .statement-at .result) (ok (c .before)) 2 (c .match .keys2) tt tt))
 
 signal-type-requires : tie.Need-signal-type-requires
 signal-type-requires c κs =
@@ -48,7 +46,7 @@ type-at-requires-3 c κs =
 type-at-requires-4 : tie.Need-type-at-requires-4
 type-at-requires-4 c κs =
     let s = c .before .before .before in
-    (s .pre .0 .starts, (s .pre .0 .type, value-node (modelOf (now (s .args .m))) (s .args .n) (c .before .statement-at .result) (ok (c .before)) (omega arith) (omega arith)))
+    (s .pre .0 .starts, (s .pre .0 .type, value-at (modelOf (now (s .args .m))) (s .args .n) (c .before .statement-at .result) (ok (c .before)) 3 (c .match .keys3) tt tt))
 
 typed-or-absent-requires : tie.Need-typed-or-absent-requires
 typed-or-absent-requires c κs =
@@ -61,26 +59,27 @@ typed-or-absent-requires-2 c κs =
     (s .pre .0, wait-delay (modelOf (now (s .args .m))) (s .args .n) (c .before .before .statement-at .result) (ok (c .before .before)) (c .before .match .keys4))
 
 returns : tie.Need-returns
-unfolding statementTyped
-returns c = rw (← c .before .before .before .statement-at .ensures, c .before .before .match .keys1) (cc)
+returns c =
+    let k = c .before .before in
+    variable-typed _ _ _ (k .before .statement-at .ensures) _ (c .before .type-at .ensures) (k .match .keys1) _ (c .variable-type .ensures)
 
 returns-2 : tie.Need-returns-2
-unfolding statementTyped
-returns-2 c = rw (← c .before .before .before .before .statement-at .ensures, c .before .before .before .match .keys2) (cc)
+returns-2 c =
+    let t = c .before .before in
+    signal-typed _ _ _ (t .before .before .statement-at .ensures) _ (t .type-at2 .ensures) (t .before .match .keys2) _ _ (c .before .signal-type .ensures) (c .type-at3 .ensures)
 
 returns-3 : tie.Need-returns-3
-unfolding statementTyped
-returns-3 c = rw (← c .before .before .statement-at .ensures, c .before .match .keys3) (cc)
+returns-3 c = branch-typed _ _ _ (c .before .before .statement-at .ensures) _ (c .type-at4 .ensures) (c .before .match .keys3)
 
 returns-4 : tie.Need-returns-4
-unfolding statementTyped
-returns-4 c = rw (← c .before .before .before .statement-at .ensures, c .before .before .match .keys4) (cc)
+returns-4 c =
+    let k = c .before .before in
+    wait-typed _ _ _ (k .before .statement-at .ensures) (k .match .keys4) _ _ (c .before .typed-or-absent .ensures) (c .typed-or-absent2 .ensures)
 
 returns-5 : tie.Need-returns-5
-unfolding statementTyped
 returns-5 c =
     let r = c .match .rest in
-    rw (← c .before .statement-at .ensures, ne-eqb _ _ (r .0 .0 .0 .1), ne-eqb _ _ (r .0 .0 .1), ne-eqb _ _ (r .0 .1), ne-eqb _ _ (r .1))
+    other-typed _ _ _ (c .before .statement-at .ensures) (r .0 .0 .0 .1) (r .0 .0 .1) (r .0 .1) (r .1)
 
 pub statement-typed-spec : {M : Type 1} → statement M
 statement-typed-spec =

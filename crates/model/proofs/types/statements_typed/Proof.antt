@@ -1,12 +1,11 @@
-use mathlib.Core.Path.{_≡_, sym, ap, _∙_}
-use Prim.Native.Nat.{_-_, _≤_}
-use native.Mathlib.Nat.{le-antisymm}
-use native.Mathlib.Omega.{arith}
-use borrow.Author.Needs.{needs}
+use mathlib.Core.Path.{_≡_}
+use Prim.Native.Nat.{_-_, _≤_, zero-le}
+use borrow.Author.Count.{falls}
 use Rattle.base.specs.Below.{allBelow}
-use Rattle.base.proofs.Below.{all-none, all-next}
 use Rattle.model.specs.Records.{modelOf, statementAt}
 use Rattle.model.specs.Trees.{statementTyped}
+use Rattle.model.proofs.Counting.{below-total, next-fits, next-most, all-begun, all-turn, all-ended}
+use Rattle.model.proofs.Lookup.{statements-most}
 use Rattle.model.proofs.types.statements_typed.Statement.{statement}
 use Rattle.model.proofs.types.statements_typed.Tie as tie
 
@@ -17,26 +16,29 @@ abbrev μ-loop : tie.MeasureT-loop
 μ-loop m index t ok₀ n₀ ok n = t .statements - n
 
 loop-holds : tie.Need-loop-holds Inv-loop μ-loop
-loop-holds c = (search needs, sym (all-none _))
+loop-holds c = (zero-le, all-begun _)
 
 statement-typed-requires : tie.Need-statement-typed-requires Inv-loop μ-loop
 statement-typed-requires c κs =
     let p = c .before .before .before .before .pre in
-    (p .0, (p .1 .1, omega (arith, c .if1 .taken, p .1 .0 .statements)))
+    (p .0, (p .1 .1, below-total _ _ _ (p .1 .0 .statements) (c .if1 .taken)))
 
 add-n : tie.Need-add-n Inv-loop μ-loop
-add-n c = search needs
+add-n c =
+    let d = c .before in
+    let p = d .before .before .before .before .pre in
+    next-fits _ _ _ (p .1 .0 .statements) (d .if1 .taken) 200 (statements-most _ (p .0 .starts .totals)) tt
 
 loop-less : tie.Need-loop-less Inv-loop μ-loop
-loop-less c = search needs
+loop-less c = falls _ _ (c .before .if1 .taken)
 
 loop-again : tie.Need-loop-again Inv-loop μ-loop
-loop-again c = (search needs, rw (all-next, ← c .before .before .before .loop .inv .1, ← c .statement-typed .ensures))
+loop-again c = (next-most _ _ (c .before .if1 .taken), all-turn _ _ _ _ (c .before .before .before .loop .inv .1) (c .statement-typed .ensures))
 
 returns : tie.Need-returns Inv-loop μ-loop
 returns c =
-    let h = c .before .before .loop in
-    h .inv .1 ∙ ap (allBelow _) (le-antisymm (h .inv .0) (c .if1 .left) ∙ c .before .before .before .before .pre .1 .0 .statements)
+    let l = c .before .before in
+    all-ended _ _ _ _ _ (l .loop .inv .1) (l .loop .inv .0) (c .if1 .left) (l .before .before .pre .1 .0 .statements)
 
 pub statements-typed-spec : {M : Type 1} → statement M
 statements-typed-spec =

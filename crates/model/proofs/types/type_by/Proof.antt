@@ -4,13 +4,12 @@ use mathlib.Core.Bool.{Bool, true, false, _&&_}
 use mathlib.Core.Logic.{⊎-elim}
 use Prim.Native.Nat.{ℕ, _≤_}
 use native.Mathlib.Omega.{arith}
-use borrow.Author.Needs.{needs}
 use Rattle.base.proofs.Below.{among}
 use denote.Ref.{now}
 use Rattle.model.specs.Records.{modelOf}
 use Rattle.model.specs.Trees.{typeBy}
 use Rattle.model.proofs.FieldLaws.{at-least-seven}
-use Rattle.model.proofs.NodeFields.{kind-least, kind-most, names-variable, names-signal}
+use Rattle.model.proofs.NodeFields.{kind-least, kind-most, names-variable, signal-at}
 use Rattle.model.proofs.types.type_by.Statement.{statement}
 use Rattle.model.proofs.types.type_by.Tie as tie
 
@@ -18,25 +17,25 @@ variable-type-requires : tie.Need-variable-type-requires
 variable-type-requires c κs = (c .before .before .pre .0, names-variable _ _ (c .before .before .pre .1) (c .match .keys3))
 
 signal-type-requires : tie.Need-signal-type-requires
-signal-type-requires c κs = (c .before .before .pre .0, names-signal _ _ (c .before .before .pre .1) (omega arith) (omega arith))
+signal-type-requires c κs = (c .before .before .pre .0, signal-at _ _ (c .before .before .pre .1) 4 (c .match .keys4) tt tt)
 
 signal-type-requires-2 : tie.Need-signal-type-requires-2
-signal-type-requires-2 c κs = (c .before .before .pre .0, names-signal _ _ (c .before .before .pre .1) (omega arith) (omega arith))
+signal-type-requires-2 c κs = (c .before .before .pre .0, signal-at _ _ (c .before .before .pre .1) 5 (c .match .keys5) tt tt)
 
 choose-requires : tie.Need-choose-requires
-choose-requires c κs = search needs
+choose-requires c κs = tt
 
 choose-requires-2 : tie.Need-choose-requires-2
-choose-requires-2 c κs = search needs
+choose-requires-2 c κs = tt
 
 choose-requires-3 : tie.Need-choose-requires-3
-choose-requires-3 c κs = search needs
+choose-requires-3 c κs = tt
 
 choose-requires-4 : tie.Need-choose-requires-4
-choose-requires-4 c κs = search needs
+choose-requires-4 c κs = tt
 
 choose-requires-5 : tie.Need-choose-requires-5
-choose-requires-5 c κs = search needs
+choose-requires-5 c κs = tt
 
 returns : tie.Need-returns
 unfolding typeBy

@@ -1,13 +1,12 @@
-use borrow.Author.Needs.{needs}
 use Rattle.model.specs.Trees.{typesOk}
 use Rattle.model.proofs.types.types_ok.Statement.{statement}
 use Rattle.model.proofs.types.types_ok.Tie as tie
 
 fill-types-requires : tie.Need-fill-types-requires
-fill-types-requires c κs = search needs
+fill-types-requires c κs = c .before .before .pre
 
 statements-typed-requires : tie.Need-statements-typed-requires
-statements-typed-requires c κs = search needs
+statements-typed-requires c κs = let f = c .before in (f .fill-types .ensures .1, f .before .before .before .pre .1 .1)
 
 returns : tie.Need-returns
 unfolding typesOk

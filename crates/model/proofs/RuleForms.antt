@@ -1,0 +1,81 @@
+-- The laws of rules 7 and 8 as the code works them out, of what was read of a statement, a signal or the drivers. Assumes nothing.
+use mathlib.Core.Path.{_≡_}
+use mathlib.Core.Bool.{Bool, true, _&&_, _||_}
+use Prim.Native.Nat.{ℕ, _≤_}
+use native.Mathlib.Omega.{arith}
+use lib.Dec.{eqb, leb, ltb}
+use lib.ListN.{length}
+use borrow.Author.Tests.{ne-eqb}
+use Rattle.base.specs.Below.{allBelow, every}
+use Rattle.model.specs.Records.{Model, signalAt, variableAt, statementAt}
+use Rattle.model.specs.Fields.{absent, ownerOf, totalsOk}
+use Rattle.model.specs.Trees.{integer, boolean, typeOf, statementTyped}
+use Rattle.model.specs.Owners.{driversRise, driversOf, singleOk, driverFor, readsOwn, statementOwned, ownersOk}
+use Rattle.model.specs.declared.records.StatementRecord.{StatementRecord}
+use Rattle.model.proofs.Drivers.{driver-most}
+use Rattle.model.proofs.Lookup.{drivers-most}
+
+-- s is statement u, as it was read
+module _ (M : Model) (s u : StatementRecord) (e : s ≡ u) where
+  module _ (x : ℕ) (p : x ≡ typeOf M (s .b)) where
+    pub variable-typed : s .kind ≡ 1 → (y : ℕ) → y ≡ variableAt M (s .a) .ty → eqb x y ≡ statementTyped M u
+    unfolding statementTyped
+    variable-typed k y q = rw (← e, k, p, q)
+
+    pub signal-typed : s .kind ≡ 2 → (y z : ℕ) → y ≡ signalAt M (s .a) .ty → z ≡ typeOf M (s .c) → (eqb x y && eqb z integer) ≡ statementTyped M u
+    unfolding statementTyped
+    signal-typed k y z q r = rw (← e, k, p, q, r)
+
+    pub branch-typed : s .kind ≡ 3 → eqb x boolean ≡ statementTyped M u
+    unfolding statementTyped
+    branch-typed k = rw (← e, k, p)
+
+  pub wait-typed : s .kind ≡ 5 → (x y : Bool) → x ≡ (eqb (s .b) absent || eqb (typeOf M (s .b)) boolean) → y ≡ (eqb (s .c) absent || eqb (typeOf M (s .c)) integer) → (x && y) ≡ statementTyped M u
+  unfolding statementTyped
+  wait-typed k x y p q = rw (← e, k, p, q)
+
+  pub other-typed : (s .kind ≡ 1 → ⊥) → (s .kind ≡ 2 → ⊥) → (s .kind ≡ 3 → ⊥) → (s .kind ≡ 5 → ⊥) → true ≡ statementTyped M u
+  unfolding statementTyped
+  other-typed f g h i = rw (← e, ne-eqb (s .kind) 1 f, ne-eqb (s .kind) 2 g, ne-eqb (s .kind) 3 h, ne-eqb (s .kind) 5 i)
+
+  -- p is its process o, as it was found
+  module _ (p o : ℕ) (f : p ≡ o) where
+    pub variable-owned : s .kind ≡ 1 → (x : ℕ) (y : Bool) → x ≡ variableAt M (s .a) .process → y ≡ readsOwn M p (s .b) → (eqb x p && y) ≡ statementOwned M o u
+    unfolding statementOwned
+    variable-owned k x y q r = rw (← e, ← f, k, q, r)
+
+    pub signal-owned : s .kind ≡ 2 → (d t : ℕ) (x y : Bool) → d ≡ driverFor M o (u .a) → t ≡ length (M .drivers) → x ≡ readsOwn M p (s .b) → y ≡ readsOwn M p (s .c) → ((ltb d t && x) && y) ≡ statementOwned M o u
+    unfolding statementOwned every
+    signal-owned k d t x y q r v w = rw (q, r, v, w, ← e, ← f, k)
+
+    pub branch-owned : s .kind ≡ 3 → (x : Bool) → x ≡ readsOwn M p (s .b) → x ≡ statementOwned M o u
+    unfolding statementOwned
+    branch-owned k x q = rw (← e, ← f, k) q
+
+    pub wait-owned : s .kind ≡ 5 → (x y : Bool) → x ≡ (eqb (s .b) absent || readsOwn M p (s .b)) → y ≡ (eqb (s .c) absent || readsOwn M p (s .c)) → (x && y) ≡ statementOwned M o u
+    unfolding statementOwned
+    wait-owned k x y q r = rw (← e, ← f, k, q, r)
+
+    pub driver-named : (d : ℕ) → d ≡ driverFor M p (s .a) → d ≡ driverFor M o (u .a)
+    driver-named d q = rw (← e, ← f) q
+
+  pub other-owned : (o : ℕ) → (s .kind ≡ 1 → ⊥) → (s .kind ≡ 2 → ⊥) → (s .kind ≡ 3 → ⊥) → (s .kind ≡ 5 → ⊥) → true ≡ statementOwned M o u
+  unfolding statementOwned
+  other-owned o f g h i = rw (← e, ne-eqb (s .kind) 1 f, ne-eqb (s .kind) 2 g, ne-eqb (s .kind) 3 h, ne-eqb (s .kind) 5 i)
+
+module _ (M : Model) where
+  pub driver-small : totalsOk M ≡ true → (p s d : ℕ) → d ≡ driverFor M p s → d ≤ 64
+  driver-small t p s d e = omega (arith, driver-most M p s, drivers-most M t)
+
+  pub single-form : (s x n : ℕ) → x ≡ signalAt M s .ty → n ≡ driversOf M s → (eqb x 1 || leb n 1) ≡ singleOk M s
+  unfolding singleOk
+  single-form s x n p q = rw (p, q)
+
+  pub owners-form :
+      {r s o : Bool} →
+      r ≡ driversRise M →
+      s ≡ allBelow (singleOk M) (length (M .signals)) →
+      o ≡ allBelow (λ n. statementOwned M (ownerOf M n) (statementAt M n)) (length (M .statements)) →
+      ((r && s) && o) ≡ ownersOk M
+  unfolding ownersOk every
+  owners-form p q r = rw (p, q, r)
