@@ -91,9 +91,9 @@ impl Config {
             };
         }
         // The step to the earliest due time: the past of each signal shifts by the units passed.
-        let old = self.signals;
-        let new = shift(old, 32 * self.ns, t - self.time);
-        self.signals = new;
+        let count = 32 * self.ns;
+        let passed = t - self.time;
+        shift(&mut self.signals, count, passed);
         self.time = t;
         self.deltas = 0;
         Answered {

@@ -159,16 +159,16 @@ advance-spec =
     let e = looked at in
     rw (delta at .is)
     (delta-answers _ (facts e) _ (fine e) _ (at .before .actives .ensures) _ (at .loop .self) _ _ _ (passed .left) (at .loop .inv .2) (record { resolved = signals .ensures; woken = processes .ensures }) (delta at .few)))
-    -- mul-shift
+    -- mul-count
     (λ c.
-    let e = c .before .before .before in
+    let e = c .before .before in
     search (needs, few-signals (facts e) (fine e)))
-    -- sub-shift
-    (λ c. search (needs, later (c .before) .from-now))
+    -- sub-passed
+    (λ c. search (needs, later c .from-now))
     -- shift-requires
     (λ c κs.
     let e = c .before .before .before in
-    search (needs, few-signals (facts e) (fine e)))
+    (search (needs, few-signals (facts e) (fine e)), none-taken (entry e) .signals))
     -- returns-3
     (λ c.
     let d = later (c .before .before) in
