@@ -1,29 +1,26 @@
--- What an advance is, by what the struct's numbers say: the standings, the earliest due time and the count of delta steps.
+-- What an advance is, by what `next_due` says of the struct's numbers: the refusal or 0, and the earliest due time.
 -- Assumes nothing.
 use mathlib.Core.Path.{_≡_, refl, sym, ap, _∙_}
 use mathlib.Core.Bool.{Bool, true, false}
 use mathlib.Core.Option.{Option, none, some}
-use Prim.Native.Nat.{ℕ, _≤_, _<_, min}
+use Prim.Native.Nat.{ℕ, _≤_, _<_}
 use native.Mathlib.Omega.{arith}
 use lib.Dec.{eqb, leb, ltb}
-use lib.ListN.{length, getD}
-use borrow.Author.Tests.{eq-eqb, ne-eqb, le-leb, lt-leb, lt-ltb, le-ltb}
-use Rattle.base.specs.Below.{anyBelow, listBelow}
+use borrow.Author.Tests.{eq-eqb, ne-eqb, eqb-true, eqb-false, leb-false, ltb-false}
+use Rattle.base.proofs.Cases.{by-test}
 use Rattle.model.specs.Records.{Model}
 use Rattle.cycle.specs.Configuration.{Configuration}
 use Rattle.cycle.specs.Steps.{deltaStep, timeStep}
-use Rattle.cycle.specs.Orders.{refused, least, earliest, dueTimes, dueNow, advanceDone, timeOrder, isReady, isStopped, advanced}
+use Rattle.cycle.specs.Orders.{refused, earliest, dueTimes, dueNow, advanceDone, timeOrder, isReady, isStopped, advanced}
 use Rattle.cycle.specs.Invariant.{lastTime}
 use Rattle.cycle.specs.View.{never, viewOf, Fine}
+use Rattle.cycle.specs.Due.{soonestIn, someIs, refusalIn, DueIn}
 use Rattle.cycle.specs.declared.config.Config.{Config}
+use Rattle.cycle.specs.declared.due.Due.{Due}
 use Rattle.model.specs.Facts.{Facts}
 use Rattle.cycle.proofs.ViewLaws.{ns-is, nd-is, np-is}
 use Rattle.cycle.proofs.DueTimes.{due-within}
 use Rattle.cycle.proofs.Soonest.{orNever, soonest, due-now, standing-is}
-
--- the earliest of the earliest
-pub soonest-found : {t a b x y : ℕ} → t ≡ min a b → a ≡ x → b ≡ y → t ≡ min x y
-soonest-found e p q = cc
 
 -- the totals of the struct are within the limits
 module _ {M : Model} {c : Config} (k : Facts M) (f : Fine M c) where
@@ -37,60 +34,119 @@ module _ {M : Model} {c : Config} (k : Facts M) (f : Fine M c) where
   few-processes = rw (np-is M c (f .reachable)) (k .totals .processes)
 
 module _ (M : Model) (c : Config) (f : Fine M c) where
-  -- some process has the standing
   abbrev some-is : ℕ → Bool
-  some-is x = anyBelow (λ p. eqb (getD (c .standings) p 0) x) (c .np)
+  some-is = someIs (c .standings) (c .np)
 
-  pub one-ready : some-is 0 ≡ true → advanced M (viewOf c) ≡ refused 14 (viewOf c)
+  abbrev t : ℕ
+  t = soonestIn (c .due) (c .nd) (c .deadlines) (c .np)
+
+  -- a delta step is due, and a time step
+  pub record DeltaDue : Type 0 where
+    pub few : c .deltas < 1000
+    pub is : advanced M (viewOf c) ≡ advanceDone 1 (deltaStep M (viewOf c))
+
+  pub record TimeDue (t : ℕ) : Type 0 where
+    pub earliest-at : earliest (dueTimes M (viewOf c)) ≡ some t
+    pub in-time : t ≤ lastTime
+    pub from-now : c .time ≤ t
+    pub is : advanced M (viewOf c) ≡ advanceDone 2 (timeStep t (viewOf c))
+
+  -- the cases of the refusal n
+  data Case : ℕ → Type 0 where
+    refuses : (n : ℕ) → (n ≡ 0 → ⊥) → advanced M (viewOf c) ≡ refused n (viewOf c) → Case n
+    delta : t ≡ c .time → DeltaDue → Case 0
+    timed : (t ≡ c .time → ⊥) → TimeDue t → Case 0
+
+  one-ready : some-is 0 ≡ true → Case 14
   unfolding advanced isReady
-  one-ready e = rw (sym (standing-is M c 0 f) ∙ e)
+  one-ready e = refuses 14 (λ z. omega arith) (rw (sym (standing-is M c 0 f) ∙ e))
 
   module _ (q : some-is 0 ≡ false) where
-    pub one-stopped : some-is 2 ≡ true → advanced M (viewOf c) ≡ refused 15 (viewOf c)
+    one-stopped : some-is 2 ≡ true → Case 15
     unfolding advanced isReady isStopped
-    one-stopped e = rw (sym (standing-is M c 0 f) ∙ q, sym (standing-is M c 2 f) ∙ e)
+    one-stopped e = refuses 15 (λ z. omega arith) (rw (sym (standing-is M c 0 f) ∙ q, sym (standing-is M c 2 f) ∙ e))
 
-    module _ (s : some-is 2 ≡ false) (t : ℕ) (e : t ≡ min (least never (listBelow (λ k. getD (c .due) k 0) (c .nd))) (least never (listBelow (λ p. getD (c .deadlines) p 0) (c .np)))) where
-      due-is : dueNow M (viewOf c) ≡ eqb t (c .time)
-      due-is = due-now M c f ∙ rw (← e)
-
-      earliest-is : t ≡ orNever (earliest (dueTimes M (viewOf c)))
-      earliest-is = e ∙ soonest M c f
-
+    module _ (s : some-is 2 ≡ false) where
       module _ (n : t ≡ c .time) where
-        pub too-many : 1000 ≤ c .deltas → advanced M (viewOf c) ≡ refused 16 (viewOf c)
+        too-many : leb 1000 (c .deltas) ≡ true → Case 16
         unfolding advanced isReady isStopped viewOf
-        too-many h = rw (sym (standing-is M c 0 f) ∙ q, sym (standing-is M c 2 f) ∙ s, due-is ∙ eq-eqb t (c .time) n, le-leb 1000 (c .deltas) h)
+        too-many h = refuses 16 (λ z. omega arith) (rw (sym (standing-is M c 0 f) ∙ q, sym (standing-is M c 2 f) ∙ s, due-now M c f ∙ eq-eqb t (c .time) n, h))
 
-        pub delta-due : c .deltas < 1000 → advanced M (viewOf c) ≡ advanceDone 1 (deltaStep M (viewOf c))
+        delta-due : leb 1000 (c .deltas) ≡ false → Case 0
         unfolding advanced isReady isStopped viewOf
-        delta-due h = rw (sym (standing-is M c 0 f) ∙ q, sym (standing-is M c 2 f) ∙ s, due-is ∙ eq-eqb t (c .time) n, lt-leb 1000 (c .deltas) h)
+        delta-due h =
+            delta n
+            (record { few = leb-false _ _ h; is = rw (sym (standing-is M c 0 f) ∙ q, sym (standing-is M c 2 f) ∙ s, due-now M c f ∙ eq-eqb t (c .time) n, h) })
 
       module _ (n : t ≡ c .time → ⊥) where
-        timed : advanced M (viewOf c) ≡ timeOrder (earliest (dueTimes M (viewOf c))) (viewOf c)
+        by-time : advanced M (viewOf c) ≡ timeOrder (earliest (dueTimes M (viewOf c))) (viewOf c)
         unfolding advanced isReady isStopped
-        timed = rw (sym (standing-is M c 0 f) ∙ q, sym (standing-is M c 2 f) ∙ s, due-is ∙ ne-eqb t (c .time) n)
+        by-time = rw (sym (standing-is M c 0 f) ∙ q, sym (standing-is M c 2 f) ∙ s, due-now M c f ∙ ne-eqb t (c .time) n)
 
         none-by : (o : Option ℕ) → earliest (dueTimes M (viewOf c)) ≡ o → orNever o ≡ never → timeOrder o (viewOf c) ≡ refused 17 (viewOf c)
         none-by none h z = refl
         none-by (some u) h z = let w = due-within M (viewOf c) (f .reachable) u h in absurd (omega (arith, w .most))
 
-        pub never-due : t ≡ never → advanced M (viewOf c) ≡ refused 17 (viewOf c)
-        never-due z = timed ∙ none-by (earliest (dueTimes M (viewOf c))) refl (sym earliest-is ∙ z)
+        never-due : t ≡ never → Case 17
+        never-due z = refuses 17 (λ z. omega arith) (by-time ∙ none-by (earliest (dueTimes M (viewOf c))) refl (sym (soonest M c f) ∙ z))
 
         some-by : (o : Option ℕ) → t ≡ orNever o → (t ≡ never → ⊥) → o ≡ some t
         some-by none h z = absurd (z h)
         some-by (some u) h z = ap some (sym h)
 
-        pub earliest-at : (t ≡ never → ⊥) → earliest (dueTimes M (viewOf c)) ≡ some t
-        earliest-at z = some-by (earliest (dueTimes M (viewOf c))) earliest-is z
+        module _ (z : t ≡ never → ⊥) where
+          earliest-is : earliest (dueTimes M (viewOf c)) ≡ some t
+          earliest-is = some-by (earliest (dueTimes M (viewOf c))) (soonest M c f) z
 
-        pub too-late : (t ≡ never → ⊥) → lastTime < t → advanced M (viewOf c) ≡ refused 18 (viewOf c)
-        too-late z h = timed ∙ rw (earliest-at z, lt-ltb lastTime t h)
+          too-late : ltb lastTime t ≡ true → Case 18
+          too-late h = refuses 18 (λ z. omega arith) (by-time ∙ rw (earliest-is, h))
 
-        pub time-due : (t ≡ never → ⊥) → t ≤ lastTime → advanced M (viewOf c) ≡ advanceDone 2 (timeStep t (viewOf c))
-        time-due z h = timed ∙ rw (earliest-at z, le-ltb lastTime t h)
+          time-due : ltb lastTime t ≡ false → Case 0
+          unfolding viewOf
+          time-due h =
+              timed n
+              (record {
+                earliest-at = earliest-is;
+                in-time = ltb-false _ _ h;
+                from-now = due-within M (viewOf c) (f .reachable) t earliest-is .from;
+                is = by-time ∙ rw (earliest-is, h);
+              })
 
-        pub from-now : (t ≡ never → ⊥) → c .time ≤ t
-        unfolding viewOf
-        from-now z = due-within M (viewOf c) (f .reachable) t (earliest-at z) .from
+  decided : Case (refusalIn (c .standings) (c .np) t (c .time) (c .deltas))
+  unfolding refusalIn
+  decided =
+      by-test Case (some-is 0) _ _ one-ready
+      (λ q. by-test Case (some-is 2) _ _ (one-stopped q)
+      (λ s. by-test Case (eqb t (c .time)) _ _
+      (λ n. by-test Case (leb 1000 (c .deltas)) _ _ (too-many q s (eqb-true _ _ n)) (delta-due q s (eqb-true _ _ n)))
+      (λ n. by-test Case (eqb t never) _ _ (λ z. never-due q s (eqb-false _ _ n) (eqb-true _ _ z))
+      (λ z. by-test Case (ltb lastTime t) _ _ (too-late q s (eqb-false _ _ n) (eqb-false _ _ z)) (time-due q s (eqb-false _ _ n) (eqb-false _ _ z))))))
+
+  refused-case : {n : ℕ} → Case n → (n ≡ 0 → ⊥) → advanced M (viewOf c) ≡ refused n (viewOf c)
+  refused-case (refuses n z e) h = e
+  refused-case (delta e d) h = absurd (h refl)
+  refused-case (timed e d) h = absurd (h refl)
+
+  delta-case : {n : ℕ} → Case n → n ≡ 0 → t ≡ c .time → DeltaDue
+  delta-case (refuses n z e) h w = absurd (z h)
+  delta-case (delta e d) h w = d
+  delta-case (timed e d) h w = absurd (e w)
+
+  time-case : {n : ℕ} → Case n → n ≡ 0 → (t ≡ c .time → ⊥) → TimeDue t
+  time-case (refuses n z e) h w = absurd (z h)
+  time-case (delta e d) h w = absurd (w e)
+  time-case (timed e d) h w = d
+
+  -- what an advance is, by what `next_due` found
+  module _ (r : Due) (d : DueIn (c .standings) (c .due) (c .deadlines) (c .np) (c .nd) (c .time) (c .deltas) r) where
+    found : Case (r .refusal)
+    found = rw (d .refusal, d .earliest) decided
+
+    pub advance-refused : (r .refusal ≡ 0 → ⊥) → advanced M (viewOf c) ≡ refused (r .refusal) (viewOf c)
+    advance-refused = refused-case found
+
+    pub delta-due-now : r .refusal ≡ 0 → r .time ≡ c .time → DeltaDue
+    delta-due-now h e = delta-case found h (sym (d .earliest) ∙ e)
+
+    pub time-due-later : r .refusal ≡ 0 → (r .time ≡ c .time → ⊥) → TimeDue (r .time)
+    time-due-later h e = rw (d .earliest) (time-case found h (λ z. e (d .earliest ∙ z)))

@@ -22,13 +22,28 @@ use Rattle.cycle.specs.declared.config.Config.{Config}
 use Rattle.cycle.proofs.AdvanceReachable.{shifted-length, time-reachable}
 use Rattle.cycle.proofs.Lists.{map-at}
 
--- one entry more
-pub shift-turn : (old new : List ℕ) (n i v : ℕ) → i < length new → v ≡ getD old (i - min (i % 32) n) 0 → ShiftedBy old n i new → ShiftedBy old n (i + 1) (set new i v)
-shift-turn old new n i v l e h j m =
-    elim (ℕ-discrete j i) [
-      | yes q ↦ rw (q, getD-set-same new i v 0 l) e
-      | no q ↦ rw (getD-set-other new i j v 0 q) (h j (omega arith))
-    ]
+-- of the first count entries, those from i on are shifted and the others stand
+pub record Shifting (old : List ℕ) (n count i : ℕ) (new : List ℕ) : Type 0 where
+  pub done : (j : ℕ) → i ≤ j → j < count → getD new j 0 ≡ getD old (j - min (j % 32) n) 0
+  pub left : (j : ℕ) → j < i → getD new j 0 ≡ getD old j 0
+
+module _ (old : List ℕ) (n count : ℕ) where
+  pub shift-none : Shifting old n count count old
+  shift-none = record { done = λ j l h. absurd (omega arith); left = λ j l. refl }
+
+  -- one entry more: entry i takes what stood at or before it
+  pub shift-turn : (new : List ℕ) (u i v : ℕ) → u ≡ i + 1 → i < length new → v ≡ getD new (i - min (i % 32) n) 0 → Shifting old n count u new → Shifting old n count i (set new i v)
+  shift-turn new u i v s l e h =
+      record {
+        done = λ j m c. elim (ℕ-discrete j i) [
+          | yes q ↦ rw (q, getD-set-same new i v 0 l) (e ∙ h .left (i - min (i % 32) n) (omega arith))
+          | no q ↦ rw (getD-set-other new i j v 0 q) (h .done j (omega (arith, q)) c)
+        ];
+        left = λ j m. getD-set-other new i j v 0 (λ q. omega arith) ∙ h .left j (omega arith);
+      }
+
+  pub shift-all : (new : List ℕ) (i : ℕ) → i ≤ 0 → Shifting old n count i new → ShiftedBy old n count new
+  shift-all new i z h j l = h .done j (omega arith) l
 
 -- the value of k units ago, after n units
 shifted-at : (n : ℕ) (h : List ℕ) (k : ℕ) → k < 32 → getD (shifted n h) k 0 ≡ getD h (k - min k n) 0

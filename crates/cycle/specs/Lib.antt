@@ -9,3 +9,4 @@ pub mod Waveform
 pub mod Arrays
 pub mod Delta
 pub mod Shift
+pub mod Due

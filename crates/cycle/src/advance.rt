@@ -7,10 +7,7 @@ use crate::delta::Processes;
 use crate::delta::actives;
 use crate::delta::resolve;
 use crate::delta::wake;
-use crate::due::any_standing;
-use crate::due::earlier;
-use crate::due::earliest_deadline;
-use crate::due::earliest_driver;
+use crate::due::next_due;
 use crate::time::shift;
 use crate::turns::Answered;
 
@@ -20,22 +17,25 @@ impl Config {
         requires { ⌜ Fine (modelOf (now m)) self ⌝ }
         ensures { λ r. ⌜ Answers (modelOf (now (m .entry))) r (advanced (modelOf (now (m .entry))) (viewOf self)) ⌝ }
     {
-        let np = self.np;
-        if any_standing(&self.standings, np, 0) {
-            return self.refused(14);
+        let due = next_due(
+            &self.standings,
+            &self.due,
+            &self.deadlines,
+            self.np,
+            self.nd,
+            self.time,
+            self.deltas,
+        );
+        let refusal = due.refusal;
+        if refusal != 0 {
+            return self.refused(refusal);
         }
-        if any_standing(&self.standings, np, 2) {
-            return self.refused(15);
-        }
-        let first = earliest_driver(&self.due, self.nd);
-        let t = earlier(first, earliest_deadline(&self.deadlines, np));
+        let t = due.time;
         if t == self.time {
-            if self.deltas >= 1000 {
-                return self.refused(16);
-            }
             // Each due transaction becomes its driver's current value and leaves; then the signals, then the processes.
             let ns = self.ns;
             let nd = self.nd;
+            let np = self.np;
             let time = self.time;
             let active = actives(m, index, &self.due, nd, time);
             let mut k = 0;
@@ -90,16 +90,10 @@ impl Config {
                 config: self,
             };
         }
-        if t == 18446744073709551615 {
-            return self.refused(17);
-        }
-        if t > 1000000000000 {
-            return self.refused(18);
-        }
         // The step to the earliest due time: the past of each signal shifts by the units passed.
-        let old = self.signals;
-        let new = shift(old, 32 * self.ns, t - self.time);
-        self.signals = new;
+        let count = 32 * self.ns;
+        let passed = t - self.time;
+        shift(&mut self.signals, count, passed);
         self.time = t;
         self.deltas = 0;
         Answered {

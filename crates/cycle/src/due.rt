@@ -6,6 +6,13 @@ ghost use lib.ListN.{getD};
 ghost use Rattle.base.specs.Below.{anyBelow, listBelow};
 ghost use Rattle.cycle.specs.Orders.{least};
 ghost use Rattle.cycle.specs.View.{never};
+ghost use Rattle.cycle.specs.Due.{refusalIn, DueIn};
+
+// The refusal of an advance, or 0, and the earliest due time.
+pub struct Due {
+    pub refusal: usize,
+    pub time: u64,
+}
 
 pub fn earlier(a: u64, b: u64) -> u64
     ensures { λ r. ⌜ r ≡ min a b ⌝ }
@@ -53,4 +60,52 @@ pub fn any_standing(standings: &[usize; 16], n: usize, standing: usize) -> bool
         i += 1;
     }
     false
+}
+
+// The refusal of an advance, or 0, where t is the earliest due time.
+fn refusal(standings: &[usize; 16], np: usize, t: u64, time: u64, deltas: u64) -> usize
+    requires { ⌜ np ≤ 16 ⌝ }
+    ensures { λ r. ⌜ r ≡ refusalIn (now (standings .entry)) np t time deltas ⌝ }
+{
+    if any_standing(standings, np, 0) {
+        return 14;
+    }
+    if any_standing(standings, np, 2) {
+        return 15;
+    }
+    if t == time {
+        if deltas >= 1000 {
+            return 16;
+        }
+        return 0;
+    }
+    if t == 18446744073709551615 {
+        return 17;
+    }
+    if t > 1000000000000 {
+        return 18;
+    }
+    0
+}
+
+// What an advance looks at.
+pub fn next_due<'a>(
+    standings: &'a [usize; 16],
+    due: &'a [u64; 64],
+    deadlines: &'a [u64; 16],
+    np: usize,
+    nd: usize,
+    time: u64,
+    deltas: u64,
+) -> Due
+    requires { ⌜ np ≤ 16 ⌝ }
+    requires { ⌜ nd ≤ 64 ⌝ }
+    ensures { λ r. ⌜ DueIn (now (standings .entry)) (now (due .entry)) (now (deadlines .entry)) np nd time deltas r ⌝ }
+{
+    let first = earliest_driver(due, nd);
+    let t = earlier(first, earliest_deadline(deadlines, np));
+    Due {
+        refusal: refusal(standings, np, t, time, deltas),
+        time: t,
+    }
 }

@@ -21,14 +21,16 @@ impl Config {
     {
         let now = self.time;
         let place = self.places[p];
-        match does(m, index, &self.variables, &self.signals, place) {
+        let effect = does(m, index, &self.variables, &self.signals, place);
+        let next = next_place(m, index, p, place);
+        match effect {
             Effect::Skip => {
-                self.places[p] = next_place(m, index, p, place);
+                self.places[p] = next;
                 self
             }
             Effect::Store(a, v) => {
                 self.variables[a] = v;
-                self.places[p] = next_place(m, index, p, place);
+                self.places[p] = next;
                 self
             }
             Effect::Schedule(k, d, v) => {
@@ -42,7 +44,7 @@ impl Config {
                 let f = r.driver;
                 self.due[k] = f.first_time();
                 self.drivers[k] = f;
-                self.places[p] = next_place(m, index, p, place);
+                self.places[p] = next;
                 self
             }
             Effect::Jump(a) => {

@@ -1,6 +1,7 @@
 // The time step: the past of each signal shifts by the units passed.
 ghost use mathlib.Core.Path.{_≡_};
 ghost use Prim.Native.Nat.{_≤_, min};
+ghost use lib.ListN.{length};
 ghost use Rattle.cycle.specs.Shift.{ShiftedBy};
 
 fn lesser(a: usize, n: u64) -> usize
@@ -9,18 +10,17 @@ fn lesser(a: usize, n: u64) -> usize
     if n < a as u64 { n as usize } else { a }
 }
 
-// The histories in the first count entries, after n units.
-pub fn shift(old: [u32; 1024], count: usize, n: u64) -> [u32; 1024]
+// The histories in the first count entries, after n units: from the last entry down, so that what an entry takes still stands.
+pub fn shift(signals: &mut [u32; 1024], count: usize, n: u64)
     requires { ⌜ count ≤ 1024 ⌝ }
-    ensures { λ r. ⌜ ShiftedBy old n count r ⌝ }
+    requires { ⌜ length (now signals) ≡ 1024 ⌝ }
+    ensures { λ r. ⌜ ShiftedBy (now (signals .entry)) n count (now (signals .exit)) ⌝ }
 {
-    let mut new = old;
-    let mut i = 0;
-    while i < count {
+    let mut i = count;
+    while i > 0 {
+        i -= 1;
         let k = lesser(i % 32, n);
-        let v = old[i - k];
-        new[i] = v;
-        i += 1;
+        let v = signals[i - k];
+        signals[i] = v;
     }
-    new
 }

@@ -62,14 +62,16 @@ impl Config {
             }
             let place = self.places[p];
             n += 1;
-            match does(m, index, &self.variables, &self.signals, place) {
+            let effect = does(m, index, &self.variables, &self.signals, place);
+            let next = next_place(m, index, p, place);
+            match effect {
                 Effect::Skip => {
-                    self.places[p] = next_place(m, index, p, place);
+                    self.places[p] = next;
                     continue;
                 }
                 Effect::Store(a, v) => {
                     self.variables[a] = v;
-                    self.places[p] = next_place(m, index, p, place);
+                    self.places[p] = next;
                     continue;
                 }
                 Effect::Schedule(k, d, v) => {
@@ -83,7 +85,7 @@ impl Config {
                     let f = r.driver;
                     self.due[k] = f.first_time();
                     self.drivers[k] = f;
-                    self.places[p] = next_place(m, index, p, place);
+                    self.places[p] = next;
                     continue;
                 }
                 Effect::Jump(a) => {

@@ -105,11 +105,11 @@ add-n c = omega (arith, ahead (c .before .before .before) .0)
 does-requires : tie.Need-does-requires Inv-loop μ-loop
 does-requires c κs = (c .before .before .before .before .before .before .before .before .before .pre .0, statement-there _ (c .before .before .before .before .before .before .before .before .before .pre .0 .facts) _ (c .before .before .before .before .before .before .before .loop .inv .fine) _ (omega (arith, ahead (c .before .before .before .before .before .before) .1)))
 
+next-place-requires : tie.Need-next-place-requires Inv-loop μ-loop
+next-place-requires c κs = asked c
+
 enum-told : tie.Need-enum-told Inv-loop μ-loop
 enum-told c = search needs
-
-next-place-requires : tie.Need-next-place-requires Inv-loop μ-loop
-next-place-requires c κs = asked (c .before .before)
 
 mul-self : tie.Need-mul-self Inv-loop μ-loop
 mul-self c = search needs
@@ -121,19 +121,16 @@ loop-less-2 : tie.Need-loop-less-2 Inv-loop μ-loop
 loop-less-2 c = falls (c .before .before .before)
 
 loop-again-2 : tie.Need-loop-again-2 Inv-loop μ-loop
-loop-again-2 c = next (c .before .before .before) _ (skip-turn (turn (c .before .before .before)) (c .before .enum-told .given .1) _ (c .next-place .ensures))
+loop-again-2 c = next (c .before .before .before) _ (skip-turn (turn (c .before .before .before)) (c .enum-told .given .1) _ (c .before .before .next-place .ensures))
 
-enum-known-a : tie.Need-enum-known-a Inv-loop μ-loop
-enum-known-a c = search needs
+enum-known-effect : tie.Need-enum-known-effect Inv-loop μ-loop
+enum-known-effect c = search needs
 
 mul-self-2 : tie.Need-mul-self-2 Inv-loop μ-loop
-mul-self-2 c = omega (arith, in-variables (turn (c .before .before .before)) _ _ (c .before .a .given .1))
+mul-self-2 c = omega (arith, in-variables (turn (c .before .before .before .before)) _ _ (c .before .effect .given .1))
 
 element-write-self-2 : tie.Need-element-write-self-2 Inv-loop μ-loop
-element-write-self-2 c = in-variables (turn (c .before .before .before)) _ _ (c .before .a .given .1)
-
-next-place-requires-2 : tie.Need-next-place-requires-2 Inv-loop μ-loop
-next-place-requires-2 c κs = asked (c .before .before .before)
+element-write-self-2 c = in-variables (turn (c .before .before .before .before)) _ _ (c .before .effect .given .1)
 
 mul-self-3 : tie.Need-mul-self-3 Inv-loop μ-loop
 mul-self-3 c = search needs
@@ -145,61 +142,58 @@ loop-less-3 : tie.Need-loop-less-3 Inv-loop μ-loop
 loop-less-3 c = falls (c .before .before .before .before)
 
 loop-again-3 : tie.Need-loop-again-3 Inv-loop μ-loop
-loop-again-3 c = next (c .before .before .before .before) _ (store-turn (turn (c .before .before .before .before)) _ _ (c .before .before .a .given .1) _ (c .next-place2 .ensures))
+loop-again-3 c = next (c .before .before .before .before) _ (store-turn (turn (c .before .before .before .before)) _ _ (c .before .effect .given .1) _ (c .before .before .before .next-place .ensures))
 
-enum-known-k : tie.Need-enum-known-k Inv-loop μ-loop
-enum-known-k c = search needs
+enum-known-effect-2 : tie.Need-enum-known-effect-2 Inv-loop μ-loop
+enum-known-effect-2 c = search needs
 
 mul-e : tie.Need-mul-e Inv-loop μ-loop
-mul-e c = omega (arith, in-drivers (turn (c .before .before .before)) _ _ _ (c .before .k .given .1))
+mul-e c = omega (arith, in-drivers (turn (c .before .before .before .before)) _ _ _ (c .before .effect2 .given .1))
 
 element-copy-out-e : tie.Need-element-copy-out-e Inv-loop μ-loop
-element-copy-out-e c = in-drivers (turn (c .before .before .before)) _ _ _ (c .before .k .given .1)
+element-copy-out-e c = in-drivers (turn (c .before .before .before .before)) _ _ _ (c .before .effect2 .given .1)
 
 cast-schedule : tie.Need-cast-schedule Inv-loop μ-loop
 cast-schedule c = search needs
 
 add-schedule : tie.Need-add-schedule Inv-loop μ-loop
-add-schedule c = omega (arith, early (turn (c .before .before .before .before)), delay-small (turn (c .before .before .before .before)) _ _ _ (c .before .before .k .given .1))
+add-schedule c = omega (arith, early (turn (c .before .before .before .before .before)), delay-small (turn (c .before .before .before .before .before)) _ _ _ (c .before .before .effect2 .given .1))
 
 schedule-requires : tie.Need-schedule-requires Inv-loop μ-loop
-schedule-requires c κs = waveform (turn (c .before .before .before .before)) _ _ _ (c .before .before .k .given .1)
+schedule-requires c κs = waveform (turn (c .before .before .before .before .before)) _ _ _ (c .before .before .effect2 .given .1)
 
 mul-self-4 : tie.Need-mul-self-4 Inv-loop μ-loop
 mul-self-4 c = search needs
 
 element-write-self-4 : tie.Need-element-write-self-4 Inv-loop μ-loop
-element-write-self-4 c = in-16 (turn (c .before .before .before .before .before .before))
+element-write-self-4 c = in-16 (turn (c .before .before .before .before .before .before .before))
 
 mul-self-5 : tie.Need-mul-self-5 Inv-loop μ-loop
 mul-self-5 c = search needs
 
 element-write-self-5 : tie.Need-element-write-self-5 Inv-loop μ-loop
-element-write-self-5 c = in-16 (turn (c .before .before .before .before .before .before))
+element-write-self-5 c = in-16 (turn (c .before .before .before .before .before .before .before))
 
 loop-less-4 : tie.Need-loop-less-4 Inv-loop μ-loop
-loop-less-4 c = falls (c .before .before .before .before .before .before)
+loop-less-4 c = falls (c .before .before .before .before .before .before .before)
 
 loop-again-4 : tie.Need-loop-again-4 Inv-loop μ-loop
-loop-again-4 c = next (c .before .before .before .before .before .before) _ (full-turn (turn (c .before .before .before .before .before .before)) _ _ _ (c .before .before .before .before .k .given .1) _ (c .before .schedule .ensures) (c .if2 .taken))
+loop-again-4 c = next (c .before .before .before .before .before .before .before) _ (full-turn (turn (c .before .before .before .before .before .before .before)) _ _ _ (c .before .before .before .before .effect2 .given .1) _ (c .before .schedule .ensures) (c .if2 .taken))
 
 first-time-requires : tie.Need-first-time-requires Inv-loop μ-loop
 first-time-requires c κs = search needs
 
 mul-self-6 : tie.Need-mul-self-6 Inv-loop μ-loop
-mul-self-6 c = omega (arith, in-drivers (turn (c .before .before .before .before .before .before .before .before)) _ _ _ (c .before .before .before .before .before .before .k .given .1))
+mul-self-6 c = omega (arith, in-drivers (turn (c .before .before .before .before .before .before .before .before .before)) _ _ _ (c .before .before .before .before .before .before .effect2 .given .1))
 
 element-write-self-6 : tie.Need-element-write-self-6 Inv-loop μ-loop
-element-write-self-6 c = in-drivers (turn (c .before .before .before .before .before .before .before .before)) _ _ _ (c .before .before .before .before .before .before .k .given .1)
+element-write-self-6 c = in-drivers (turn (c .before .before .before .before .before .before .before .before .before)) _ _ _ (c .before .before .before .before .before .before .effect2 .given .1)
 
 mul-f : tie.Need-mul-f Inv-loop μ-loop
-mul-f c = omega (arith, in-drivers (turn (c .before .before .before .before .before .before .before .before)) _ _ _ (c .before .before .before .before .before .before .k .given .1))
+mul-f c = omega (arith, in-drivers (turn (c .before .before .before .before .before .before .before .before .before)) _ _ _ (c .before .before .before .before .before .before .effect2 .given .1))
 
 element-set-from-f : tie.Need-element-set-from-f Inv-loop μ-loop
-element-set-from-f c = in-drivers (turn (c .before .before .before .before .before .before .before .before)) _ _ _ (c .before .before .before .before .before .before .k .given .1)
-
-next-place-requires-3 : tie.Need-next-place-requires-3 Inv-loop μ-loop
-next-place-requires-3 c κs = asked (c .before .before .before .before .before .before .before .before)
+element-set-from-f c = in-drivers (turn (c .before .before .before .before .before .before .before .before .before)) _ _ _ (c .before .before .before .before .before .before .effect2 .given .1)
 
 mul-self-7 : tie.Need-mul-self-7 Inv-loop μ-loop
 mul-self-7 c = search needs
@@ -211,22 +205,22 @@ loop-less-5 : tie.Need-loop-less-5 Inv-loop μ-loop
 loop-less-5 c = falls (c .before .before .before .before .before .before .before .before .before)
 
 loop-again-5 : tie.Need-loop-again-5 Inv-loop μ-loop
-loop-again-5 c = next (c .before .before .before .before .before .before .before .before .before) _ (schedule-turn (turn (c .before .before .before .before .before .before .before .before .before)) _ _ _ (c .before .before .before .before .before .before .before .k .given .1) _ (c .before .before .before .before .schedule .ensures) (c .before .before .before .if2 .left) _ _ (c .before .first-time .ensures) (c .next-place3 .ensures))
+loop-again-5 c = next (c .before .before .before .before .before .before .before .before .before) _ (schedule-turn (turn (c .before .before .before .before .before .before .before .before .before)) _ _ _ (c .before .before .before .before .before .before .effect2 .given .1) _ (c .before .before .before .schedule .ensures) (c .before .before .if2 .left) _ _ (c .first-time .ensures) (c .before .before .before .before .before .before .before .before .next-place .ensures))
 
-enum-known-a-2 : tie.Need-enum-known-a-2 Inv-loop μ-loop
-enum-known-a-2 c = search needs
+enum-known-effect-3 : tie.Need-enum-known-effect-3 Inv-loop μ-loop
+enum-known-effect-3 c = search needs
 
 mul-self-8 : tie.Need-mul-self-8 Inv-loop μ-loop
 mul-self-8 c = search needs
 
 element-write-self-8 : tie.Need-element-write-self-8 Inv-loop μ-loop
-element-write-self-8 c = in-16 (turn (c .before .before .before))
+element-write-self-8 c = in-16 (turn (c .before .before .before .before))
 
 loop-less-6 : tie.Need-loop-less-6 Inv-loop μ-loop
-loop-less-6 c = falls (c .before .before .before)
+loop-less-6 c = falls (c .before .before .before .before)
 
 loop-again-6 : tie.Need-loop-again-6 Inv-loop μ-loop
-loop-again-6 c = next (c .before .before .before) _ (jump-turn (turn (c .before .before .before)) _ (c .before .a2 .given .1))
+loop-again-6 c = next (c .before .before .before .before) _ (jump-turn (turn (c .before .before .before .before)) _ (c .before .effect3 .given .1))
 
 enum-told-2 : tie.Need-enum-told-2 Inv-loop μ-loop
 enum-told-2 c = search needs
@@ -235,61 +229,61 @@ mul-self-9 : tie.Need-mul-self-9 Inv-loop μ-loop
 mul-self-9 c = search needs
 
 element-write-self-9 : tie.Need-element-write-self-9 Inv-loop μ-loop
-element-write-self-9 c = in-16 (turn (c .before .before))
+element-write-self-9 c = in-16 (turn (c .before .before .before))
 
 loop-less-7 : tie.Need-loop-less-7 Inv-loop μ-loop
-loop-less-7 c = falls (c .before .before)
+loop-less-7 c = falls (c .before .before .before)
 
 loop-again-7 : tie.Need-loop-again-7 Inv-loop μ-loop
-loop-again-7 c = next (c .before .before) _ (wait-turn (turn (c .before .before)) (c .enum-told2 .given .1))
+loop-again-7 c = next (c .before .before .before) _ (wait-turn (turn (c .before .before .before)) (c .enum-told2 .given .1))
 
-enum-known-d : tie.Need-enum-known-d Inv-loop μ-loop
-enum-known-d c = search needs
+enum-known-effect-4 : tie.Need-enum-known-effect-4 Inv-loop μ-loop
+enum-known-effect-4 c = search needs
 
 mul-self-10 : tie.Need-mul-self-10 Inv-loop μ-loop
 mul-self-10 c = search needs
 
 element-write-self-10 : tie.Need-element-write-self-10 Inv-loop μ-loop
-element-write-self-10 c = in-16 (turn (c .before .before .before))
+element-write-self-10 c = in-16 (turn (c .before .before .before .before))
 
 cast-self : tie.Need-cast-self Inv-loop μ-loop
 cast-self c = search needs
 
 add-self : tie.Need-add-self Inv-loop μ-loop
-add-self c = omega (arith, early (turn (c .before .before .before)), wait-small (turn (c .before .before .before)) _ (c .before .d .given .1))
+add-self c = omega (arith, early (turn (c .before .before .before .before)), wait-small (turn (c .before .before .before .before)) _ (c .before .effect4 .given .1))
 
 mul-self-11 : tie.Need-mul-self-11 Inv-loop μ-loop
 mul-self-11 c = search needs
 
 element-write-self-11 : tie.Need-element-write-self-11 Inv-loop μ-loop
-element-write-self-11 c = in-16 (turn (c .before .before .before))
+element-write-self-11 c = in-16 (turn (c .before .before .before .before))
 
 loop-less-8 : tie.Need-loop-less-8 Inv-loop μ-loop
-loop-less-8 c = falls (c .before .before .before)
+loop-less-8 c = falls (c .before .before .before .before)
 
 loop-again-8 : tie.Need-loop-again-8 Inv-loop μ-loop
-loop-again-8 c = next (c .before .before .before) _ (wait-for-turn (turn (c .before .before .before)) _ (c .before .d .given .1) _ refl)
+loop-again-8 c = next (c .before .before .before .before) _ (wait-for-turn (turn (c .before .before .before .before)) _ (c .before .effect4 .given .1) _ refl)
 
-enum-known-f : tie.Need-enum-known-f Inv-loop μ-loop
-enum-known-f c = search needs
+enum-known-effect-5 : tie.Need-enum-known-effect-5 Inv-loop μ-loop
+enum-known-effect-5 c = search needs
 
 mul-self-12 : tie.Need-mul-self-12 Inv-loop μ-loop
 mul-self-12 c = search needs
 
 element-write-self-12 : tie.Need-element-write-self-12 Inv-loop μ-loop
-element-write-self-12 c = in-16 (turn (c .before .before .before))
+element-write-self-12 c = in-16 (turn (c .before .before .before .before))
 
 mul-self-13 : tie.Need-mul-self-13 Inv-loop μ-loop
 mul-self-13 c = search needs
 
 element-write-self-13 : tie.Need-element-write-self-13 Inv-loop μ-loop
-element-write-self-13 c = in-16 (turn (c .before .before .before))
+element-write-self-13 c = in-16 (turn (c .before .before .before .before))
 
 loop-less-9 : tie.Need-loop-less-9 Inv-loop μ-loop
-loop-less-9 c = falls (c .before .before .before)
+loop-less-9 c = falls (c .before .before .before .before)
 
 loop-again-9 : tie.Need-loop-again-9 Inv-loop μ-loop
-loop-again-9 c = next (c .before .before .before) _ (stop-turn (turn (c .before .before .before)) _ (c .before .f2 .given .1))
+loop-again-9 c = next (c .before .before .before .before) _ (stop-turn (turn (c .before .before .before .before)) _ (c .before .effect5 .given .1))
 
 any-standing-requires : tie.Need-any-standing-requires Inv-loop μ-loop
 any-standing-requires c κs = search needs
@@ -316,21 +310,20 @@ settle-spec =
     element-copy-out-place
     add-n
     does-requires
-    enum-told
     next-place-requires
+    enum-told
     mul-self
     element-write-self
     loop-less-2
     loop-again-2
-    enum-known-a
+    enum-known-effect
     mul-self-2
     element-write-self-2
-    next-place-requires-2
     mul-self-3
     element-write-self-3
     loop-less-3
     loop-again-3
-    enum-known-k
+    enum-known-effect-2
     mul-e
     element-copy-out-e
     cast-schedule
@@ -347,12 +340,11 @@ settle-spec =
     element-write-self-6
     mul-f
     element-set-from-f
-    next-place-requires-3
     mul-self-7
     element-write-self-7
     loop-less-5
     loop-again-5
-    enum-known-a-2
+    enum-known-effect-3
     mul-self-8
     element-write-self-8
     loop-less-6
@@ -362,7 +354,7 @@ settle-spec =
     element-write-self-9
     loop-less-7
     loop-again-7
-    enum-known-d
+    enum-known-effect-4
     mul-self-10
     element-write-self-10
     cast-self
@@ -371,7 +363,7 @@ settle-spec =
     element-write-self-11
     loop-less-8
     loop-again-8
-    enum-known-f
+    enum-known-effect-5
     mul-self-12
     element-write-self-12
     mul-self-13

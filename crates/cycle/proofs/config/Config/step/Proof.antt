@@ -60,11 +60,11 @@ does-requires c κs =
     let start = c .before .before .before .before .before in
     (start .pre .0, statement-there _ (start .pre .0 .facts) _ (start .pre .1 .0) _ (start .pre .1 .1 .0))
 
+next-place-requires : tie.Need-next-place-requires
+next-place-requires c κs = asked c
+
 enum-told : tie.Need-enum-told
 enum-told c = search needs
-
-next-place-requires : tie.Need-next-place-requires
-next-place-requires c κs = asked (c .before .before)
 
 mul-self : tie.Need-mul-self
 mul-self c = omega (arith, in-16 (turn (c .before .before .before)))
@@ -72,17 +72,14 @@ mul-self c = omega (arith, in-16 (turn (c .before .before .before)))
 element-write-self : tie.Need-element-write-self
 element-write-self c = in-16 (turn (c .before .before .before))
 
-enum-known-a : tie.Need-enum-known-a
-enum-known-a c = search needs
+enum-known-effect : tie.Need-enum-known-effect
+enum-known-effect c = search needs
 
 mul-self-2 : tie.Need-mul-self-2
-mul-self-2 c = omega (arith, in-variables (turn (c .before .before .before)) _ _ (c .before .a .given .1))
+mul-self-2 c = omega (arith, in-variables (turn (c .before .before .before .before)) _ _ (c .before .effect .given .1))
 
 element-write-self-2 : tie.Need-element-write-self-2
-element-write-self-2 c = in-variables (turn (c .before .before .before)) _ _ (c .before .a .given .1)
-
-next-place-requires-2 : tie.Need-next-place-requires-2
-next-place-requires-2 c κs = asked (c .before .before .before)
+element-write-self-2 c = in-variables (turn (c .before .before .before .before)) _ _ (c .before .effect .given .1)
 
 mul-self-3 : tie.Need-mul-self-3
 mul-self-3 c = omega (arith, in-16 (turn (c .before .before .before .before)))
@@ -90,56 +87,53 @@ mul-self-3 c = omega (arith, in-16 (turn (c .before .before .before .before)))
 element-write-self-3 : tie.Need-element-write-self-3
 element-write-self-3 c = in-16 (turn (c .before .before .before .before))
 
-enum-known-k : tie.Need-enum-known-k
-enum-known-k c = search needs
+enum-known-effect-2 : tie.Need-enum-known-effect-2
+enum-known-effect-2 c = search needs
 
 mul-e : tie.Need-mul-e
-mul-e c = omega (arith, in-drivers (turn (c .before .before .before)) _ _ _ (c .before .k .given .1))
+mul-e c = omega (arith, in-drivers (turn (c .before .before .before .before)) _ _ _ (c .before .effect2 .given .1))
 
 element-copy-out-e : tie.Need-element-copy-out-e
-element-copy-out-e c = in-drivers (turn (c .before .before .before)) _ _ _ (c .before .k .given .1)
+element-copy-out-e c = in-drivers (turn (c .before .before .before .before)) _ _ _ (c .before .effect2 .given .1)
 
 cast-schedule : tie.Need-cast-schedule
 cast-schedule c = search needs
 
 add-schedule : tie.Need-add-schedule
-add-schedule c = omega (arith, early (turn (c .before .before .before .before)), delay-small (turn (c .before .before .before .before)) _ _ _ (c .before .before .k .given .1))
+add-schedule c = omega (arith, early (turn (c .before .before .before .before .before)), delay-small (turn (c .before .before .before .before .before)) _ _ _ (c .before .before .effect2 .given .1))
 
 schedule-requires : tie.Need-schedule-requires
-schedule-requires c κs = waveform (turn (c .before .before .before .before)) _ _ _ (c .before .before .k .given .1)
+schedule-requires c κs = waveform (turn (c .before .before .before .before .before)) _ _ _ (c .before .before .effect2 .given .1)
 
 mul-self-4 : tie.Need-mul-self-4
-mul-self-4 c = omega (arith, in-16 (turn (c .before .before .before .before .before .before)))
+mul-self-4 c = omega (arith, in-16 (turn (c .before .before .before .before .before .before .before)))
 
 element-write-self-4 : tie.Need-element-write-self-4
-element-write-self-4 c = in-16 (turn (c .before .before .before .before .before .before))
+element-write-self-4 c = in-16 (turn (c .before .before .before .before .before .before .before))
 
 mul-self-5 : tie.Need-mul-self-5
-mul-self-5 c = omega (arith, in-16 (turn (c .before .before .before .before .before .before)))
+mul-self-5 c = omega (arith, in-16 (turn (c .before .before .before .before .before .before .before)))
 
 element-write-self-5 : tie.Need-element-write-self-5
-element-write-self-5 c = in-16 (turn (c .before .before .before .before .before .before))
+element-write-self-5 c = in-16 (turn (c .before .before .before .before .before .before .before))
 
 returns : tie.Need-returns
-returns c = (full-turn (turn (c .before .before .before .before .before .before)) _ _ _ (c .before .before .before .before .k .given .1) _ (c .before .schedule .ensures) (c .if1 .taken)) .to
+returns c = (full-turn (turn (c .before .before .before .before .before .before .before)) _ _ _ (c .before .before .before .before .effect2 .given .1) _ (c .before .schedule .ensures) (c .if1 .taken)) .to
 
 first-time-requires : tie.Need-first-time-requires
 first-time-requires c κs = search needs
 
 mul-self-6 : tie.Need-mul-self-6
-mul-self-6 c = omega (arith, in-drivers (turn (c .before .before .before .before .before .before .before .before)) _ _ _ (c .before .before .before .before .before .before .k .given .1))
+mul-self-6 c = omega (arith, in-drivers (turn (c .before .before .before .before .before .before .before .before .before)) _ _ _ (c .before .before .before .before .before .before .effect2 .given .1))
 
 element-write-self-6 : tie.Need-element-write-self-6
-element-write-self-6 c = in-drivers (turn (c .before .before .before .before .before .before .before .before)) _ _ _ (c .before .before .before .before .before .before .k .given .1)
+element-write-self-6 c = in-drivers (turn (c .before .before .before .before .before .before .before .before .before)) _ _ _ (c .before .before .before .before .before .before .effect2 .given .1)
 
 mul-f : tie.Need-mul-f
-mul-f c = omega (arith, in-drivers (turn (c .before .before .before .before .before .before .before .before)) _ _ _ (c .before .before .before .before .before .before .k .given .1))
+mul-f c = omega (arith, in-drivers (turn (c .before .before .before .before .before .before .before .before .before)) _ _ _ (c .before .before .before .before .before .before .effect2 .given .1))
 
 element-set-from-f : tie.Need-element-set-from-f
-element-set-from-f c = in-drivers (turn (c .before .before .before .before .before .before .before .before)) _ _ _ (c .before .before .before .before .before .before .k .given .1)
-
-next-place-requires-3 : tie.Need-next-place-requires-3
-next-place-requires-3 c κs = asked (c .before .before .before .before .before .before .before .before)
+element-set-from-f c = in-drivers (turn (c .before .before .before .before .before .before .before .before .before)) _ _ _ (c .before .before .before .before .before .before .effect2 .given .1)
 
 mul-self-7 : tie.Need-mul-self-7
 mul-self-7 c = omega (arith, in-16 (turn (c .before .before .before .before .before .before .before .before .before)))
@@ -147,80 +141,80 @@ mul-self-7 c = omega (arith, in-16 (turn (c .before .before .before .before .bef
 element-write-self-7 : tie.Need-element-write-self-7
 element-write-self-7 c = in-16 (turn (c .before .before .before .before .before .before .before .before .before))
 
-enum-known-a-2 : tie.Need-enum-known-a-2
-enum-known-a-2 c = search needs
+enum-known-effect-3 : tie.Need-enum-known-effect-3
+enum-known-effect-3 c = search needs
 
 mul-self-8 : tie.Need-mul-self-8
-mul-self-8 c = omega (arith, in-16 (turn (c .before .before .before)))
+mul-self-8 c = omega (arith, in-16 (turn (c .before .before .before .before)))
 
 element-write-self-8 : tie.Need-element-write-self-8
-element-write-self-8 c = in-16 (turn (c .before .before .before))
+element-write-self-8 c = in-16 (turn (c .before .before .before .before))
 
 enum-told-2 : tie.Need-enum-told-2
 enum-told-2 c = search needs
 
 mul-self-9 : tie.Need-mul-self-9
-mul-self-9 c = omega (arith, in-16 (turn (c .before .before)))
+mul-self-9 c = omega (arith, in-16 (turn (c .before .before .before)))
 
 element-write-self-9 : tie.Need-element-write-self-9
-element-write-self-9 c = in-16 (turn (c .before .before))
+element-write-self-9 c = in-16 (turn (c .before .before .before))
 
-enum-known-d : tie.Need-enum-known-d
-enum-known-d c = search needs
+enum-known-effect-4 : tie.Need-enum-known-effect-4
+enum-known-effect-4 c = search needs
 
 mul-self-10 : tie.Need-mul-self-10
-mul-self-10 c = omega (arith, in-16 (turn (c .before .before .before)))
+mul-self-10 c = omega (arith, in-16 (turn (c .before .before .before .before)))
 
 element-write-self-10 : tie.Need-element-write-self-10
-element-write-self-10 c = in-16 (turn (c .before .before .before))
+element-write-self-10 c = in-16 (turn (c .before .before .before .before))
 
 cast-self : tie.Need-cast-self
 cast-self c = search needs
 
 add-self : tie.Need-add-self
-add-self c = omega (arith, early (turn (c .before .before .before)), wait-small (turn (c .before .before .before)) _ (c .before .d .given .1))
+add-self c = omega (arith, early (turn (c .before .before .before .before)), wait-small (turn (c .before .before .before .before)) _ (c .before .effect4 .given .1))
 
 mul-self-11 : tie.Need-mul-self-11
-mul-self-11 c = omega (arith, in-16 (turn (c .before .before .before)))
+mul-self-11 c = omega (arith, in-16 (turn (c .before .before .before .before)))
 
 element-write-self-11 : tie.Need-element-write-self-11
-element-write-self-11 c = in-16 (turn (c .before .before .before))
+element-write-self-11 c = in-16 (turn (c .before .before .before .before))
 
-enum-known-f : tie.Need-enum-known-f
-enum-known-f c = search needs
+enum-known-effect-5 : tie.Need-enum-known-effect-5
+enum-known-effect-5 c = search needs
 
 mul-self-12 : tie.Need-mul-self-12
-mul-self-12 c = omega (arith, in-16 (turn (c .before .before .before)))
+mul-self-12 c = omega (arith, in-16 (turn (c .before .before .before .before)))
 
 element-write-self-12 : tie.Need-element-write-self-12
-element-write-self-12 c = in-16 (turn (c .before .before .before))
+element-write-self-12 c = in-16 (turn (c .before .before .before .before))
 
 mul-self-13 : tie.Need-mul-self-13
-mul-self-13 c = omega (arith, in-16 (turn (c .before .before .before)))
+mul-self-13 c = omega (arith, in-16 (turn (c .before .before .before .before)))
 
 element-write-self-13 : tie.Need-element-write-self-13
-element-write-self-13 c = in-16 (turn (c .before .before .before))
+element-write-self-13 c = in-16 (turn (c .before .before .before .before))
 
 returns-2 : tie.Need-returns-2
-returns-2 c = (skip-turn (turn (c .before .before .before)) (c .before .enum-told .given .1) _ (c .next-place .ensures)) .to
+returns-2 c = (skip-turn (turn (c .before .before .before)) (c .enum-told .given .1) _ (c .before .before .next-place .ensures)) .to
 
 returns-3 : tie.Need-returns-3
-returns-3 c = (store-turn (turn (c .before .before .before .before)) _ _ (c .before .before .a .given .1) _ (c .next-place2 .ensures)) .to
+returns-3 c = (store-turn (turn (c .before .before .before .before)) _ _ (c .before .effect .given .1) _ (c .before .before .before .next-place .ensures)) .to
 
 returns-4 : tie.Need-returns-4
-returns-4 c = (schedule-turn (turn (c .before .before .before .before .before .before .before .before .before)) _ _ _ (c .before .before .before .before .before .before .before .k .given .1) _ (c .before .before .before .before .schedule .ensures) (c .before .before .before .if1 .left) _ _ (c .before .first-time .ensures) (c .next-place3 .ensures)) .to
+returns-4 c = (schedule-turn (turn (c .before .before .before .before .before .before .before .before .before)) _ _ _ (c .before .before .before .before .before .before .effect2 .given .1) _ (c .before .before .before .schedule .ensures) (c .before .before .if1 .left) _ _ (c .first-time .ensures) (c .before .before .before .before .before .before .before .before .next-place .ensures)) .to
 
 returns-5 : tie.Need-returns-5
-returns-5 c = (jump-turn (turn (c .before .before .before)) _ (c .before .a2 .given .1)) .to
+returns-5 c = (jump-turn (turn (c .before .before .before .before)) _ (c .before .effect3 .given .1)) .to
 
 returns-6 : tie.Need-returns-6
-returns-6 c = (wait-turn (turn (c .before .before)) (c .enum-told2 .given .1)) .to
+returns-6 c = (wait-turn (turn (c .before .before .before)) (c .enum-told2 .given .1)) .to
 
 returns-7 : tie.Need-returns-7
-returns-7 c = (wait-for-turn (turn (c .before .before .before)) _ (c .before .d .given .1) _ refl) .to
+returns-7 c = (wait-for-turn (turn (c .before .before .before .before)) _ (c .before .effect4 .given .1) _ refl) .to
 
 returns-8 : tie.Need-returns-8
-returns-8 c = (stop-turn (turn (c .before .before .before)) _ (c .before .f2 .given .1)) .to
+returns-8 c = (stop-turn (turn (c .before .before .before .before)) _ (c .before .effect5 .given .1)) .to
 
 pub step-spec : {M : Type 1} → statement M
 step-spec =
@@ -229,17 +223,16 @@ step-spec =
     mul-place
     element-copy-out-place
     does-requires
-    enum-told
     next-place-requires
+    enum-told
     mul-self
     element-write-self
-    enum-known-a
+    enum-known-effect
     mul-self-2
     element-write-self-2
-    next-place-requires-2
     mul-self-3
     element-write-self-3
-    enum-known-k
+    enum-known-effect-2
     mul-e
     element-copy-out-e
     cast-schedule
@@ -255,23 +248,22 @@ step-spec =
     element-write-self-6
     mul-f
     element-set-from-f
-    next-place-requires-3
     mul-self-7
     element-write-self-7
-    enum-known-a-2
+    enum-known-effect-3
     mul-self-8
     element-write-self-8
     enum-told-2
     mul-self-9
     element-write-self-9
-    enum-known-d
+    enum-known-effect-4
     mul-self-10
     element-write-self-10
     cast-self
     add-self
     mul-self-11
     element-write-self-11
-    enum-known-f
+    enum-known-effect-5
     mul-self-12
     element-write-self-12
     mul-self-13

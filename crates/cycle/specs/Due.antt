@@ -1,0 +1,37 @@
+-- What an advance looks at, over the arrays of the struct.
+use mathlib.Core.Path.{_≡_}
+use mathlib.Core.Bool.{Bool}
+use mathlib.Core.List.{List}
+use Prim.Native.Nat.{ℕ, min}
+use lib.Dec.{eqb, ltb, leb}
+use lib.ListN.{getD}
+use Rattle.base.specs.Below.{anyBelow, listBelow}
+use Rattle.base.specs.Cases.{pick}
+use Rattle.cycle.specs.Configuration.{ready, stopped}
+use Rattle.cycle.specs.Orders.{least}
+use Rattle.cycle.specs.Invariant.{lastTime}
+use Rattle.cycle.specs.View.{never}
+use Rattle.cycle.specs.declared.due.Due.{Due}
+
+-- the earliest of the first times of nd drivers and the deadlines of np processes
+abbrev pub soonestIn : List ℕ → ℕ → List ℕ → ℕ → ℕ
+soonestIn due nd deadlines np =
+    min (least never (listBelow (λ k. getD due k 0) nd)) (least never (listBelow (λ p. getD deadlines p 0) np))
+
+-- one of np processes has standing x
+abbrev pub someIs : List ℕ → ℕ → ℕ → Bool
+someIs standings np x = anyBelow (λ p. eqb (getD standings p 0) x) np
+
+-- refusals 14 to 18 in their order, or 0, where t is the earliest due time
+unfoldable pub refusalIn : List ℕ → ℕ → ℕ → ℕ → ℕ → ℕ
+refusalIn standings np t time deltas =
+    pick (someIs standings np ready) 14
+    (pick (someIs standings np stopped) 15
+    (pick (eqb t time) (pick (leb 1000 deltas) 16 0)
+    (pick (eqb t never) 17
+    (pick (ltb lastTime t) 18 0))))
+
+-- r has the earliest due time, and the refusal of an advance or 0
+pub record DueIn (standings due deadlines : List ℕ) (np nd time deltas : ℕ) (r : Due) : Type 0 where
+  pub earliest : r .time ≡ soonestIn due nd deadlines np
+  pub refusal : r .refusal ≡ refusalIn standings np (r .time) time deltas
