@@ -5,7 +5,7 @@ use native.Mathlib.Decide.{decLt, ℕ-discrete}
 use mathlib.Core.Bool.{Bool, true, false, _&&_, _||_}
 use mathlib.Core.List.{List, [], _∷_, _++_, append-assoc, append-nil}
 use lib.ListN.{length, getD, take, drop, set, length-append, length-set, length-take, take-append-drop, List·getD-append}
-use lib.Seq.{drop-cons, set-at, getD-append-add, getD-set-same, getD-set-other, ext-getD, take-at, drop-append-add, drop-drop}
+use lib.Seq.{drop-cons, set-at, getD-append-add, getD-set-same, getD-set-other, ext-getD}
 use Prim.Native.Nat.{ℕ, zero, suc, _+_, _-_, _≤_, _<_}
 use native.Mathlib.Nat.{add-zero, le-antisymm, not-suc-le-zero, eq-or-lt-of-le, le-of-suc-le-suc}
 use native.Mathlib.Numerals.{add-one}
@@ -79,10 +79,6 @@ module _ (f : ℕ → Bool) where
   unfolding allBelow
   all-fails zero i h t = absurd (not-suc-le-zero h)
   all-fails (suc n) i h t = ⊎-elim (λ (e : i ≡ n). and-true-false (allBelow f n) (f n) (rw e at t)) (λ (l : i < n). rw (all-fails n i l t)) (eq-or-lt-of-le (le-of-suc-le-suc h))
-
-  -- all turns are done
-  pub all-done : (n i : ℕ) → i ≤ n → n ≤ i → allBelow f i ≡ true → allBelow f n ≡ true
-  all-done n i h k t = rw (le-antisymm h k) at t
 
   -- what the test says at a number
   pub all-at : (n i : ℕ) → i < n → allBelow f n ≡ true → f i ≡ true
@@ -251,12 +247,6 @@ write-next f d out n₀ n j e h o =
 -- its begin
 pub write-none : {A : Type 0} (f : ℕ → A) (d : List A) (n : ℕ) → d ≡ (take n d ++ listBelow f 0) ++ drop n d
 write-none f d n = rw (list-none, append-nil, take-append-drop)
-
--- its end, where what it began with was s and then the rest of orig
-pub write-done : {A : Type 0} (f : ℕ → A) (s orig d out : List A) (n₀ n j : ℕ) → d ≡ s ++ drop n₀ orig → length s ≡ n₀ → n ≡ n₀ + j → out ≡ (take n₀ d ++ listBelow f j) ++ drop n d → out ≡ (s ++ listBelow f j) ++ drop n orig
-write-done f s orig d out n₀ n j e h k o =
-    let g : drop n (s ++ drop n₀ orig) ≡ drop n orig = rw (k, ← h, drop-append-add, drop-drop) in
-    rw (o, e, take-at s (drop n₀ orig) n₀ h, g)
 
 -- no rule is left
 pub none-left : (n : ℕ) → 0 ≡ firstFailing n []

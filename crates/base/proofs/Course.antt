@@ -38,30 +38,6 @@ module _ {A : Type 0} (f : ℕ → List A → A) where
   pub operand : (d : A) {n m : ℕ} {x : A} → m < n → x ≡ course f m → x ≡ getD (upTo f n) m d
   operand d {n} {m} l h = h ∙ sym (earlier d n m l)
 
-  -- what holds of each number's value, if it holds of those of the lower numbers, holds of all
-  module _ (P : ℕ → A → Type 0) (d : A) (next : (n : ℕ) (before : List A) → ((m : ℕ) → m < n → P m (getD before m d)) → P n (f n before)) where
-    each-below : (n m : ℕ) → m < n → P m (course f m)
-    unfolding course
-    each-below zero m h = absurd (not-suc-le-zero h)
-    each-below (suc n) m h =
-        ⊎-elim
-        (λ (q : m ≡ n). rw q (next n (upTo f n) (λ k l. rw (earlier d n k l) (each-below n k l))))
-        (λ (l : m < n). each-below n m l)
-        (eq-or-lt-of-le (le-of-suc-le-suc h))
-
-    pub course-each : (n : ℕ) → P n (course f n)
-    course-each n = each-below (suc n) n (omega arith)
-
--- two rules that agree on the numbers below n say the same of them
-pub up-to-same : {A : Type 0} (f g : ℕ → List A → A) (n : ℕ) → ((m : ℕ) (before : List A) → m < n → f m before ≡ g m before) → upTo f n ≡ upTo g n
-unfolding upTo
-up-to-same f g zero h = refl
-up-to-same f g (suc n) h = rw (up-to-same f g n (λ m b l. h m b (omega arith)), h n (upTo g n) (omega arith))
-
-pub course-same : {A : Type 0} (f g : ℕ → List A → A) (n : ℕ) → ((m : ℕ) (before : List A) → m ≤ n → f m before ≡ g m before) → course f n ≡ course g n
-unfolding course
-course-same f g n h = rw (up-to-same f g n (λ m b l. h m b (omega arith)), h n (upTo g n) (omega arith))
-
 -- a search that passed i numbers finds its first at i
 pub first-found : (f : ℕ → Bool) (n i : ℕ) → i < n → ((k : ℕ) → k < i → f k ≡ false) → f i ≡ true → firstWith f n ≡ i
 unfolding firstWith
@@ -75,12 +51,6 @@ pub first-none : (f : ℕ → Bool) (n : ℕ) → ((k : ℕ) → k < n → f k �
 unfolding firstWith
 first-none f zero p = refl
 first-none f (suc n) p = rw (p 0 (omega arith), first-none (λ k. f (suc k)) n (λ k l. p (suc k) (omega arith)))
-
--- two tests that agree below n
-pub first-same : (f g : ℕ → Bool) (n : ℕ) → ((k : ℕ) → k < n → f k ≡ g k) → firstWith f n ≡ firstWith g n
-unfolding firstWith
-first-same f g zero h = refl
-first-same f g (suc n) h = rw (h 0 (omega arith), first-same (λ i. f (suc i)) (λ i. g (suc i)) n (λ k l. h (suc k) (omega arith)))
 
 -- a first number below n passes
 pub first-at : (f : ℕ → Bool) (n : ℕ) → firstWith f n < n → f (firstWith f n) ≡ true

@@ -1,4 +1,3 @@
 pub mod Below
 pub mod Cases
 pub mod Course
-pub mod Table

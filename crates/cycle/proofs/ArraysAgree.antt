@@ -48,10 +48,6 @@ module _ (M : Model) (fs : Facts M) (c : Config) (r : Reachable M (viewOf c)) wh
   unfolding viewOf
   many = sym (list-length (historyOf (c .signals)) (c .ns)) ∙ r .signals
 
-  pub value-viewed : (n : ℕ) → n < length (M .nodes) → evalOf M (arrays (c .variables) (c .signals)) n ≡ evalOf M (environmentOf (viewOf c .variables) (viewOf c .signals)) n
-  unfolding viewOf
-  value-viewed = value-listed M fs (c .variables) (c .signals) (c .nv) (c .ns) some many
-
   pub effect-viewed : (p : ℕ) (s : StatementRecord) → StatementFits M p s → effectBy M (arrays (c .variables) (c .signals)) p s ≡ effectBy M (environmentOf (viewOf c .variables) (viewOf c .signals)) p s
   unfolding viewOf
   effect-viewed = effect-listed M fs (c .variables) (c .signals) (c .nv) (c .ns) some many

@@ -26,7 +26,7 @@ use Rattle.cycle.specs.Arrays.{drivingIn}
 use Rattle.cycle.specs.Delta.{SetOf, activeIn, currentAfter, ResolvedTo, stateOf, entryOf, wokenFor, wokenIn, afterDelta, ProcessesFine, WokenTo}
 use Rattle.cycle.specs.declared.config.Config.{Config}
 use Rattle.cycle.specs.declared.driver.Driver.{Driver}
-use Rattle.cycle.specs.declared.turns.Answered.{Answered}
+use Rattle.cycle.specs.declared.orders.Answered.{Answered}
 use Rattle.cycle.specs.declared.delta.Processes.{Processes}
 use Rattle.cycle.proofs.Lists.{map-at}
 use Rattle.cycle.proofs.ViewLaws.{history-in, driver-in, process-in, ns-is, nd-is, np-is, nv-is}

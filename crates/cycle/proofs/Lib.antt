@@ -19,7 +19,6 @@ pub mod StepReachable
 pub mod AdvanceReachable
 pub mod DueTimes
 pub mod Invariant
-pub mod Plays
 pub mod Picks
 pub mod Settling
 pub mod Changes

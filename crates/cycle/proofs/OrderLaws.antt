@@ -15,7 +15,7 @@ use Rattle.cycle.specs.Statements.{stepped}
 use Rattle.cycle.specs.Orders.{Outcome, refused, isReady, pickDone, picked, lowestReady, settledFrom, settled, readOf}
 use Rattle.cycle.specs.View.{viewOf, Fine, StepsTo, outcomeOf, Answers, AnswersEach}
 use Rattle.cycle.specs.declared.config.Config.{Config}
-use Rattle.cycle.specs.declared.turns.Answered.{Answered}
+use Rattle.cycle.specs.declared.orders.Answered.{Answered}
 use Rattle.cycle.proofs.ViewLaws.{past-in, standing-in, fault-in, ns-is, np-is}
 
 pub refused-each : (c : Config) (n : ℕ) → AnswersEach c (record { refusal = n; byte = 0; picks = 0; value = 0; config = c }) (λ M. refused n (viewOf c))

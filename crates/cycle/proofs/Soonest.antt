@@ -1,7 +1,7 @@
 -- The earliest due time of a configuration, found among numbers: each driver's first time and each process's deadline, the
 -- largest number standing for none. Assumes nothing.
 use mathlib.Core.Path.{_≡_, refl, sym, ap, _∙_}
-use mathlib.Core.Bool.{Bool, true, false, _||_}
+use mathlib.Core.Bool.{true, false}
 use mathlib.Core.List.{List, [], _∷_, _++_}
 use mathlib.Core.Option.{Option, none, some}
 use Prim.Native.Nat.{ℕ, zero, suc, _+_, _≤_, _<_, min}
@@ -12,15 +12,14 @@ use lib.Dec.{eqb}
 use lib.ListN.{length, getD}
 use borrow.Author.Tests.{eqb-true, ne-eqb, eq-eqb}
 use Rattle.base.specs.Below.{anyBelow, joinBelow, listBelow}
-use Rattle.base.specs.Cases.{pick}
-use Rattle.base.proofs.Below.{any-fails, any-same, list-at, list-none, list-more, join-none, join-more, list-length}
+use Rattle.base.proofs.Below.{any-fails, any-same}
 use Rattle.base.proofs.Cases.{by-test}
 use Rattle.model.specs.Records.{Model}
-use Rattle.cycle.specs.Configuration.{Transaction, DriverState, ProcessState, Configuration, driverIn, processIn}
+use Rattle.cycle.specs.Configuration.{Transaction, Configuration, driverIn, processIn}
 use Rattle.cycle.specs.Steps.{dueIn, transactionDue, deadlineAt, deadlineDue}
 use Rattle.cycle.specs.Orders.{timesIn, optional, least, earliest, dueTimes, dueNow}
-use Rattle.cycle.specs.Invariant.{lastDue, lastTime, Rising, DeadlineFine, Reachable}
-use Rattle.cycle.specs.View.{never, firstTime, deadlineOf, pendingOf, noDriver, driverView, processView, viewOf, Fine}
+use Rattle.cycle.specs.Invariant.{Rising, DeadlineFine}
+use Rattle.cycle.specs.View.{never, firstTime, deadlineOf, pendingOf, noDriver, viewOf, Fine}
 use Rattle.cycle.specs.declared.config.Config.{Config}
 use Rattle.cycle.proofs.Lists.{All, all-left, all-right, all-part}
 use Rattle.cycle.proofs.Earliest.{none-earlier, due-each}
@@ -122,10 +121,6 @@ module _ (M : Model) (c : Config) (f : Fine M c) where
   times-least =
       rw (times-are, least-append never pendings waits, drivers-least, deadlines-least)
       (sym (least-from (least never pendings) waits (least-most never pendings)))
-
-  within-never : (o : Option ℕ) → earliest (dueTimes M v) ≡ o → orNever o ≤ never
-  within-never none e = omega arith
-  within-never (some t) e = let w = due-within M v (f .reachable) t e in omega (arith, w .most)
 
   -- the earliest of the numbers is the earliest due time
   pub soonest : min firsts lasts ≡ orNever (earliest (dueTimes M v))

@@ -91,14 +91,6 @@ pub variables-set : (vs : List ℕ) (n a v : ℕ) → a < length vs → listBelo
 variables-set vs n a v h =
     list-change (λ j. getD vs j 0) (λ j. getD (set vs a v) j 0) n a (λ j o. getD-set-other vs a j v 0 o) ∙ rw (getD-set-same vs a v 0 h)
 
--- a change of one driver or of one process: the view of another is as it was
-module _ (c c' : Config) where
-  pub drivers-set : (k : ℕ) → c' .nd ≡ c .nd → ((j : ℕ) → (j ≡ k → ⊥) → driverView c' j ≡ driverView c j) → listBelow (driverView c') (c' .nd) ≡ set (listBelow (driverView c) (c .nd)) k (driverView c' k)
-  drivers-set k e h = ap (listBelow (driverView c')) e ∙ list-change (driverView c) (driverView c') (c .nd) k h
-
-  pub processes-set : (p : ℕ) → c' .np ≡ c .np → ((j : ℕ) → (j ≡ p → ⊥) → processView c' j ≡ processView c j) → listBelow (processView c') (c' .np) ≡ set (listBelow (processView c) (c .np)) p (processView c' p)
-  processes-set p e h = ap (listBelow (processView c')) e ∙ list-change (processView c) (processView c') (c .np) p h
-
 -- what one process's entries say, and one driver's
 abbrev pub rowOf : List ℕ → List ℕ → List ℕ → List ℕ → ℕ → ProcessState
 rowOf places standings deadlines faults p =

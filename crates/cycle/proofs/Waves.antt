@@ -4,7 +4,7 @@ use mathlib.Core.Bool.{false}
 use mathlib.Core.List.{List, [], _∷_, _++_}
 use Prim.Native.Nat.{ℕ, _+_, _≤_, _<_}
 use native.Mathlib.Omega.{arith}
-use lib.Dec.{eqb, ltb, lit≤}
+use lib.Dec.{eqb, ltb}
 use lib.ListN.{length, length-append}
 use borrow.Author.Tests.{ltb-true, ltb-false, eqb-true, eqb-false}
 use Rattle.base.proofs.Cases.{by-test}
@@ -43,13 +43,6 @@ module _ (at : ℕ) where
   unfolding before
   before-values ty [] v = tt
   before-values ty (x ∷ w) v = by-test (Values ty) (ltb (x .time) at) _ _ (λ e. (v .0, before-values ty w (v .1))) (λ e. before-values ty w (v .1))
-
-  pub before-length : (w : List Transaction) → length (before at w) ≤ length w
-  unfolding before
-  before-length [] = lit≤ tt
-  before-length (x ∷ w) =
-      let l = before-length w in
-      by-test (λ (v : List Transaction). length v ≤ length (x ∷ w)) (ltb (x .time) at) _ _ (λ e. omega arith) (λ e. omega arith)
 
 -- one later than those that are there
 pub append-rising : (t : ℕ) (w : List Transaction) (x : Transaction) → t ≤ x .time → x .time ≤ lastDue → Before (x .time) w → Rising t w → Rising t (w ++ (x ∷ []))
@@ -112,11 +105,6 @@ module _ (ty t : ℕ) (d : DriverState) (f : DriverFine ty t d) where
   -- a time step that does not pass the first
   pub driver-later : (s : ℕ) → All (λ u. s ≤ u) (timesIn (d .pending)) → DriverFine ty s d
   driver-later s h = record { current = f .current; few = f .few; rising = rising-later t s (d .pending) h (f .rising); values = f .values }
-
-  -- what a delta step leaves is later than it
-  pub taken-later : Rising (t + 1) (taken t d .pending)
-  unfolding taken
-  taken-later = taken-in ty t (d .current) (d .pending) (f .current) (f .few) (f .rising) (f .values) .1
 
   pub driver-taken : DriverFine ty t (taken t d)
   unfolding taken

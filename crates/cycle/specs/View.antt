@@ -17,7 +17,7 @@ use Rattle.cycle.specs.Orders.{Outcome}
 use Rattle.cycle.specs.Invariant.{Reachable}
 use Rattle.cycle.specs.declared.driver.Driver.{Driver}
 use Rattle.cycle.specs.declared.config.Config.{Config}
-use Rattle.cycle.specs.declared.turns.Answered.{Answered}
+use Rattle.cycle.specs.declared.orders.Answered.{Answered}
 
 -- later than any time: stands for no deadline and no transaction
 abbrev pub never : ℕ

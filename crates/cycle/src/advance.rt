@@ -8,8 +8,8 @@ use crate::delta::actives;
 use crate::delta::resolve;
 use crate::delta::wake;
 use crate::due::next_due;
+use crate::orders::Answered;
 use crate::time::shift;
-use crate::turns::Answered;
 
 impl Config {
     pub fn advance<'a>(mut self, m: &'a [u8], index: &'a [u16; 1376]) -> Answered

@@ -15,7 +15,7 @@ use crate::eval::eval;
 use crate::sets::has;
 use crate::sets::meet;
 use crate::sets::with;
-use crate::turns::next_place;
+use crate::step::next_place;
 use model::index::driver_at;
 use model::index::statement_at;
 

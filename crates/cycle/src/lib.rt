@@ -9,6 +9,6 @@ pub mod eval;
 pub mod operators;
 pub mod orders;
 pub mod sets;
+pub mod settle;
 pub mod step;
 pub mod time;
-pub mod turns;

@@ -1,10 +1,18 @@
-// Pick, settle and read, and the refusal of an order.
+// Pick and read, the refusal of an order, and what every order hands back.
 ghost use Prim.Native.Nat.{_≤_};
 ghost use Rattle.model.specs.Records.{modelOf};
 ghost use Rattle.cycle.specs.Orders.{refused, picked, settled, readOf};
 ghost use Rattle.cycle.specs.View.{viewOf, Runs, Fine, Answers, AnswersEach};
 use crate::config::Config;
-use crate::turns::Answered;
+
+// The parts of an answer, and the configuration that the order hands back.
+pub struct Answered {
+    pub refusal: usize,
+    pub byte: usize,
+    pub picks: usize,
+    pub value: u32,
+    pub config: Config,
+}
 
 impl Config {
     // A refused order hands the configuration back as it was.

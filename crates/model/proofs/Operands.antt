@@ -4,7 +4,7 @@ use mathlib.Core.Bool.{true}
 use Prim.Native.Nat.{ℕ, _≤_, _<_}
 use native.Mathlib.Omega.{arith}
 use native.Mathlib.Decide.{ℕ-discrete}
-use borrow.Author.Tests.{le-leb, lt-leb, ne-eqb, ltb-true, leb-true}
+use borrow.Author.Tests.{lt-leb, ne-eqb, ltb-true, leb-true}
 use lib.Dec.{ltb}
 use lib.ListN.{length}
 use Rattle.base.proofs.Below.{all-at, and-left, and-right}
@@ -13,10 +13,6 @@ use Rattle.model.specs.Trees.{operandsOf, lowerOk, sizeOf, treeOk, Measu
 use Rattle.model.specs.declared.records.NodeRecord.{NodeRecord}
 
 module _ (kind : ℕ) where
-  pub operands-none : kind ≤ 5 → operandsOf kind ≡ 0
-  unfolding operandsOf
-  operands-none h = rw (le-leb kind 5 h)
-
   pub operands-not : kind ≡ 6 → operandsOf kind ≡ 1
   unfolding operandsOf
   operands-not e = rw e

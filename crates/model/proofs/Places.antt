@@ -4,7 +4,7 @@ use mathlib.Core.List.{List, [], _++_, append-assoc, append-nil}
 use Prim.Native.Nat.{ℕ, _+_, _≤_, _<_}
 use native.Mathlib.Nat.{add-zero}
 use native.Mathlib.Omega.{arith}
-use lib.ListN.{length, getD, take, drop, set, length-append, length-drop, take-append-drop, List·getD-append}
+use lib.ListN.{length, getD, take, drop, set, length-append, take-append-drop, List·getD-append}
 use lib.Seq.{take-at, getD-take, getD-append-add, drop-append-add, drop-drop, length-take-le}
 use Rattle.base.specs.Below.{listBelow}
 use Rattle.base.proofs.Below.{list-length, write-next}
@@ -24,10 +24,6 @@ placed-next f d at j h =
 module _ (d : List ℕ) (at : ℕ) (xs : List ℕ) (h : at + length xs ≤ length d) where
   front : length (take at d ++ xs) ≡ at + length xs
   front = rw (length-append, length-take-le at d (omega arith))
-
-  pub placed-length : length (placed d at xs) ≡ length d
-  unfolding placed
-  placed-length = rw (length-append, front) (simp length-drop (omega arith))
 
   -- what is written behind it
   pub placed-more : (ys : List ℕ) → placed (placed d at xs) (at + length xs) ys ≡ placed d at (xs ++ ys)

@@ -19,16 +19,13 @@ use Rattle.cycle.specs.Configuration.{Configuration}
 use Rattle.cycle.specs.Orders.{Outcome, refused, picked, advanced, settled, readOf}
 use Rattle.cycle.specs.View.{Fine, Answers, viewOf, outcomeOf}
 use Rattle.cycle.specs.declared.config.Config.{Config}
-use Rattle.cycle.specs.declared.turns.Answered.{Answered}
+use Rattle.cycle.specs.declared.orders.Answered.{Answered}
 use Rattle.session.specs.Lists.{order, orderOf, ordersOf, isKnown, performed, answerBytes, answerOf, played}
 use Rattle.session.specs.Sessions.{bytesOf}
 
 -- a whole copy
 pub copied : (b out last : List ℕ) (n : ℕ) → length b ≡ n → length out ≡ n → last ≡ take n b ++ drop n out → last ≡ b
 copied b out last n e f h = rw (h, take-all n b (le-of-eq e), drop-of-length-le out (le-of-eq f), append-nil)
-
-pub answer-length : (refusal byte picks value time : ℕ) → length (answerBytes refusal byte picks value time) ≡ 16
-answer-length refusal byte picks value time = refl
 
 -- all is written
 pub all-written : (a t : List ℕ) (n : ℕ) → length a ≤ n → take n a ++ [] ≡ t → a ≡ t

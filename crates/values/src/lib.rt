@@ -140,7 +140,7 @@ pub fn xor(x: u32, y: u32) -> u32
     look_up(&XOR, x, y)
 }
 
-// How many rows the proved table of the bench has so far.
+// How many rows the proved table of the bench has of this layer.
 pub fn bench_rows() -> usize
     ensures { λ r. ⌜ r ≡ length rows ⌝ }
     ensures { λ r. ⌜ Holds rows ⌝ }

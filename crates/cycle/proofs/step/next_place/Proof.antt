@@ -4,8 +4,8 @@ use Rattle.model.specs.Records.{modelOf}
 use Rattle.model.specs.Fields.{endOf}
 use Rattle.cycle.proofs.Turning.{next-inside, next-first, few-statements}
 use borrow.Author.Needs.{needs}
-use Rattle.cycle.proofs.turns.next_place.Statement.{statement}
-use Rattle.cycle.proofs.turns.next_place.Tie as tie
+use Rattle.cycle.proofs.step.next_place.Statement.{statement}
+use Rattle.cycle.proofs.step.next_place.Tie as tie
 
 small : (c : tie.Start) → endOf (modelOf (c .args .m .now)) (c .args .p) ≤ 200
 small c = few-statements _ (c .pre .0 .facts) _ (c .pre .1 .0)

@@ -1,41 +1,15 @@
 // Settle: picks in place, one statement after the other.
 ghost use mathlib.Core.Path.{_≡_};
-ghost use Prim.Native.Nat.{_<_};
-ghost use lib.ListN.{length};
 ghost use Rattle.base.specs.Cases.{pick};
 ghost use Rattle.model.specs.Records.{modelOf};
-ghost use Rattle.model.specs.Facts.{Spans};
-ghost use Rattle.cycle.specs.Statements.{nextPlace};
 ghost use Rattle.cycle.specs.View.{viewOf, Runs, Fine, Answers};
 ghost use Rattle.cycle.specs.Orders.{settled};
 use crate::config::Config;
 use crate::due::any_standing;
 use crate::effect::Effect;
 use crate::effect::does;
-use model::index::process_at;
-
-pub struct Answered {
-    pub refusal: usize,
-    pub byte: usize,
-    pub picks: usize,
-    pub value: u32,
-    pub config: Config,
-}
-
-// The place after i in process p: the last statement is followed by the first.
-pub fn next_place<'a>(m: &'a [u8], index: &'a [u16; 1376], p: usize, i: usize) -> usize
-    requires { ⌜ Runs (now m) (now index) ⌝ }
-    requires { ⌜ p < length (modelOf (now m) .processes) ⌝ }
-    requires { ⌜ Spans (modelOf (now m)) p i ⌝ }
-    ensures { λ r. ⌜ r ≡ nextPlace (modelOf (now (m .entry))) p i ⌝ }
-{
-    let r = process_at(m, index, p);
-    if i + 1 < r.first + r.count {
-        i + 1
-    } else {
-        r.first
-    }
-}
+use crate::orders::Answered;
+use crate::step::next_place;
 
 fn bit(b: bool) -> usize
     ensures { λ r. ⌜ r ≡ pick b 1 0 ⌝ }
