@@ -9,9 +9,8 @@ use lib.Dec.{eqb, leb, ltb}
 use borrow.Author.Tests.{eq-eqb, ne-eqb, eqb-true, eqb-false, leb-false, ltb-false}
 use Rattle.base.proofs.Cases.{by-test}
 use Rattle.model.specs.Records.{Model}
-use Rattle.cycle.specs.Configuration.{Configuration}
 use Rattle.cycle.specs.Steps.{deltaStep, timeStep}
-use Rattle.cycle.specs.Orders.{refused, earliest, dueTimes, dueNow, advanceDone, timeOrder, isReady, isStopped, advanced}
+use Rattle.cycle.specs.Orders.{refused, earliest, dueTimes, advanceDone, timeOrder, isReady, isStopped, advanced}
 use Rattle.cycle.specs.Invariant.{lastTime}
 use Rattle.cycle.specs.View.{never, viewOf, Fine}
 use Rattle.cycle.specs.Due.{soonestIn, someIs, refusalIn, DueIn}
