@@ -117,6 +117,7 @@ steppedTo r new ps =
       deadlines = ps .deadlines;
       faults = ps .faults;
       variables = r .variables;
+      room = r .room;
     }
 
 abbrev pub answeredBy : Config → Answered

@@ -118,6 +118,7 @@ later c t new =
       deadlines = c .deadlines;
       faults = c .faults;
       variables = c .variables;
+      room = c .room;
     }
 
 module _ (c : Config) (t : ℕ) (new : List ℕ) (h : ShiftedBy (c .signals) (t - c .time) (32 * c .ns) new) where
