@@ -99,6 +99,31 @@ module _ (M : Model) (p t changed : ℕ) (e : Environment) (q : Process) where
       unfolding afterDelta wokenIn deadlineDue
       no-change m = rw (eq-eqb (q .standing) waiting w, due-is t (q .deadline) h, ne-eqb (q .deadline) t n, ← is, m)
 
+-- a process whose standing stays is as it was: one that waits can only become ready or stop
+module _ (M : Model) (p t changed : ℕ) (e : Environment) (q : ProcessState) where
+  abbrev Stays : ProcessState → Type 0
+  Stays r = r .standing ≡ q .standing → r ≡ q
+
+  module _ (w : q .standing ≡ waiting) where
+    woken-stays : Stays (wakes M p q)
+    woken-stays h = absurd (omega (arith, h ∙ w))
+
+    by-value : (v : Value) → Stays (wokenBy M p q v)
+    by-value (Fault f) = λ h. absurd (omega (arith, h ∙ w))
+    by-value (Of x) = by-test Stays (eqb x 1) (wakes M p q) q (λ _. woken-stays) (λ _ h. refl)
+
+    waiting-stays : (s : StatementRecord) → Stays (wokenIn M p t changed e s q)
+    unfolding wokenIn wokenFor
+    waiting-stays s =
+        by-test Stays (deadlineDue t q) (wakes M p q) _ (λ _. woken-stays)
+        (λ _. by-test Stays (anyBelow (λ n. inSet (s .set) n && inSet changed n) 32) _ q
+        (λ _. by-test Stays (eqb (s .b) absent) (wakes M p q) _ (λ _. woken-stays) (λ _. by-value (evalOf M e (s .b))))
+        (λ _ h. refl))
+
+  pub stays : Stays (afterDelta M p t changed e q)
+  unfolding afterDelta
+  stays = by-test Stays (eqb (q .standing) waiting) _ q (λ w. waiting-stays (eqb-true (q .standing) waiting w) (statementAt M (q .place))) (λ _ h. refl)
+
 -- the arrays have room for 16
 pub record Sixteen (ps : Processes) : Type 0 where
   pub places : length (ps .places) ≡ 16
@@ -179,6 +204,19 @@ module _ (M : Model) (t changed : ℕ) (e : Environment) (ps : Processes) where
             | yes z ↦ rw z here
             | no z ↦ ap stateOf (with-other r p q i z) ∙ w .done .at i (omega (arith, z))
           ]
+
+  -- the next process stays as it was
+  pub waking-same : (p : ℕ) (r : Processes) (q : Process) → stateOf q ≡ afterDelta M p t changed e (stateOf (entryOf r p)) → q .standing ≡ entryOf r p .standing
+      → Waking M t changed e ps p r → Waking M t changed e ps (p + 1) r
+  waking-same p r q is h w = record { long = w .long; done = record { at = at }; left = λ i l. w .left i (omega arith) }
+    where
+      here : stateOf (entryOf r p) ≡ afterDelta M p t changed e (stateOf (entryOf ps p))
+      here =
+          sym (stays M p t changed e (stateOf (entryOf r p)) (ap (λ (x : ProcessState). x .standing) (sym is) ∙ h))
+          ∙ ap (λ (x : Process). afterDelta M p t changed e (stateOf x)) (w .left p (omega arith))
+
+      at : (i : ℕ) → i < p + 1 → stateOf (entryOf r i) ≡ afterDelta M i t changed e (stateOf (entryOf ps i))
+      at i l = elim (ℕ-discrete i p) [ yes z ↦ rw z here | no z ↦ w .done .at i (omega (arith, z)) ]
 
   pub waking-all : (p n : ℕ) (r : Processes) → n ≤ p → Waking M t changed e ps p r → WokenTo M t changed e n ps r
   waking-all p n r h w = record { at = λ i l. w .done .at i (omega arith) }

@@ -183,7 +183,7 @@ fn after_delta<'a>(
     q
 }
 
-// The np processes after a delta step.
+// The np processes after a delta step. One whose standing stays is as it was.
 pub fn wake<'a>(
     m: &'a [u8],
     index: &'a [u16; 1376],
@@ -209,10 +209,14 @@ pub fn wake<'a>(
             fault: ps.faults[p],
         };
         let r = after_delta(m, index, variables, signals, changed, time, p, q);
-        ps.places[p] = r.place;
-        ps.standings[p] = r.standing;
-        ps.deadlines[p] = r.deadline;
-        ps.faults[p] = r.fault;
+        if r.standing != q.standing {
+            ps.places[p] = r.place;
+            ps.standings[p] = r.standing;
+            ps.deadlines[p] = r.deadline;
+            ps.faults[p] = r.fault;
+            p += 1;
+            continue;
+        }
         p += 1;
     }
     ps

@@ -9,7 +9,7 @@ use mir.Val.{Fits}
 use Rattle.model.specs.Records.{modelOf}
 use Rattle.cycle.specs.View.{arrays}
 use Rattle.cycle.proofs.Arrays.{turn-there, turn-room, turn-fours, turn-eights, turn-next, turn-most}
-use Rattle.cycle.proofs.DeltaProcesses.{Waking, waking-none, waking-fine, waking-more, waking-all}
+use Rattle.cycle.proofs.DeltaProcesses.{Waking, waking-none, waking-fine, waking-more, waking-same, waking-all}
 use Rattle.cycle.proofs.delta.wake.Statement.{statement}
 use Rattle.cycle.proofs.delta.wake.Tie as tie
 
@@ -44,9 +44,9 @@ wake-spec =
     μ-loop
     -- loop-holds
     (λ c. (zero-le, waking-none _ _ _ _ _ (record { places = search (length-unmapped); standings = search (length-unmapped); deadlines = search (length-unmapped); faults = search (length-unmapped) })))
-    -- mul-ps
+    -- mul-t14
     (λ c. eights c)
-    -- element-copy-out-ps
+    -- element-copy-out-t17
     (λ c. small c)
     -- mul-t18
     (λ c. eights (c .before))
@@ -66,30 +66,38 @@ wake-spec =
     let head = c .before .before .before .before .before .loop in
     let start = c .before .before .before .before .before .before .before in
     (start .pre .0, (there (c .before .before .before .before), (start .pre .1 .1 .0, waking-fine _ _ _ _ _ _ _ _ (test .taken) (start .pre .1 .1 .1) (head .inv .1)))))
-    -- mul-ps-2
-    (λ c. eights (c .before .before .before .before .before))
+    -- mul-ps
+    (λ c. eights (c .before .before .before .before .before .before .before .before))
     -- element-write-ps
-    (λ c. small (c .before .before .before .before .before))
-    -- mul-ps-3
-    (λ c. eights (c .before .before .before .before .before))
+    (λ c. small (c .before .before .before .before .before .before .before .before))
+    -- mul-ps-2
+    (λ c. eights (c .before .before .before .before .before .before .before .before))
     -- element-write-ps-2
-    (λ c. small (c .before .before .before .before .before))
-    -- mul-ps-4
-    (λ c. eights (c .before .before .before .before .before))
+    (λ c. small (c .before .before .before .before .before .before .before .before))
+    -- mul-ps-3
+    (λ c. eights (c .before .before .before .before .before .before .before .before))
     -- element-write-ps-3
-    (λ c. small (c .before .before .before .before .before))
-    -- mul-ps-5
-    (λ c. fours (c .before .before .before .before .before))
+    (λ c. small (c .before .before .before .before .before .before .before .before))
+    -- mul-ps-4
+    (λ c. fours (c .before .before .before .before .before .before .before .before))
     -- element-write-ps-4
-    (λ c. small (c .before .before .before .before .before))
+    (λ c. small (c .before .before .before .before .before .before .before .before))
     -- add-p
-    (λ c. next (c .before .before .before .before .before))
+    (λ c. next (c .before .before .before .before .before .before .before .before))
     -- loop-less
-    (λ c. falls _ _ (c .before .before .before .before .before .loop-test .taken))
+    (λ c. falls _ _ (c .before .before .before .before .before .before .before .before .loop-test .taken))
     -- loop-again
     (λ c.
-    let head = c .before .before .before .before .before .before .loop in
-    (turn-most _ _ (c .before .before .before .before .before .loop-test .taken), waking-more _ _ _ _ _ _ _ _ (small (c .before .before .before .before .before)) (c .after-delta .ensures) (head .inv .1)))
+    let turn = c .before .before .before .before .before .before .before .before in
+    (turn-most _ _ (turn .loop-test .taken), waking-more _ _ _ _ _ _ _ _ (small turn) (c .before .before .before .after-delta .ensures) (turn .before .loop .inv .1)))
+    -- add-p-2
+    (λ c. next (c .before .before .before .before .before .before .before .before))
+    -- loop-less-2
+    (λ c. falls _ _ (c .before .before .before .before .before .before .before .before .loop-test .taken))
+    -- loop-again-2
+    (λ c.
+    let turn = c .before .before .before .before .before .before .before .before in
+    (turn-most _ _ (turn .loop-test .taken), waking-same _ _ _ _ _ _ _ (c .before .before .before .after-delta .result) (c .before .before .before .after-delta .ensures) (c .if1 .left) (turn .before .loop .inv .1)))
     -- returns
     (λ c.
     let head = c .before .loop in
