@@ -131,11 +131,10 @@ pub record Sixteen (ps : Processes) : Type 0 where
   pub deadlines : length (ps .deadlines) ≡ 16
   pub faults : length (ps .faults) ≡ 16
 
--- the first p processes are those after the step, the others as they were
+-- the loop before process p
 pub record Waking (M : Model) (t changed : ℕ) (e : Environment) (ps : Processes) (p : ℕ) (r : Processes) : Type 0 where
   pub long : Sixteen r
   pub done : WokenTo M t changed e p ps r
-  pub left : (i : ℕ) → p ≤ i → entryOf r i ≡ entryOf ps i
 
 -- the processes with process p changed to q
 abbrev pub withEntry : Processes → ℕ → Process → Processes
@@ -181,22 +180,21 @@ module _ (ps : Processes) (p : ℕ) (q : Process) where
 
 module _ (M : Model) (t changed : ℕ) (e : Environment) (ps : Processes) where
   pub waking-none : Sixteen ps → Waking M t changed e ps 0 ps
-  waking-none l = record { long = l; done = record { at = λ i h. absurd (omega arith) }; left = λ i h. refl }
+  waking-none l = record { long = l; done = record { at = λ i h. absurd (omega arith); left = λ i h. refl } }
 
   -- the next process is one as it was
   pub waking-fine : (p n : ℕ) (r : Processes) → p < n → ProcessesFine M t n ps → Waking M t changed e ps p r → ProcessFine M p t (stateOf (entryOf r p))
-  waking-fine p n r h f w = subst (λ (x : Process). ProcessFine M p t (stateOf x)) (sym (w .left p (omega arith))) (f .at p h)
+  waking-fine p n r h f w = subst (λ (x : Process). ProcessFine M p t (stateOf x)) (sym (w .done .left p (omega arith))) (f .at p h)
 
   pub waking-more : (p : ℕ) (r : Processes) (q : Process) → p < 16 → stateOf q ≡ afterDelta M p t changed e (stateOf (entryOf r p)) → Waking M t changed e ps p r → Waking M t changed e ps (p + 1) (withEntry r p q)
   waking-more p r q h is w =
       record {
         long = with-long r p q (w .long);
-        done = record { at = at };
-        left = λ i l. with-other r p q i (λ z. omega arith) ∙ w .left i (omega arith);
+        done = record { at = at; left = λ i l. with-other r p q i (λ z. omega arith) ∙ w .done .left i (omega arith) };
       }
     where
       here : stateOf (entryOf (withEntry r p q) p) ≡ afterDelta M p t changed e (stateOf (entryOf ps p))
-      here = ap stateOf (with-same r p q (w .long) h) ∙ is ∙ ap (λ (x : Process). afterDelta M p t changed e (stateOf x)) (w .left p (omega arith))
+      here = ap stateOf (with-same r p q (w .long) h) ∙ is ∙ ap (λ (x : Process). afterDelta M p t changed e (stateOf x)) (w .done .left p (omega arith))
 
       at : (i : ℕ) → i < p + 1 → stateOf (entryOf (withEntry r p q) i) ≡ afterDelta M i t changed e (stateOf (entryOf ps i))
       at i l =
@@ -208,15 +206,15 @@ module _ (M : Model) (t changed : ℕ) (e : Environment) (ps : Processes) where
   -- the next process stays as it was
   pub waking-same : (p : ℕ) (r : Processes) (q : Process) → stateOf q ≡ afterDelta M p t changed e (stateOf (entryOf r p)) → q .standing ≡ entryOf r p .standing
       → Waking M t changed e ps p r → Waking M t changed e ps (p + 1) r
-  waking-same p r q is h w = record { long = w .long; done = record { at = at }; left = λ i l. w .left i (omega arith) }
+  waking-same p r q is h w = record { long = w .long; done = record { at = at; left = λ i l. w .done .left i (omega arith) } }
     where
       here : stateOf (entryOf r p) ≡ afterDelta M p t changed e (stateOf (entryOf ps p))
       here =
           sym (stays M p t changed e (stateOf (entryOf r p)) (ap (λ (x : ProcessState). x .standing) (sym is) ∙ h))
-          ∙ ap (λ (x : Process). afterDelta M p t changed e (stateOf x)) (w .left p (omega arith))
+          ∙ ap (λ (x : Process). afterDelta M p t changed e (stateOf x)) (w .done .left p (omega arith))
 
       at : (i : ℕ) → i < p + 1 → stateOf (entryOf r i) ≡ afterDelta M i t changed e (stateOf (entryOf ps i))
       at i l = elim (ℕ-discrete i p) [ yes z ↦ rw z here | no z ↦ w .done .at i (omega (arith, z)) ]
 
-  pub waking-all : (p n : ℕ) (r : Processes) → n ≤ p → Waking M t changed e ps p r → WokenTo M t changed e n ps r
-  waking-all p n r h w = record { at = λ i l. w .done .at i (omega arith) }
+  pub waking-all : (p n : ℕ) (r : Processes) → p ≤ n → n ≤ p → Waking M t changed e ps p r → WokenTo M t changed e n ps r
+  waking-all p n r k h w = record { at = λ i l. w .done .at i (omega arith); left = λ i l. w .done .left i (omega arith) }

@@ -65,6 +65,7 @@ afterDelta M p t changed e q = pick (eqb (q .standing) waiting) (wokenIn M p t c
 pub record ProcessesFine (M : Model) (t n : ℕ) (ps : Processes) : Type 0 where
   pub at : (p : ℕ) → p < n → ProcessFine M p t (stateOf (entryOf ps p))
 
--- the first n processes are those after a delta step
+-- the first n processes are those after a delta step, and the entries past them stay
 pub record WokenTo (M : Model) (t changed : ℕ) (e : Environment) (n : ℕ) (ps r : Processes) : Type 0 where
   pub at : (p : ℕ) → p < n → stateOf (entryOf r p) ≡ afterDelta M p t changed e (stateOf (entryOf ps p))
+  pub left : (p : ℕ) → n ≤ p → entryOf r p ≡ entryOf ps p

@@ -101,4 +101,4 @@ wake-spec =
     -- returns
     (λ c.
     let head = c .before .loop in
-    waking-all _ _ _ _ _ _ _ _ (c .loop-test .left) (head .inv .1)))
+    waking-all _ _ _ _ _ _ _ _ (head .inv .0) (c .loop-test .left) (head .inv .1)))
