@@ -7,7 +7,7 @@ use native.Mathlib.Nat.{eq-or-lt-of-le, le-of-suc-le-suc}
 use native.Mathlib.Decide.{decLt, ℕ-discrete}
 use native.Mathlib.Numerals.{add-one}
 use native.Mathlib.Omega.{arith}
-use lib.ListN.{length, getD, set, take, replicate, length-replicate, length-map, getD-replicate, List·getD-append}
+use lib.ListN.{length, getD, set, length-set, take, replicate, length-replicate, length-map, getD-replicate, List·getD-append}
 use lib.Seq.{getD-take, ext-getD, getD-append-add, getD-set-same, getD-set-other}
 use Rattle.base.specs.Below.{listBelow}
 use Rattle.base.proofs.Below.{list-length, list-at, list-same}
@@ -17,33 +17,72 @@ use Rattle.cycle.specs.Steps.{shifted, timeStep}
 use Rattle.cycle.specs.Orders.{advanceDone, earliest, dueTimes}
 use Rattle.cycle.specs.Invariant.{lastTime}
 use Rattle.cycle.specs.View.{historyOf, driverView, processView, viewOf, Fine, outcomeOf, Answers}
-use Rattle.cycle.specs.Shift.{ShiftedBy}
+use Rattle.cycle.specs.Shift.{Between, MovedBy, FilledTo, ShiftedBy}
 use Rattle.cycle.specs.declared.config.Config.{Config}
 use Rattle.cycle.proofs.AdvanceReachable.{shifted-length, time-reachable}
 use Rattle.cycle.proofs.Lists.{map-at}
 
--- of the first count entries, those from i on are shifted and the others stand
-pub record Shifting (old : List ℕ) (n count i : ℕ) (new : List ℕ) : Type 0 where
-  pub done : (j : ℕ) → i ≤ j → j < count → getD new j 0 ≡ getD old (j - min (j % 32) n) 0
-  pub left : (j : ℕ) → j < i → getD new j 0 ≡ getD old j 0
+-- entries written from the one before hi down
+module _ (f : ℕ → ℕ) (old : List ℕ) (hi : ℕ) where
+  pub between-none : (j : ℕ) → hi ≡ j + 1 → Between f old j hi old
+  between-none j e = record { long = refl; done = λ i l h. absurd (omega arith); before = λ i l. refl; after = λ i l. refl }
 
-module _ (old : List ℕ) (n count : ℕ) where
-  pub shift-none : Shifting old n count count old
-  shift-none = record { done = λ j l h. absurd (omega arith); left = λ j l. refl }
-
-  -- one entry more: entry i takes what stood at or before it
-  pub shift-turn : (new : List ℕ) (u i v : ℕ) → u ≡ i + 1 → i < length new → v ≡ getD new (i - min (i % 32) n) 0 → Shifting old n count u new → Shifting old n count i (set new i v)
-  shift-turn new u i v s l e h =
+  -- one entry more
+  pub between-turn : (new : List ℕ) (j i v : ℕ) → j ≡ i + 1 → j < hi → j < length new → v ≡ f j → Between f old j hi new → Between f old i hi (set new j v)
+  between-turn new j i v s m l e h =
       record {
-        done = λ j m c. elim (ℕ-discrete j i) [
-          | yes q ↦ rw (q, getD-set-same new i v 0 l) (e ∙ h .left (i - min (i % 32) n) (omega arith))
-          | no q ↦ rw (getD-set-other new i j v 0 q) (h .done j (omega (arith, q)) c)
+        long = length-set new j v ∙ h .long;
+        done = λ x a b. elim (ℕ-discrete x j) [
+          | yes q ↦ rw (q, getD-set-same new j v 0 l) e
+          | no q ↦ rw (getD-set-other new j x v 0 q) (h .done x (omega (arith, q)) b)
         ];
-        left = λ j m. getD-set-other new i j v 0 (λ q. omega arith) ∙ h .left j (omega arith);
+        before = λ x a. getD-set-other new j x v 0 (λ q. omega arith) ∙ h .before x (omega arith);
+        after = λ x a. getD-set-other new j x v 0 (λ q. omega arith) ∙ h .after x a;
       }
 
-  pub shift-all : (new : List ℕ) (i : ℕ) → i ≤ 0 → Shifting old n count i new → ShiftedBy old n count new
-  shift-all new i z h j l = h .done j (omega arith) l
+  pub between-all : (new : List ℕ) (j lo : ℕ) → lo ≤ j → j ≤ lo → Between f old j hi new → Between f old lo hi new
+  between-all new j lo l m h = record { long = h .long; done = λ x a b. h .done x (omega arith) b; before = λ x a. h .before x (omega arith); after = h .after }
+
+-- the entries before i, whole histories, are shifted and the others stand
+pub record Shifting (old : List ℕ) (n i : ℕ) (new : List ℕ) : Type 0 where
+  pub whole : i % 32 ≡ 0
+  pub done : (j : ℕ) → j < i → getD new j 0 ≡ getD old (j - min (j % 32) n) 0
+  pub left : (j : ℕ) → i ≤ j → getD new j 0 ≡ getD old j 0
+
+module _ (old : List ℕ) (n : ℕ) where
+  pub shift-none : Shifting old n 0 old
+  shift-none = record { whole = refl; done = λ j l. absurd (omega arith); left = λ j l. refl }
+
+  -- one history more
+  pub shift-turn : (a b c : List ℕ) (i k : ℕ) → k ≡ min 31 n → MovedBy a i k b → FilledTo b i k c → Shifting old n i a → Shifting old n (i + 32) c
+  shift-turn a b c i k e m f h =
+      record {
+        whole = omega arith;
+        done = λ j l. elim (decLt i j) [
+          | yes p ↦ elim (decLt (i + k) j) [ yes q ↦ past j p q l | no q ↦ recent j p (omega (arith, q)) ]
+          | no p ↦ first j (omega (arith, p))
+        ];
+        left = λ j l. f .after j (omega arith) ∙ m .after j l ∙ h .left j (omega arith);
+      }
+    where
+      first : (j : ℕ) → j ≤ i → getD c j 0 ≡ getD old (j - min (j % 32) n) 0
+      first j l = f .before j l ∙ m .before j (omega arith) ∙ elim (decLt j i) [
+        | yes p ↦ h .done j p
+        | no p ↦ let z : j - min (j % 32) n ≡ j = omega (arith, p) in rw z (h .left j (omega (arith, p)))
+      ]
+
+      recent : (j : ℕ) → i < j → j ≤ i + k → getD c j 0 ≡ getD old (j - min (j % 32) n) 0
+      recent j p q =
+          let z : j - min (j % 32) n ≡ i = omega arith in
+          f .done j p (omega arith) ∙ m .before i (omega arith) ∙ h .left i (omega arith) ∙ rw z
+
+      past : (j : ℕ) → i < j → i + k < j → j < i + 32 → getD c j 0 ≡ getD old (j - min (j % 32) n) 0
+      past j p q l =
+          let z : j - min (j % 32) n ≡ j - k = omega arith in
+          f .after j (omega arith) ∙ m .done j q l ∙ h .left (j - k) (omega arith) ∙ rw z
+
+  pub shift-all : (new : List ℕ) (i count : ℕ) → count ≤ i → Shifting old n i new → ShiftedBy old n count new
+  shift-all new i count z h j l = h .done j (omega arith)
 
 -- the value of k units ago, after n units
 shifted-at : (n : ℕ) (h : List ℕ) (k : ℕ) → k < 32 → getD (shifted n h) k 0 ≡ getD h (k - min k n) 0

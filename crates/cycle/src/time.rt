@@ -1,8 +1,8 @@
 // The time step: the past of each signal shifts by the units passed.
 ghost use mathlib.Core.Path.{_≡_};
-ghost use Prim.Native.Nat.{_≤_, min};
+ghost use Prim.Native.Nat.{_+_, _≤_, _<_, min};
 ghost use lib.ListN.{length};
-ghost use Rattle.cycle.specs.Shift.{ShiftedBy};
+ghost use Rattle.cycle.specs.Shift.{MovedBy, FilledTo, ShiftedBy};
 
 fn lesser(a: usize, n: u64) -> usize
     ensures { λ r. ⌜ r ≡ min a n ⌝ }
@@ -10,17 +10,48 @@ fn lesser(a: usize, n: u64) -> usize
     if n < a as u64 { n as usize } else { a }
 }
 
-// The histories in the first count entries, after n units: from the last entry down, so that what an entry takes still stands.
+// Of the history at base, each entry after the n-th takes what stood n before it: from the last down, so that what it takes still stands.
+fn move_past(signals: &mut [u32; 1024], base: usize, n: usize)
+    requires { ⌜ base + 32 ≤ 1024 ⌝ }
+    requires { ⌜ n < 32 ⌝ }
+    requires { ⌜ length (now signals) ≡ 1024 ⌝ }
+    ensures { λ r. ⌜ MovedBy (now (signals .entry)) base n (now (signals .exit)) ⌝ }
+{
+    let last = base + n;
+    let mut j = base + 31;
+    while j > last {
+        let earlier = signals[j - n];
+        signals[j] = earlier;
+        j -= 1;
+    }
+}
+
+// Of the history at base, each of the n entries after the first takes the first's value.
+fn fill_recent(signals: &mut [u32; 1024], base: usize, n: usize)
+    requires { ⌜ base + 32 ≤ 1024 ⌝ }
+    requires { ⌜ n < 32 ⌝ }
+    requires { ⌜ length (now signals) ≡ 1024 ⌝ }
+    ensures { λ r. ⌜ FilledTo (now (signals .entry)) base n (now (signals .exit)) ⌝ }
+{
+    let current = signals[base];
+    let mut j = base + n;
+    while j > base {
+        signals[j] = current;
+        j -= 1;
+    }
+}
+
+// The histories in the first count entries, after n units.
 pub fn shift(signals: &mut [u32; 1024], count: usize, n: u64)
     requires { ⌜ count ≤ 1024 ⌝ }
     requires { ⌜ length (now signals) ≡ 1024 ⌝ }
     ensures { λ r. ⌜ ShiftedBy (now (signals .entry)) n count (now (signals .exit)) ⌝ }
 {
-    let mut i = count;
-    while i > 0 {
-        i -= 1;
-        let k = lesser(i % 32, n);
-        let v = signals[i - k];
-        signals[i] = v;
+    let k = lesser(31, n);
+    let mut i = 0;
+    while i < count {
+        move_past(&mut *signals, i, k);
+        fill_recent(&mut *signals, i, k);
+        i += 32;
     }
 }
