@@ -54,19 +54,25 @@ module _ (M : Model) (c : Configuration) (n : dueNow M c ≡ false) where
   unfolding dueNow
   no-deadline p h = any-none deadline (length (M .processes)) (or-right (anyBelow transaction (length (M .drivers))) (anyBelow deadline (length (M .processes))) n) p h
 
-module _ (M : Model) (c : Configuration) (r : Reachable M c) (t : ℕ) (e : earliest (dueTimes M c) ≡ some t) where
-  pub due-within : Within (c .time) t
-  due-within =
-      earliest-is (Within (c .time)) (dueTimes M c) t e
-      (due-each M c (Within (c .time))
-      (λ k h. transaction-within (c .time) (driverIn (c .drivers) k .pending) (r .each-driver k h .rising))
-      (λ p h. deadline-within (c .time) (processIn (c .processes) p .deadline) (r .each-process p h .deadline)))
+module _ (M : Model) (c : Configuration) (r : Reachable M c) where
+  pub driver-within : (k : ℕ) → k < length (M .drivers) → All (Within (c .time)) (timesIn (driverIn (c .drivers) k .pending))
+  driver-within k h = transaction-within (c .time) (driverIn (c .drivers) k .pending) (r .each-driver k h .rising)
 
-  -- a time step moves the time on
-  pub due-after : dueNow M c ≡ false → c .time < t
-  unfolding transactionDue deadlineDue
-  due-after n =
-      earliest-is (λ u. c .time < u) (dueTimes M c) t e
-      (due-each M c (λ u. c .time < u)
-      (λ k h. transaction-after (c .time) (driverIn (c .drivers) k .pending) (no-transaction M c n k h) (r .each-driver k h .rising))
-      (λ p h. deadline-after (c .time) (processIn (c .processes) p .deadline) (no-deadline M c n p h) (r .each-process p h .deadline)))
+  pub process-within : (p : ℕ) → p < length (M .processes) → All (Within (c .time)) (optional (processIn (c .processes) p .deadline))
+  process-within p h = deadline-within (c .time) (processIn (c .processes) p .deadline) (r .each-process p h .deadline)
+
+  pub each-within : All (Within (c .time)) (dueTimes M c)
+  each-within = due-each M c (Within (c .time)) driver-within process-within
+
+  module _ (t : ℕ) (e : earliest (dueTimes M c) ≡ some t) where
+    pub due-within : Within (c .time) t
+    due-within = earliest-is (Within (c .time)) (dueTimes M c) t e each-within
+
+    -- a time step moves the time on
+    pub due-after : dueNow M c ≡ false → c .time < t
+    unfolding transactionDue deadlineDue
+    due-after n =
+        earliest-is (λ u. c .time < u) (dueTimes M c) t e
+        (due-each M c (λ u. c .time < u)
+        (λ k h. transaction-after (c .time) (driverIn (c .drivers) k .pending) (no-transaction M c n k h) (r .each-driver k h .rising))
+        (λ p h. deadline-after (c .time) (processIn (c .processes) p .deadline) (no-deadline M c n p h) (r .each-process p h .deadline)))

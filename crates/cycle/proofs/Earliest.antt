@@ -3,8 +3,8 @@ use mathlib.Core.Path.{_≡_, refl}
 use mathlib.Core.Logic.{⊎-elim}
 use mathlib.Core.List.{List, [], _∷_, _++_}
 use mathlib.Core.Option.{some}
-use Prim.Native.Nat.{ℕ, _+_, _≤_, _<_, min}
-use native.Mathlib.Nat.{le-antisymm}
+use Prim.Native.Nat.{ℕ, zero, suc, _+_, _≤_, _<_, min}
+use native.Mathlib.Nat.{le-antisymm, eq-or-lt-of-le, le-of-suc-le-suc}
 use native.Mathlib.Omega.{arith}
 use lib.ListN.{length}
 use Rattle.base.proofs.Below.{split, list-none, list-more}
@@ -36,8 +36,30 @@ module _ (s : ℕ) (f : ℕ → ℕ) where
   pub least-next : (i t u : ℕ) → t ≡ least s (listBelow f i) → u ≡ min t (f i) → u ≡ least s (listBelow f (i + 1))
   least-next i t u h e = rw (list-more, least-more, ← h) e
 
+  -- t is not after the least where it is after none, and the least is after none
+  least-above : (n t : ℕ) → t ≤ s → ((k : ℕ) → k < n → t ≤ f k) → t ≤ least s (listBelow f n)
+  unfolding listBelow
+  least-above zero t h g = h
+  least-above (suc n) t h g =
+      rw least-more (omega (arith, least-above n t h (λ k l. g k (omega arith)), g n (omega arith)))
+
+  least-under : (n i : ℕ) → i < n → least s (listBelow f n) ≤ f i
+  unfolding listBelow
+  least-under zero i l = absurd (omega arith)
+  least-under (suc n) i l =
+      rw least-more
+      (⊎-elim (λ (e : i ≡ n). rw e (omega arith)) (λ (l : i < n). omega (arith, least-under n i l)) (eq-or-lt-of-le (le-of-suc-le-suc l)))
+
+  -- it has found t: no time is before t, so those that are left need no look
+  pub least-found : (n i t : ℕ) → i < n → f i ≡ t → t ≤ s → ((k : ℕ) → k < n → t ≤ f k) → t ≡ least s (listBelow f n)
+  least-found n i t l e h g = omega (arith, least-above n t h g, least-under n i l)
+
   pub least-done : (n i t : ℕ) → i ≤ n → n ≤ i → t ≡ least s (listBelow f i) → t ≡ least s (listBelow f n)
   least-done n i t h k e = rw (le-antisymm h k) at e
+
+-- the earlier of two that are found
+pub earlier-found : (t u a b r : ℕ) → a ≡ t → b ≡ u → r ≡ min a b → r ≡ min t u
+earlier-found t u a b r e g h = rw (← e, ← g) h
 
 -- the earliest is one of them
 min-is : (P : ℕ → Type 0) (t u : ℕ) → P t → P u → P (min t u)

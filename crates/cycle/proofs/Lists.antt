@@ -28,6 +28,10 @@ module _ {A : Type 0} (P : A → Type 0) where
   all-append [] ys h k = k
   all-append (x ∷ xs) ys h k = (h .0, all-append xs ys (h .1) k)
 
+  pub all-weaker : (Q : A → Type 0) → ((x : A) → P x → Q x) → (xs : List A) → All P xs → All Q xs
+  all-weaker Q g [] h = tt
+  all-weaker Q g (x ∷ xs) h = (g x (h .0), all-weaker Q g xs (h .1))
+
   -- it holds of each element of each part
   pub all-part : (f : ℕ → List A) (n i : ℕ) → i < n → All P (joinBelow f n) → All P (f i)
   unfolding joinBelow

@@ -18,13 +18,13 @@ use Rattle.model.specs.Records.{Model}
 use Rattle.cycle.specs.Configuration.{Transaction, Configuration, driverIn, processIn}
 use Rattle.cycle.specs.Steps.{dueIn, transactionDue, deadlineAt, deadlineDue}
 use Rattle.cycle.specs.Orders.{timesIn, optional, least, earliest, dueTimes, dueNow}
-use Rattle.cycle.specs.Invariant.{Rising, DeadlineFine}
 use Rattle.cycle.specs.View.{never, firstTime, deadlineOf, pendingOf, noDriver, viewOf, Fine}
+use Rattle.cycle.specs.Due.{soonestOf, NoneBefore, someIs}
 use Rattle.cycle.specs.declared.config.Config.{Config}
-use Rattle.cycle.proofs.Lists.{All, all-left, all-right, all-part}
-use Rattle.cycle.proofs.Earliest.{none-earlier, due-each}
+use Rattle.cycle.proofs.Lists.{All, all-left, all-right, all-weaker, all-part}
+use Rattle.cycle.proofs.Earliest.{none-earlier}
 use Rattle.cycle.proofs.ViewLaws.{np-is, nd-is, pending-in, deadline-in, standing-in}
-use Rattle.cycle.proofs.DueTimes.{due-within, due-after}
+use Rattle.cycle.proofs.DueTimes.{Within, driver-within, process-within, each-within, due-within, due-after}
 
 -- the time, or never
 abbrev pub orNever : Option ℕ → ℕ
@@ -92,10 +92,10 @@ module _ (M : Model) (c : Config) (f : Fine M c) where
   nd = nd-is M c (f .reachable)
 
   abbrev firsts : ℕ
-  firsts = least never (listBelow (λ k. getD (c .due) k 0) (c .nd))
+  firsts = soonestOf (c .due) (c .nd)
 
   abbrev lasts : ℕ
-  lasts = least never (listBelow (λ p. getD (c .deadlines) p 0) (c .np))
+  lasts = soonestOf (c .deadlines) (c .np)
 
   abbrev pendings : List ℕ
   pendings = joinBelow (λ k. timesIn (driverIn (v .drivers) k .pending)) (c .nd)
@@ -103,15 +103,31 @@ module _ (M : Model) (c : Config) (f : Fine M c) where
   abbrev waits : List ℕ
   waits = joinBelow (λ p. optional (processIn (v .processes) p .deadline)) (c .np)
 
+  -- each number stands for the times of its driver, or of its process
+  driver-stands : (k : ℕ) → k < c .nd → Stands (getD (c .due) k 0) (timesIn (driverIn (v .drivers) k .pending))
+  driver-stands k h = rw (f .due k h, pending-in c k h) (first-stands (pendingOf (getD (c .drivers) k noDriver)))
+
+  process-stands : (p : ℕ) → p < c .np → Stands (getD (c .deadlines) p 0) (optional (processIn (v .processes) p .deadline))
+  process-stands p h = rw (deadline-in c p h) (deadline-stands (getD (c .deadlines) p 0))
+
+  -- none is before now
+  from-now : (t : ℕ) (us : List ℕ) → Stands t us → All (Within (v .time)) us → c .time ≤ t
+  unfolding viewOf
+  from-now t [] e a = omega (arith, f .reachable .time)
+  from-now t (u ∷ []) e a = omega (arith, a .0 .from)
+  from-now t (u ∷ (w ∷ us)) e a = absurd e
+
+  pub no-first-before : NoneBefore (c .time) (c .due) (c .nd)
+  no-first-before k h = from-now _ (timesIn (driverIn (v .drivers) k .pending)) (driver-stands k h) (driver-within M v (f .reachable) k (rw nd at h))
+
+  pub no-deadline-before : NoneBefore (c .time) (c .deadlines) (c .np)
+  no-deadline-before p h = from-now _ (optional (processIn (v .processes) p .deadline)) (process-stands p h) (process-within M v (f .reachable) p (rw np at h))
+
   drivers-least : firsts ≡ least never pendings
-  drivers-least =
-      stand-least (λ k. getD (c .due) k 0) (λ k. timesIn (driverIn (v .drivers) k .pending)) (c .nd)
-      (λ k h. rw (f .due k h, pending-in c k h) (first-stands (pendingOf (getD (c .drivers) k noDriver))))
+  drivers-least = stand-least _ _ (c .nd) driver-stands
 
   deadlines-least : lasts ≡ least never waits
-  deadlines-least =
-      stand-least (λ p. getD (c .deadlines) p 0) (λ p. optional (processIn (v .processes) p .deadline)) (c .np)
-      (λ p h. rw (deadline-in c p h) (deadline-stands (getD (c .deadlines) p 0)))
+  deadlines-least = stand-least _ _ (c .np) process-stands
 
   times-are : dueTimes M v ≡ pendings ++ waits
   unfolding dueTimes
@@ -124,22 +140,9 @@ module _ (M : Model) (c : Config) (f : Fine M c) where
 
   -- the earliest of the numbers is the earliest due time
   pub soonest : min firsts lasts ≡ orNever (earliest (dueTimes M v))
-  unfolding viewOf
-  soonest = times-least ∙ sym (earliest-least (dueTimes M v) (due-each M v (λ u. u ≤ never) drivers-low deadlines-low))
-    where
-      drivers-low : (k : ℕ) → k < length (M .drivers) → All (λ u. u ≤ never) (timesIn (driverIn (v .drivers) k .pending))
-      drivers-low k h = low (driverIn (v .drivers) k .pending) (f .reachable .each-driver k h .rising)
-        where
-          low : (w : List Transaction) → Rising (c .time) w → All (λ u. u ≤ never) (timesIn w)
-          low [] r = tt
-          low (x ∷ w) r = (omega (arith, r .1), tt)
-
-      deadlines-low : (p : ℕ) → p < length (M .processes) → All (λ u. u ≤ never) (optional (processIn (v .processes) p .deadline))
-      deadlines-low p h = low (processIn (v .processes) p .deadline) (f .reachable .each-process p h .deadline)
-        where
-          low : (o : Option ℕ) → DeadlineFine (c .time) o → All (λ u. u ≤ never) (optional o)
-          low none d = tt
-          low (some u) d = (omega (arith, d .1), tt)
+  soonest =
+      times-least
+      ∙ sym (earliest-least (dueTimes M v) (all-weaker (Within (v .time)) _ (λ u w. omega (arith, w .most)) (dueTimes M v) (each-within M v (f .reachable))))
 
   -- nothing is due now where every due time is later
   none-now : All (λ u. c .time < u) (dueTimes M v) → dueNow M v ≡ false
@@ -161,11 +164,7 @@ module _ (M : Model) (c : Config) (f : Fine M c) where
       after (some u) h = ne-eqb u (c .time) (λ e. omega (arith, h .0))
 
   all-later : (t : ℕ) → earliest (dueTimes M v) ≡ some t → c .time < t → All (λ u. c .time < u) (dueTimes M v)
-  all-later t e l = up (dueTimes M v) (none-earlier (dueTimes M v) t e)
-    where
-      up : (ts : List ℕ) → All (λ u. t ≤ u) ts → All (λ u. c .time < u) ts
-      up [] h = tt
-      up (u ∷ us) h = (omega (arith, h .0), up us (h .1))
+  all-later t e l = all-weaker (λ u. t ≤ u) _ (λ u h. omega arith) (dueTimes M v) (none-earlier (dueTimes M v) t e)
 
   none-at-all : (ts : List ℕ) → earliest ts ≡ none → All (λ u. c .time < u) ts
   none-at-all [] e = tt
@@ -192,7 +191,7 @@ module _ (M : Model) (c : Config) (f : Fine M c) where
 
 -- a process of some standing, found among the numbers
 pub standing-is : (M : Model) (c : Config) (x : ℕ) → Fine M c
-    → anyBelow (λ p. eqb (getD (c .standings) p 0) x) (c .np) ≡ anyBelow (λ p. eqb (processIn (viewOf c .processes) p .standing) x) (length (M .processes))
+    → someIs (c .standings) (c .np) x ≡ anyBelow (λ p. eqb (processIn (viewOf c .processes) p .standing) x) (length (M .processes))
 standing-is M c x f =
     rw (← np M c f)
     (any-same _ _ (c .np) (λ p h. ap (λ (y : ℕ). eqb y x) (sym (standing-in c p h))))

@@ -2,7 +2,7 @@
 use mathlib.Core.Path.{_≡_}
 use mathlib.Core.Bool.{Bool}
 use mathlib.Core.List.{List}
-use Prim.Native.Nat.{ℕ, min}
+use Prim.Native.Nat.{ℕ, _≤_, _<_, min}
 use lib.Dec.{eqb, ltb, leb}
 use lib.ListN.{getD}
 use Rattle.base.specs.Below.{anyBelow, listBelow}
@@ -13,10 +13,17 @@ use Rattle.cycle.specs.Invariant.{lastTime}
 use Rattle.cycle.specs.View.{never}
 use Rattle.cycle.specs.declared.due.Due.{Due}
 
+-- the earliest of the first n times, or never
+abbrev pub soonestOf : List ℕ → ℕ → ℕ
+soonestOf times n = least never (listBelow (λ k. getD times k 0) n)
+
 -- the earliest of the first times of nd drivers and the deadlines of np processes
 abbrev pub soonestIn : List ℕ → ℕ → List ℕ → ℕ → ℕ
-soonestIn due nd deadlines np =
-    min (least never (listBelow (λ k. getD due k 0) nd)) (least never (listBelow (λ p. getD deadlines p 0) np))
+soonestIn due nd deadlines np = min (soonestOf due nd) (soonestOf deadlines np)
+
+-- none of the first n times is before t
+abbrev pub NoneBefore : ℕ → List ℕ → ℕ → Type 0
+NoneBefore t times n = (k : ℕ) → k < n → t ≤ getD times k 0
 
 -- one of np processes has standing x
 abbrev pub someIs : List ℕ → ℕ → ℕ → Bool

@@ -1,12 +1,8 @@
 // What is due, and the standings of the processes.
 ghost use mathlib.Core.Path.{_≡_};
 ghost use Prim.Native.Nat.{_≤_, min};
-ghost use lib.Dec.{eqb};
-ghost use lib.ListN.{getD};
-ghost use Rattle.base.specs.Below.{anyBelow, listBelow};
-ghost use Rattle.cycle.specs.Orders.{least};
-ghost use Rattle.cycle.specs.View.{never};
-ghost use Rattle.cycle.specs.Due.{refusalIn, DueIn};
+ghost use lib.ListN.{length};
+ghost use Rattle.cycle.specs.Due.{soonestOf, NoneBefore, someIs, refusalIn, DueIn};
 
 // The refusal of an advance, or 0, and the earliest due time.
 pub struct Due {
@@ -20,28 +16,21 @@ pub fn earlier(a: u64, b: u64) -> u64
     if a < b { a } else { b }
 }
 
-// The earliest of the first n times, or the largest number where there is none.
-pub fn earliest_driver(due: &[u64; 64], n: usize) -> u64
-    requires { ⌜ n ≤ 64 ⌝ }
-    ensures { λ r. ⌜ r ≡ least never (listBelow (λ k. getD (now (due .entry)) k 0) n) ⌝ }
+// The earliest of the first n times, or the largest number where there is none. No time is before `time`, so one that equals it ends
+// the search.
+fn earliest(times: &[u64], n: usize, time: u64) -> u64
+    requires { ⌜ n ≤ length (now times) ⌝ }
+    requires { ⌜ NoneBefore time (now times) n ⌝ }
+    ensures { λ r. ⌜ r ≡ soonestOf (now (times .entry)) n ⌝ }
 {
     let mut t: u64 = 18446744073709551615;
     let mut i = 0;
     while i < n {
-        t = earlier(t, due[i]);
-        i += 1;
-    }
-    t
-}
-
-pub fn earliest_deadline(deadlines: &[u64; 16], n: usize) -> u64
-    requires { ⌜ n ≤ 16 ⌝ }
-    ensures { λ r. ⌜ r ≡ least never (listBelow (λ p. getD (now (deadlines .entry)) p 0) n) ⌝ }
-{
-    let mut t: u64 = 18446744073709551615;
-    let mut i = 0;
-    while i < n {
-        t = earlier(t, deadlines[i]);
+        let x = times[i];
+        if x == time {
+            return time;
+        }
+        t = earlier(t, x);
         i += 1;
     }
     t
@@ -50,7 +39,7 @@ pub fn earliest_deadline(deadlines: &[u64; 16], n: usize) -> u64
 // Whether one of the first n processes has the standing.
 pub fn any_standing(standings: &[usize; 16], n: usize, standing: usize) -> bool
     requires { ⌜ n ≤ 16 ⌝ }
-    ensures { λ r. ⌜ r ≡ anyBelow (λ p. eqb (getD (now (standings .entry)) p 0) standing) n ⌝ }
+    ensures { λ r. ⌜ r ≡ someIs (now (standings .entry)) n standing ⌝ }
 {
     let mut i = 0;
     while i < n {
@@ -100,10 +89,12 @@ pub fn next_due<'a>(
 ) -> Due
     requires { ⌜ np ≤ 16 ⌝ }
     requires { ⌜ nd ≤ 64 ⌝ }
+    requires { ⌜ NoneBefore time (now due) nd ⌝ }
+    requires { ⌜ NoneBefore time (now deadlines) np ⌝ }
     ensures { λ r. ⌜ DueIn (now (standings .entry)) (now (due .entry)) (now (deadlines .entry)) np nd time deltas r ⌝ }
 {
-    let first = earliest_driver(due, nd);
-    let t = earlier(first, earliest_deadline(deadlines, np));
+    let first = earliest(due, nd, time);
+    let t = earlier(first, earliest(deadlines, np, time));
     Due {
         refusal: refusal(standings, np, t, time, deltas),
         time: t,

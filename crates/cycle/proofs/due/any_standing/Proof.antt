@@ -1,17 +1,16 @@
+-- `any_standing`: the loop has found none among the processes passed. Assumes nothing.
 use mathlib.Core.Path.{_≡_, sym}
 use mathlib.Core.Bool.{false}
 use Prim.Native.Nat.{_≤_, _-_}
-use lib.Dec.{eqb}
-use lib.ListN.{getD}
 use borrow.Author.Tests.{eq-eqb, ne-eqb}
-use Rattle.base.specs.Below.{anyBelow}
+use Rattle.cycle.specs.Due.{someIs}
 use Rattle.base.proofs.Below.{any-start, any-more, any-done, any-found}
 use borrow.Author.Needs.{needs}
 use Rattle.cycle.proofs.due.any_standing.Statement.{statement}
 use Rattle.cycle.proofs.due.any_standing.Tie as tie
 
 abbrev Inv-loop : tie.InvT-loop
-Inv-loop standings n standing i₀ i = (i ≤ n) × (anyBelow (λ p. eqb (getD standings p 0) standing) i ≡ false)
+Inv-loop standings n standing i₀ i = (i ≤ n) × (someIs standings i standing ≡ false)
 
 abbrev μ-loop : tie.MeasureT-loop
 μ-loop standings n standing i₀ i = n - i

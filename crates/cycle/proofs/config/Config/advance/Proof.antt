@@ -12,6 +12,7 @@ use Rattle.cycle.proofs.DeltaDrivers.{slotOf, some-pending, slot-taken,
 use Rattle.cycle.proofs.DeltaView.{delta-answers, processes-kept}
 use Rattle.cycle.proofs.Lists.{length-mapped}
 use Rattle.cycle.proofs.Shifts.{time-stepped}
+use Rattle.cycle.proofs.Soonest.{no-first-before, no-deadline-before}
 use Rattle.cycle.proofs.ViewLaws.{nd-is, np-is}
 use Rattle.cycle.proofs.config.Config.advance.Statement.{statement}
 use Rattle.cycle.proofs.config.Config.advance.Tie as tie
@@ -66,7 +67,9 @@ advance-spec =
     -- next-due-requires
     (λ c κs.
     let st = c .before .before .before .before .before in
-    (few-processes (st .pre .0 .facts) (st .pre .1), few-drivers (st .pre .0 .facts) (st .pre .1)))
+    let facts = st .pre .0 .facts in
+    let fine = st .pre .1 in
+    (few-processes facts fine, (few-drivers facts fine, (no-first-before _ _ fine, no-deadline-before _ _ fine))))
     -- refused-requires
     (λ c κs. search needs)
     -- returns
