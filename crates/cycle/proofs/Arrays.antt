@@ -2,14 +2,11 @@
 use mathlib.Core.Path.{_≡_, _∙_}
 use mathlib.Core.Logic.{⊎-elim}
 use mathlib.Core.List.{List}
-use Prim.Native.Nat.{ℕ, _+_, _*_, _≤_, _<_}
+use Prim.Native.Nat.{ℕ, _+_, _≤_, _<_}
 use native.Mathlib.Nat.{eq-or-lt-of-le}
 use native.Mathlib.Omega.{arith}
-use lib.Dec.{T, leb, lit≤}
 use lib.ListN.{length, getD, set, length-set}
 use lib.Seq.{getD-set-same, getD-set-other}
-use mir.Syntax.{w64}
-use mir.Val.{Fits}
 use Rattle.cycle.specs.Arrays.{Has}
 
 -- the first i entries are filled, of an array of k
@@ -36,24 +33,3 @@ module _ (f : ℕ → ℕ) (k : ℕ) where
   -- all turns are done
   pub filled-all : (xs : List ℕ) (i n : ℕ) → n ≤ i → Filled f k i xs → Has f n xs
   filled-all xs i n h l = record { at = λ j m. l .has .at j (omega arith) }
-
--- turn i of n, a total of the model, which is at most b: the array of b entries has room for it
-module _ (b i n k : ℕ) (e : n ≡ k) (l : k ≤ b) (h : i < n) where
-  pub turn-there : i < k
-  turn-there = rw e at h
-
-  pub turn-room : i < b
-  turn-room = omega arith
-
-  module _ (s : T (leb b 64)) where
-    pub turn-fours : Fits w64 (i * 4)
-    turn-fours = let g : b ≤ 64 = lit≤ s in omega arith
-
-    pub turn-eights : Fits w64 (i * 8)
-    turn-eights = let g : b ≤ 64 = lit≤ s in omega arith
-
-    pub turn-next : Fits w64 (i + 1)
-    turn-next = let g : b ≤ 64 = lit≤ s in omega arith
-
-pub turn-most : (i n : ℕ) → i < n → i + 1 ≤ n
-turn-most i n h = omega arith

@@ -1,5 +1,4 @@
 pub mod BlockForms
-pub mod Counting
 pub mod Drivers
 pub mod Entries
 pub mod Facts

@@ -8,7 +8,7 @@ use mir.Syntax.{w64}
 use mir.Val.{Fits}
 use Rattle.model.specs.Records.{modelOf}
 use Rattle.cycle.specs.View.{arrays}
-use Rattle.cycle.proofs.Arrays.{turn-there, turn-room, turn-fours, turn-eights, turn-next, turn-most}
+use Rattle.base.proofs.Turns.{turn-there, turn-room, turn-fours, turn-eights, turn-next, turn-most}
 use Rattle.cycle.proofs.DeltaProcesses.{Waking, waking-none, waking-fine, waking-more, waking-same, waking-all}
 use Rattle.cycle.proofs.delta.wake.Statement.{statement}
 use Rattle.cycle.proofs.delta.wake.Tie as tie

@@ -6,8 +6,8 @@ use borrow.Author.Needs.{needs}
 use Rattle.base.specs.Below.{sumBelow}
 use Rattle.base.specs.Bytes.{wordAt}
 use Rattle.base.proofs.Below.{sum-none}
+use Rattle.base.proofs.Turns.{turn-most, sum-turn}
 use Rattle.model.specs.Blocks.{blockSum}
-use Rattle.model.proofs.Counting.{next-most, sum-turn}
 use Rattle.model.proofs.blocks.block_sum.Statement.{statement}
 use Rattle.model.proofs.blocks.block_sum.Tie as tie
 
@@ -42,7 +42,7 @@ loop-less : tie.Need-loop-less Inv-loop μ-loop
 loop-less c = falls _ _ (c .before .loop-test .taken)
 
 loop-again : tie.Need-loop-again Inv-loop μ-loop
-loop-again c = (next-most _ _ (c .before .loop-test .taken), search needs, sum-turn _ _ _ _ (c .before .before .loop .inv .2) (c .word .ensures .value))
+loop-again c = (turn-most _ _ (c .before .loop-test .taken), search needs, sum-turn _ _ _ _ (c .before .before .loop .inv .2) (c .word .ensures .value))
 
 returns : tie.Need-returns Inv-loop μ-loop
 unfolding blockSum

@@ -4,8 +4,8 @@ use native.Mathlib.Nat.{le-antisymm}
 use borrow.Author.Count.{falls}
 use borrow.Author.Needs.{needs}
 use Rattle.base.specs.Below.{allBelow}
+use Rattle.base.proofs.Turns.{turn-most, all-begun, all-turn}
 use Rattle.model.specs.Blocks.{headOk, headsOk}
-use Rattle.model.proofs.Counting.{next-most, all-begun, all-turn}
 use Rattle.model.proofs.blocks.heads_ok.Statement.{statement}
 use Rattle.model.proofs.blocks.heads_ok.Tie as tie
 
@@ -28,7 +28,7 @@ loop-less : tie.Need-loop-less Inv-loop μ-loop
 loop-less c = falls _ _ (c .before .loop-test .taken)
 
 loop-again : tie.Need-loop-again Inv-loop μ-loop
-loop-again c = (next-most _ _ (c .before .loop-test .taken), all-turn _ _ _ _ (c .before .before .loop .inv .1) (c .head-ok .ensures))
+loop-again c = (turn-most _ _ (c .before .loop-test .taken), all-turn _ _ _ _ (c .before .before .loop .inv .1) (c .head-ok .ensures))
 
 returns : tie.Need-returns Inv-loop μ-loop
 unfolding headsOk

@@ -5,8 +5,8 @@ use borrow.Author.Count.{falls}
 use borrow.Author.Needs.{needs}
 use lib.Dec.{eqb}
 use Rattle.base.specs.Below.{allBelow}
+use Rattle.base.proofs.Turns.{turn-most, all-begun, all-turn}
 use Rattle.model.specs.Blocks.{sumOk, sumsOk}
-use Rattle.model.proofs.Counting.{next-most, all-begun, all-turn}
 use Rattle.model.proofs.blocks.sums_ok.Statement.{statement}
 use Rattle.model.proofs.blocks.sums_ok.Tie as tie
 
@@ -30,7 +30,7 @@ loop-less c = falls _ _ (c .before .loop-test .taken)
 
 loop-again : tie.Need-loop-again Inv-loop μ-loop
 unfolding sumOk
-loop-again c = (next-most _ _ (c .before .loop-test .taken), all-turn _ _ _ _ (c .before .before .loop .inv .1) (ap (λ s. eqb (s % 65536) 1) (c .block-sum .ensures)))
+loop-again c = (turn-most _ _ (c .before .loop-test .taken), all-turn _ _ _ _ (c .before .before .loop .inv .1) (ap (λ s. eqb (s % 65536) 1) (c .block-sum .ensures)))
 
 returns : tie.Need-returns Inv-loop μ-loop
 unfolding sumsOk

@@ -5,8 +5,8 @@ use borrow.Author.Count.{falls}
 use borrow.Author.Needs.{needs}
 use Rattle.base.specs.Below.{sumBelow}
 use Rattle.base.proofs.Below.{sum-none}
+use Rattle.base.proofs.Turns.{turn-most, sum-turn}
 use Rattle.model.specs.Blocks.{countIn, totalOf}
-use Rattle.model.proofs.Counting.{next-most, sum-turn}
 use Rattle.model.proofs.blocks.total.Statement.{statement}
 use Rattle.model.proofs.blocks.total.Tie as tie
 
@@ -32,7 +32,7 @@ loop-less : tie.Need-loop-less Inv-loop μ-loop
 loop-less c = falls _ _ (c .before .loop-test .taken)
 
 loop-again : tie.Need-loop-again Inv-loop μ-loop
-loop-again c = (next-most _ _ (c .before .loop-test .taken), search needs, sum-turn _ _ _ _ (c .before .before .loop .inv .2) (c .count-in .ensures .value))
+loop-again c = (turn-most _ _ (c .before .loop-test .taken), search needs, sum-turn _ _ _ _ (c .before .before .loop .inv .2) (c .count-in .ensures .value))
 
 returns : tie.Need-returns Inv-loop μ-loop
 unfolding totalOf

@@ -4,9 +4,9 @@ use native.Mathlib.Nat.{le-antisymm}
 use borrow.Author.Count.{falls}
 use borrow.Author.Needs.{needs}
 use Rattle.base.specs.Below.{allBelow}
+use Rattle.base.proofs.Turns.{turn-most, all-begun, all-turn}
 use Rattle.model.specs.Blocks.{trailingAt, trailingOk}
 use Rattle.model.proofs.BlockForms.{trailing-form}
-use Rattle.model.proofs.Counting.{next-most, all-begun, all-turn}
 use Rattle.model.proofs.blocks.trailing_ok.Statement.{statement}
 use Rattle.model.proofs.blocks.trailing_ok.Tie as tie
 
@@ -52,7 +52,7 @@ loop-less c = falls _ _ (c .before .loop-test .taken)
 loop-again : tie.Need-loop-again Inv-loop μ-loop
 loop-again c =
     let l = c .before .before in
-    (next-most _ _ (c .before .loop-test .taken), all-turn _ _ _ _ (l .loop .inv .1) (trailing-form _ _ _ _ _ (l .before .byte .ensures) (c .byte2 .ensures)))
+    (turn-most _ _ (c .before .loop-test .taken), all-turn _ _ _ _ (l .loop .inv .1) (trailing-form _ _ _ _ _ (l .before .byte .ensures) (c .byte2 .ensures)))
 
 returns : tie.Need-returns Inv-loop μ-loop
 unfolding trailingOk

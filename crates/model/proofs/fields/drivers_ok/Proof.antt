@@ -3,9 +3,9 @@ use Prim.Native.Nat.{_-_, _≤_, zero-le}
 use borrow.Author.Count.{falls}
 use denote.Ref.{now}
 use Rattle.base.specs.Below.{allBelow}
+use Rattle.base.proofs.Turns.{turn-next, turn-most, all-begun, all-turn, all-ended}
 use Rattle.model.specs.Records.{modelOf, driverAt}
 use Rattle.model.specs.Fields.{driverOk}
-use Rattle.model.proofs.Counting.{below-total, next-fits, next-most, all-begun, all-turn, all-ended}
 use Rattle.model.proofs.Lookup.{drivers-most}
 use Rattle.model.proofs.fields.drivers_ok.Statement.{statement}
 use Rattle.model.proofs.fields.drivers_ok.Tie as tie
@@ -20,7 +20,7 @@ loop-holds : tie.Need-loop-holds Inv-loop μ-loop
 loop-holds c = (zero-le, all-begun _)
 
 driver-at-requires : tie.Need-driver-at-requires Inv-loop μ-loop
-driver-at-requires c κs = let s = c .before .before .before .before in (s .pre .0, below-total _ _ _ (s .pre .1 .drivers) (c .if1 .taken))
+driver-at-requires c κs = let s = c .before .before .before .before in (s .pre .0, rw (s .pre .1 .drivers) at (c .if1 .taken))
 
 driver-ok-requires : tie.Need-driver-ok-requires Inv-loop μ-loop
 driver-ok-requires c κs = tt
@@ -29,7 +29,7 @@ add-n : tie.Need-add-n Inv-loop μ-loop
 add-n c =
     let d = c .before .before in
     let s = d .before .before .before .before in
-    next-fits _ _ _ (s .pre .1 .drivers) (d .if1 .taken) 64 (drivers-most _ (s .pre .0 .totals)) tt
+    turn-next 64 _ _ _ (s .pre .1 .drivers) (drivers-most _ (s .pre .0 .totals)) (d .if1 .taken) tt
 
 loop-less : tie.Need-loop-less Inv-loop μ-loop
 loop-less c = falls _ _ (c .before .before .if1 .taken)
@@ -39,7 +39,7 @@ loop-again c =
     let d = c .before .before in
     let l = d .before .before in
     let s = l .before .before in
-    (next-most _ _ (d .if1 .taken), all-turn _ _ _ _ (l .loop .inv .1) (c .driver-ok .ensures _ (s .pre .1) ∙ ap (driverOk (modelOf (now (s .args .m)))) (c .before .driver-at .ensures)))
+    (turn-most _ _ (d .if1 .taken), all-turn _ _ _ _ (l .loop .inv .1) (c .driver-ok .ensures _ (s .pre .1) ∙ ap (driverOk (modelOf (now (s .args .m)))) (c .before .driver-at .ensures)))
 
 returns : tie.Need-returns Inv-loop μ-loop
 returns c =

@@ -2,7 +2,6 @@ use mathlib.Core.Path.{sym, ap, _∙_}
 use denote.Ref.{now}
 use Rattle.model.specs.Records.{modelOf}
 use Rattle.model.specs.Fields.{inSpan}
-use Rattle.model.proofs.Counting.{below-total}
 use Rattle.model.proofs.FieldLaws.{no-span}
 use Rattle.model.proofs.fields.jump_ok.Statement.{statement}
 use Rattle.model.proofs.fields.jump_ok.Tie as tie
@@ -13,7 +12,7 @@ owner-of-requires c κs = c .before .pre
 in-span-requires : tie.Need-in-span-requires
 in-span-requires c κs =
     let s = c .before .before .before .before in
-    (s .pre .0, below-total _ _ _ (s .pre .1 .processes) (c .if1 .taken))
+    (s .pre .0, rw (s .pre .1 .processes) at (c .if1 .taken))
 
 returns : tie.Need-returns
 returns c =

@@ -6,9 +6,9 @@ use borrow.Author.Count.{falls, below-more}
 use borrow.Author.Tests.{lt-ltb, le-ltb}
 use lib.Dec.{ltb}
 use Rattle.base.proofs.Course.{first-found, first-none}
+use Rattle.base.proofs.Turns.{turn-next, turn-most}
 use Rattle.model.specs.Records.{modelOf}
 use Rattle.model.specs.Fields.{endOf, ownerOf}
-use Rattle.model.proofs.Counting.{below-total, next-fits, next-most}
 use Rattle.model.proofs.Lookup.{processes-most}
 use Rattle.model.proofs.fields.owner_of.Statement.{statement}
 use Rattle.model.proofs.fields.owner_of.Tie as tie
@@ -23,7 +23,7 @@ loop-holds : tie.Need-loop-holds Inv-loop μ-loop
 loop-holds c = (zero-le, λ k h. absurd (not-suc-le-zero h))
 
 end-of-requires : tie.Need-end-of-requires Inv-loop μ-loop
-end-of-requires c κs = let s = c .before .before .before .before in (s .pre .0, below-total _ _ _ (s .pre .1 .processes) (c .if1 .taken))
+end-of-requires c κs = let s = c .before .before .before .before in (s .pre .0, rw (s .pre .1 .processes) at (c .if1 .taken))
 
 returns : tie.Need-returns Inv-loop μ-loop
 unfolding ownerOf
@@ -31,14 +31,14 @@ returns c =
     let d = c .before .before in
     let l = d .before .before in
     sym
-    (first-found _ _ _ (below-total _ _ _ (l .before .before .pre .1 .processes) (d .if1 .taken)) (l .loop .inv .1)
+    (first-found _ _ _ (rw (l .before .before .pre .1 .processes) at (d .if1 .taken)) (l .loop .inv .1)
     (rw (c .before .end-of .ensures) at (lt-ltb _ _ (c .if2 .taken))))
 
 add-p : tie.Need-add-p Inv-loop μ-loop
 add-p c =
     let d = c .before .before in
     let s = d .before .before .before .before in
-    next-fits _ _ _ (s .pre .1 .processes) (d .if1 .taken) 16 (processes-most _ (s .pre .0 .totals)) tt
+    turn-next 16 _ _ _ (s .pre .1 .processes) (processes-most _ (s .pre .0 .totals)) (d .if1 .taken) tt
 
 loop-less : tie.Need-loop-less Inv-loop μ-loop
 loop-less c = falls _ _ (c .before .before .if1 .taken)
@@ -46,7 +46,7 @@ loop-less c = falls _ _ (c .before .before .if1 .taken)
 loop-again : tie.Need-loop-again Inv-loop μ-loop
 loop-again c =
     let d = c .before .before in
-    (next-most _ _ (d .if1 .taken), below-more _ _ (d .before .before .loop .inv .1) (rw (c .before .end-of .ensures) at (le-ltb _ _ (c .if2 .left))))
+    (turn-most _ _ (d .if1 .taken), below-more _ _ (d .before .before .loop .inv .1) (rw (c .before .end-of .ensures) at (le-ltb _ _ (c .if2 .left))))
 
 returns-2 : tie.Need-returns-2 Inv-loop μ-loop
 unfolding ownerOf

@@ -2,9 +2,9 @@ use mathlib.Core.Path.{_≡_}
 use Prim.Native.Nat.{_-_, _≤_, zero-le}
 use borrow.Author.Count.{falls}
 use Rattle.base.specs.Below.{allBelow}
+use Rattle.base.proofs.Turns.{turn-next, turn-most, all-begun, all-turn, all-ended}
 use Rattle.model.specs.Records.{modelOf}
 use Rattle.model.specs.Fields.{processOk}
-use Rattle.model.proofs.Counting.{below-total, next-fits, next-most, all-begun, all-turn, all-ended}
 use Rattle.model.proofs.Lookup.{processes-most}
 use Rattle.model.proofs.fields.processes_ok.Statement.{statement}
 use Rattle.model.proofs.fields.processes_ok.Tie as tie
@@ -19,19 +19,19 @@ loop-holds : tie.Need-loop-holds Inv-loop μ-loop
 loop-holds c = (zero-le, all-begun _)
 
 process-ok-requires : tie.Need-process-ok-requires Inv-loop μ-loop
-process-ok-requires c κs = let s = c .before .before .before .before in (s .pre .0, below-total _ _ _ (s .pre .1 .processes) (c .if1 .taken))
+process-ok-requires c κs = let s = c .before .before .before .before in (s .pre .0, rw (s .pre .1 .processes) at (c .if1 .taken))
 
 add-p : tie.Need-add-p Inv-loop μ-loop
 add-p c =
     let d = c .before in
     let s = d .before .before .before .before in
-    next-fits _ _ _ (s .pre .1 .processes) (d .if1 .taken) 16 (processes-most _ (s .pre .0 .totals)) tt
+    turn-next 16 _ _ _ (s .pre .1 .processes) (processes-most _ (s .pre .0 .totals)) (d .if1 .taken) tt
 
 loop-less : tie.Need-loop-less Inv-loop μ-loop
 loop-less c = falls _ _ (c .before .if1 .taken)
 
 loop-again : tie.Need-loop-again Inv-loop μ-loop
-loop-again c = (next-most _ _ (c .before .if1 .taken), all-turn _ _ _ _ (c .before .before .before .loop .inv .1) (c .process-ok .ensures))
+loop-again c = (turn-most _ _ (c .before .if1 .taken), all-turn _ _ _ _ (c .before .before .before .loop .inv .1) (c .process-ok .ensures))
 
 returns : tie.Need-returns Inv-loop μ-loop
 returns c =

@@ -2,9 +2,9 @@ use mathlib.Core.Path.{_≡_, ap, _∙_}
 use Prim.Native.Nat.{_-_, _≤_, zero-le}
 use borrow.Author.Count.{falls}
 use Rattle.base.specs.Below.{allBelow}
+use Rattle.base.proofs.Turns.{turn-next, turn-most, all-begun, all-turn, all-ended}
 use Rattle.model.specs.Records.{modelOf, signalAt}
 use Rattle.model.specs.Fields.{signalOk}
-use Rattle.model.proofs.Counting.{below-total, next-fits, next-most, all-begun, all-turn, all-ended}
 use Rattle.model.proofs.Lookup.{signals-most}
 use Rattle.model.proofs.fields.signals_ok.Statement.{statement}
 use Rattle.model.proofs.fields.signals_ok.Tie as tie
@@ -19,7 +19,7 @@ loop-holds : tie.Need-loop-holds Inv-loop μ-loop
 loop-holds c = (zero-le, all-begun _)
 
 signal-at-requires : tie.Need-signal-at-requires Inv-loop μ-loop
-signal-at-requires c κs = let s = c .before .before .before .before in (s .pre .0, below-total _ _ _ (s .pre .1 .signals) (c .if1 .taken))
+signal-at-requires c κs = let s = c .before .before .before .before in (s .pre .0, rw (s .pre .1 .signals) at (c .if1 .taken))
 
 signal-ok-requires : tie.Need-signal-ok-requires Inv-loop μ-loop
 signal-ok-requires c κs = tt
@@ -28,7 +28,7 @@ add-n : tie.Need-add-n Inv-loop μ-loop
 add-n c =
     let d = c .before .before in
     let s = d .before .before .before .before in
-    next-fits _ _ _ (s .pre .1 .signals) (d .if1 .taken) 32 (signals-most _ (s .pre .0 .totals)) tt
+    turn-next 32 _ _ _ (s .pre .1 .signals) (signals-most _ (s .pre .0 .totals)) (d .if1 .taken) tt
 
 loop-less : tie.Need-loop-less Inv-loop μ-loop
 loop-less c = falls _ _ (c .before .before .if1 .taken)
@@ -37,7 +37,7 @@ loop-again : tie.Need-loop-again Inv-loop μ-loop
 loop-again c =
     let d = c .before .before in
     let l = d .before .before in
-    (next-most _ _ (d .if1 .taken), all-turn _ _ _ _ (l .loop .inv .1) (c .signal-ok .ensures ∙ ap (signalOk) (c .before .signal-at .ensures)))
+    (turn-most _ _ (d .if1 .taken), all-turn _ _ _ _ (l .loop .inv .1) (c .signal-ok .ensures ∙ ap (signalOk) (c .before .signal-at .ensures)))
 
 returns : tie.Need-returns Inv-loop μ-loop
 returns c =

@@ -3,9 +3,9 @@ use Prim.Native.Nat.{_-_, _≤_, zero-le}
 use borrow.Author.Count.{falls}
 use denote.Ref.{now}
 use Rattle.base.specs.Below.{allBelow}
+use Rattle.base.proofs.Turns.{turn-next, turn-most, all-begun, all-turn, all-ended}
 use Rattle.model.specs.Records.{modelOf, variableAt}
 use Rattle.model.specs.Fields.{variableOk}
-use Rattle.model.proofs.Counting.{below-total, next-fits, next-most, all-begun, all-turn, all-ended}
 use Rattle.model.proofs.Lookup.{variables-most}
 use Rattle.model.proofs.fields.variables_ok.Statement.{statement}
 use Rattle.model.proofs.fields.variables_ok.Tie as tie
@@ -20,7 +20,7 @@ loop-holds : tie.Need-loop-holds Inv-loop μ-loop
 loop-holds c = (zero-le, all-begun _)
 
 variable-at-requires : tie.Need-variable-at-requires Inv-loop μ-loop
-variable-at-requires c κs = let s = c .before .before .before .before in (s .pre .0, below-total _ _ _ (s .pre .1 .variables) (c .if1 .taken))
+variable-at-requires c κs = let s = c .before .before .before .before in (s .pre .0, rw (s .pre .1 .variables) at (c .if1 .taken))
 
 variable-ok-requires : tie.Need-variable-ok-requires Inv-loop μ-loop
 variable-ok-requires c κs = tt
@@ -29,7 +29,7 @@ add-n : tie.Need-add-n Inv-loop μ-loop
 add-n c =
     let d = c .before .before in
     let s = d .before .before .before .before in
-    next-fits _ _ _ (s .pre .1 .variables) (d .if1 .taken) 64 (variables-most _ (s .pre .0 .totals)) tt
+    turn-next 64 _ _ _ (s .pre .1 .variables) (variables-most _ (s .pre .0 .totals)) (d .if1 .taken) tt
 
 loop-less : tie.Need-loop-less Inv-loop μ-loop
 loop-less c = falls _ _ (c .before .before .if1 .taken)
@@ -39,7 +39,7 @@ loop-again c =
     let d = c .before .before in
     let l = d .before .before in
     let s = l .before .before in
-    (next-most _ _ (d .if1 .taken), all-turn _ _ _ _ (l .loop .inv .1) (c .variable-ok .ensures _ (s .pre .1) ∙ ap (variableOk (modelOf (now (s .args .m)))) (c .before .variable-at .ensures)))
+    (turn-most _ _ (d .if1 .taken), all-turn _ _ _ _ (l .loop .inv .1) (c .variable-ok .ensures _ (s .pre .1) ∙ ap (variableOk (modelOf (now (s .args .m)))) (c .before .variable-at .ensures)))
 
 returns : tie.Need-returns Inv-loop μ-loop
 returns c =

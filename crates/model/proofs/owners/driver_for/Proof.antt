@@ -4,9 +4,9 @@ use Prim.Native.Nat.{ℕ, _-_, _≤_, _<_, zero-le}
 use native.Mathlib.Nat.{le-antisymm, not-suc-le-zero}
 use borrow.Author.Count.{falls, below-more}
 use Rattle.base.proofs.Course.{first-found, first-none}
+use Rattle.base.proofs.Turns.{turn-next, turn-most}
 use Rattle.model.specs.Records.{modelOf}
 use Rattle.model.specs.Owners.{driverFor}
-use Rattle.model.proofs.Counting.{below-total, next-fits, next-most}
 use Rattle.model.proofs.Drivers.{isFor}
 use Rattle.model.proofs.Lookup.{drivers-most}
 use Rattle.model.proofs.owners.driver_for.Statement.{statement}
@@ -22,7 +22,7 @@ loop-holds : tie.Need-loop-holds Inv-loop μ-loop
 loop-holds c = (zero-le, λ k h. absurd (not-suc-le-zero h))
 
 driver-at-requires : tie.Need-driver-at-requires Inv-loop μ-loop
-driver-at-requires c κs = let s = c .before .before .before .before in (s .pre .0, below-total _ _ _ (s .pre .1 .drivers) (c .if1 .taken))
+driver-at-requires c κs = let s = c .before .before .before .before in (s .pre .0, rw (s .pre .1 .drivers) at (c .if1 .taken))
 
 returns : tie.Need-returns Inv-loop μ-loop
 unfolding driverFor
@@ -30,14 +30,14 @@ returns c =
     let d = c .before .before .before in
     let l = d .before .before .before in
     sym
-    (first-found _ _ _ (below-total _ _ _ (l .before .before .pre .1 .drivers) (d .before .if1 .taken)) (l .loop .inv .1)
+    (first-found _ _ _ (rw (l .before .before .pre .1 .drivers) at (d .before .if1 .taken)) (l .loop .inv .1)
     (rw (d .driver-at .ensures) at (c .if2 .taken)))
 
 add-i : tie.Need-add-i Inv-loop μ-loop
 add-i c =
     let d = c .before .before .before .before in
     let s = d .before .before .before .before in
-    next-fits _ _ _ (s .pre .1 .drivers) (d .if1 .taken) 64 (drivers-most _ (s .pre .0 .totals)) tt
+    turn-next 64 _ _ _ (s .pre .1 .drivers) (drivers-most _ (s .pre .0 .totals)) (d .if1 .taken) tt
 
 loop-less : tie.Need-loop-less Inv-loop μ-loop
 loop-less c = falls _ _ (c .before .before .before .before .if1 .taken)
@@ -45,7 +45,7 @@ loop-less c = falls _ _ (c .before .before .before .before .if1 .taken)
 loop-again : tie.Need-loop-again Inv-loop μ-loop
 loop-again c =
     let d = c .before .before .before in
-    (next-most _ _ (d .before .if1 .taken), below-more _ _ (d .before .before .before .loop .inv .1) (rw (d .driver-at .ensures) at (c .if2 .left)))
+    (turn-most _ _ (d .before .if1 .taken), below-more _ _ (d .before .before .before .loop .inv .1) (rw (d .driver-at .ensures) at (c .if2 .left)))
 
 returns-2 : tie.Need-returns-2 Inv-loop μ-loop
 unfolding driverFor

@@ -5,9 +5,9 @@ use lib.Dec.{eqb}
 use Rattle.base.specs.Below.{sumBelow}
 use Rattle.base.specs.Cases.{pick}
 use Rattle.base.proofs.Below.{sum-none}
+use Rattle.base.proofs.Turns.{turn-next, turn-most, sum-turn, sum-ended, count-fits, count-most}
 use Rattle.model.specs.Records.{modelOf, driverAt}
 use Rattle.model.specs.Owners.{driversOf}
-use Rattle.model.proofs.Counting.{below-total, next-fits, next-most, sum-turn, sum-ended, count-fits, count-most}
 use Rattle.model.proofs.Lookup.{drivers-most}
 use Rattle.model.proofs.owners.drivers_of.Statement.{statement}
 use Rattle.model.proofs.owners.drivers_of.Tie as tie
@@ -23,7 +23,7 @@ loop-holds : tie.Need-loop-holds Inv-loop μ-loop
 loop-holds c = (zero-le, zero-le, sym (sum-none _))
 
 driver-at-requires : tie.Need-driver-at-requires Inv-loop μ-loop
-driver-at-requires c κs = let s = c .before .before .before .before in (s .pre .0, below-total _ _ _ (s .pre .1 .drivers) (c .if1 .taken))
+driver-at-requires c κs = let s = c .before .before .before .before in (s .pre .0, rw (s .pre .1 .drivers) at (c .if1 .taken))
 
 choose-requires : tie.Need-choose-requires Inv-loop μ-loop
 choose-requires c κs = tt
@@ -39,7 +39,7 @@ add-i : tie.Need-add-i Inv-loop μ-loop
 add-i c =
     let d = c .before .before .before in
     let p = d .before .before .before .before .pre in
-    next-fits _ _ _ (p .1 .drivers) (d .if1 .taken) 64 (drivers-most _ (p .0 .totals)) tt
+    turn-next 64 _ _ _ (p .1 .drivers) (drivers-most _ (p .0 .totals)) (d .if1 .taken) tt
 
 loop-less : tie.Need-loop-less Inv-loop μ-loop
 loop-less c = falls _ _ (c .before .before .before .if1 .taken)
@@ -49,7 +49,7 @@ loop-again c =
     let d = c .before .before .before in
     let l = d .before .before in
     let s = l .before .before in (
-      next-most _ _ (d .if1 .taken),
+      turn-most _ _ (d .if1 .taken),
       count-most _ _ _ _ (s .pre .1 .drivers) (d .if1 .taken) (l .loop .inv .1) (eqb (c .before .before .driver-at .result .signal) (s .args .s)) _ (c .choose .ensures),
       sum-turn _ _ _ _ (l .loop .inv .2) (c .choose .ensures ∙ ap (λ e. pick (eqb (e .signal) (s .args .s)) 1 0) (c .before .before .driver-at .ensures)),
     )

@@ -2,9 +2,9 @@ use mathlib.Core.Path.{_≡_, ap, _∙_}
 use Prim.Native.Nat.{_+_, _-_, _≤_, zero-le}
 use borrow.Author.Count.{falls}
 use Rattle.base.specs.Below.{allBelow}
+use Rattle.base.proofs.Turns.{first-below, pair-most, pair-fits, pair-ended, all-begun, all-turn}
 use Rattle.model.specs.Records.{modelOf, driverAt}
 use Rattle.model.specs.Owners.{pairBelow, driversRise}
-use Rattle.model.proofs.Counting.{below-total, first-below, pair-most, pair-fits, pair-ended, all-begun, all-turn}
 use Rattle.model.proofs.Lookup.{drivers-most}
 use Rattle.model.proofs.owners.drivers_rise.Statement.{statement}
 use Rattle.model.proofs.owners.drivers_rise.Tie as tie
@@ -25,7 +25,7 @@ add-if1 c =
     pair-fits _ _ _ (s .pre .1 .drivers) (c .loop .inv .0) 64 (drivers-most _ (s .pre .0 .totals)) tt
 
 driver-at-requires : tie.Need-driver-at-requires Inv-loop μ-loop
-driver-at-requires c κs = let s = c .before .before .before .before in (s .pre .0, below-total _ _ _ (s .pre .1 .drivers) (first-below _ _ (c .if1 .taken)))
+driver-at-requires c κs = let s = c .before .before .before .before in (s .pre .0, rw (s .pre .1 .drivers) at (first-below _ _ (c .if1 .taken)))
 
 add-driver-at : tie.Need-add-driver-at Inv-loop μ-loop
 add-driver-at c =
@@ -34,7 +34,7 @@ add-driver-at c =
     pair-fits _ _ _ (s .pre .1 .drivers) (l .loop .inv .0) 64 (drivers-most _ (s .pre .0 .totals)) tt
 
 driver-at-requires-2 : tie.Need-driver-at-requires-2 Inv-loop μ-loop
-driver-at-requires-2 c κs = let s = c .before .before .before .before .before in (s .pre .0, below-total _ _ _ (s .pre .1 .drivers) (c .before .if1 .taken))
+driver-at-requires-2 c κs = let s = c .before .before .before .before .before in (s .pre .0, rw (s .pre .1 .drivers) at (c .before .if1 .taken))
 
 pair-below-requires : tie.Need-pair-below-requires Inv-loop μ-loop
 pair-below-requires c κs = tt

@@ -6,9 +6,9 @@ use native.Mathlib.Nat.{le-antisymm, not-suc-le-zero}
 use borrow.Author.Count.{falls}
 use denote.Ref.{now}
 use lib.ListN.{length, length-set}
+use Rattle.base.proofs.Turns.{turn-next, turn-most}
 use Rattle.model.specs.Records.{modelOf}
 use Rattle.model.specs.Index.{TypesIn, DriversBelow}
-use Rattle.model.proofs.Counting.{below-total, next-fits, next-most}
 use Rattle.model.proofs.Lookup.{nodes-most, statements-most}
 use Rattle.model.proofs.Entries.{entry-place, entry-fits, entry-scaled, value-fits, past, types-before, starts-set, types-kept, drivers-next}
 use Rattle.model.proofs.owners.fill_drivers.Statement.{statement}
@@ -25,7 +25,7 @@ loop-holds c = (zero-le, c .before .pre .0, λ k h. absurd (not-suc-le-zero h))
 
 -- the statement is there, and below the limit
 there : (c : tie.Then1 Inv-loop μ-loop) → c .before .before .loop .n < length (modelOf (now (c .before .before .before .before .args .m)) .statements)
-there c = below-total _ _ _ (c .before .before .before .before .pre .1 .statements) (c .if1 .taken)
+there c = rw (c .before .before .before .before .pre .1 .statements) at (c .if1 .taken)
 
 most : (c : tie.Then1 Inv-loop μ-loop) → length (modelOf (now (c .before .before .before .before .args .m)) .statements) ≤ 200
 most c = statements-most _ (c .before .before .before .before .pre .0 .starts .totals)
@@ -48,7 +48,7 @@ element-write-index : tie.Need-element-write-index Inv-loop μ-loop
 element-write-index c = entry-place 1176 200 tt _ _ (there (c .before .before)) (most (c .before .before))
 
 add-n : tie.Need-add-n Inv-loop μ-loop
-add-n c = let d = c .before .before in next-fits _ _ _ (d .before .before .before .before .pre .1 .statements) (d .if1 .taken) 200 (most d) tt
+add-n c = let d = c .before .before in turn-next 200 _ _ _ (d .before .before .before .before .pre .1 .statements) (most d) (d .if1 .taken) tt
 
 loop-less : tie.Need-loop-less Inv-loop μ-loop
 loop-less c = falls _ _ (c .before .before .if1 .taken)
@@ -62,7 +62,7 @@ loop-again c =
     let k = c .statement-driver .result in
     let types = h .inv .1 in
     let place = entry-place 1176 200 tt _ _ (there d) (most d) in (
-      next-most _ _ (d .if1 .taken),
+      turn-most _ _ (d .if1 .taken),
       record {
         size = simp length-set (types .size);
         starts = starts-set _ (h .index) i k (past 1176 tt (h .n)) (types .starts);

@@ -2,9 +2,9 @@ use mathlib.Core.Path.{_≡_}
 use Prim.Native.Nat.{_-_, _≤_, zero-le}
 use borrow.Author.Count.{falls}
 use Rattle.base.specs.Below.{allBelow}
+use Rattle.base.proofs.Turns.{turn-next, turn-most, all-begun, all-turn, all-ended}
 use Rattle.model.specs.Records.{modelOf}
 use Rattle.model.specs.Owners.{singleOk}
-use Rattle.model.proofs.Counting.{below-total, next-fits, next-most, all-begun, all-turn, all-ended}
 use Rattle.model.proofs.Lookup.{signals-most}
 use Rattle.model.proofs.owners.singles_ok.Statement.{statement}
 use Rattle.model.proofs.owners.singles_ok.Tie as tie
@@ -19,19 +19,19 @@ loop-holds : tie.Need-loop-holds Inv-loop μ-loop
 loop-holds c = (zero-le, all-begun _)
 
 single-ok-requires : tie.Need-single-ok-requires Inv-loop μ-loop
-single-ok-requires c κs = let p = c .before .before .before .before .pre in (p .0, (p .1, below-total _ _ _ (p .1 .signals) (c .if1 .taken)))
+single-ok-requires c κs = let p = c .before .before .before .before .pre in (p .0, (p .1, rw (p .1 .signals) at (c .if1 .taken)))
 
 add-s : tie.Need-add-s Inv-loop μ-loop
 add-s c =
     let d = c .before in
     let p = d .before .before .before .before .pre in
-    next-fits _ _ _ (p .1 .signals) (d .if1 .taken) 32 (signals-most _ (p .0 .totals)) tt
+    turn-next 32 _ _ _ (p .1 .signals) (signals-most _ (p .0 .totals)) (d .if1 .taken) tt
 
 loop-less : tie.Need-loop-less Inv-loop μ-loop
 loop-less c = falls _ _ (c .before .if1 .taken)
 
 loop-again : tie.Need-loop-again Inv-loop μ-loop
-loop-again c = (next-most _ _ (c .before .if1 .taken), all-turn _ _ _ _ (c .before .before .before .loop .inv .1) (c .single-ok .ensures))
+loop-again c = (turn-most _ _ (c .before .if1 .taken), all-turn _ _ _ _ (c .before .before .before .loop .inv .1) (c .single-ok .ensures))
 
 returns : tie.Need-returns Inv-loop μ-loop
 returns c =

@@ -2,10 +2,10 @@ use mathlib.Core.Path.{_≡_}
 use Prim.Native.Nat.{_-_, _≤_, zero-le}
 use borrow.Author.Count.{falls}
 use Rattle.base.specs.Below.{allBelow}
+use Rattle.base.proofs.Turns.{turn-next, turn-most, all-begun, all-turn, all-ended}
 use Rattle.model.specs.Records.{modelOf, statementAt}
 use Rattle.model.specs.Fields.{ownerOf}
 use Rattle.model.specs.Owners.{statementOwned}
-use Rattle.model.proofs.Counting.{below-total, next-fits, next-most, all-begun, all-turn, all-ended}
 use Rattle.model.proofs.Lookup.{statements-most}
 use Rattle.model.proofs.owners.statements_owned.Statement.{statement}
 use Rattle.model.proofs.owners.statements_owned.Tie as tie
@@ -23,19 +23,19 @@ loop-holds c = (zero-le, all-begun _)
 statement-owned-requires : tie.Need-statement-owned-requires Inv-loop μ-loop
 statement-owned-requires c κs =
     let p = c .before .before .before .before .pre in
-    (p .0, (p .1 .0, (p .1 .1 .0, (p .1 .1 .1, below-total _ _ _ (p .1 .0 .statements) (c .if1 .taken)))))
+    (p .0, (p .1 .0, (p .1 .1 .0, (p .1 .1 .1, rw (p .1 .0 .statements) at (c .if1 .taken)))))
 
 add-n : tie.Need-add-n Inv-loop μ-loop
 add-n c =
     let d = c .before in
     let p = d .before .before .before .before .pre in
-    next-fits _ _ _ (p .1 .0 .statements) (d .if1 .taken) 200 (statements-most _ (p .0 .types .starts .totals)) tt
+    turn-next 200 _ _ _ (p .1 .0 .statements) (statements-most _ (p .0 .types .starts .totals)) (d .if1 .taken) tt
 
 loop-less : tie.Need-loop-less Inv-loop μ-loop
 loop-less c = falls _ _ (c .before .if1 .taken)
 
 loop-again : tie.Need-loop-again Inv-loop μ-loop
-loop-again c = (next-most _ _ (c .before .if1 .taken), all-turn _ _ _ _ (c .before .before .before .loop .inv .1) (c .statement-owned .ensures))
+loop-again c = (turn-most _ _ (c .before .if1 .taken), all-turn _ _ _ _ (c .before .before .before .loop .inv .1) (c .statement-owned .ensures))
 
 returns : tie.Need-returns Inv-loop μ-loop
 returns c =

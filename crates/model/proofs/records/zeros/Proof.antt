@@ -4,8 +4,8 @@ use native.Mathlib.Nat.{le-antisymm}
 use borrow.Author.Count.{falls}
 use borrow.Author.Needs.{needs}
 use lib.Dec.{eqb}
+use Rattle.base.proofs.Turns.{turn-most, all-begun, all-turn}
 use Rattle.model.specs.Records.{zerosAt}
-use Rattle.model.proofs.Counting.{next-most, all-begun, all-turn}
 use Rattle.model.proofs.records.zeros.Statement.{statement}
 use Rattle.model.proofs.records.zeros.Tie as tie
 
@@ -33,7 +33,7 @@ loop-less c = falls _ _ (c .before .loop-test .taken)
 
 loop-again : tie.Need-loop-again Inv-loop μ-loop
 unfolding zerosAt
-loop-again c = (next-most _ _ (c .before .loop-test .taken), all-turn _ _ _ _ (c .before .before .loop .inv .1) (ap (λ x. eqb x 0) (c .byte .ensures .value)))
+loop-again c = (turn-most _ _ (c .before .loop-test .taken), all-turn _ _ _ _ (c .before .before .loop .inv .1) (ap (λ x. eqb x 0) (c .byte .ensures .value)))
 
 returns : tie.Need-returns Inv-loop μ-loop
 returns c = c .before .loop .inv .1 ∙ ap (zerosAt _ _) (le-antisymm (c .before .loop .inv .0) (c .loop-test .left))

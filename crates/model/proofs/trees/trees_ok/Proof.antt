@@ -6,9 +6,9 @@ use borrow.Author.Count.{falls}
 use borrow.Author.Tests.{not-true, not-false}
 use Rattle.base.specs.Below.{allBelow}
 use Rattle.base.proofs.Below.{all-none, all-at, all-more, all-fails}
+use Rattle.base.proofs.Turns.{turn-next, turn-most}
 use Rattle.model.specs.Records.{modelOf}
 use Rattle.model.specs.Trees.{treeOk, treesOk}
-use Rattle.model.proofs.Counting.{below-total, next-fits, next-most}
 use Rattle.model.proofs.Lookup.{nodes-most}
 use Rattle.model.proofs.trees.trees_ok.Statement.{statement}
 use Rattle.model.proofs.trees.trees_ok.Tie as tie
@@ -26,19 +26,19 @@ tree-ok-requires : tie.Need-tree-ok-requires Inv-loop μ-loop
 tree-ok-requires c κs =
     let l = c .before .before in
     let s = l .before .before in
-    (s .pre .0, (below-total _ _ _ (s .pre .1 .nodes) (c .if1 .taken), λ k h. all-at _ _ k h (l .loop .inv .1)))
+    (s .pre .0, (rw (s .pre .1 .nodes) at (c .if1 .taken), λ k h. all-at _ _ k h (l .loop .inv .1)))
 
 returns : tie.Need-returns Inv-loop μ-loop
 unfolding treesOk
 returns c =
     let d = c .before .before in
-    sym (all-fails _ _ _ (below-total _ _ _ (d .before .before .before .before .pre .1 .nodes) (d .if1 .taken)) (sym (c .before .tree-ok .ensures) ∙ not-true _ (c .if2 .taken)))
+    sym (all-fails _ _ _ (rw (d .before .before .before .before .pre .1 .nodes) at (d .if1 .taken)) (sym (c .before .tree-ok .ensures) ∙ not-true _ (c .if2 .taken)))
 
 add-n : tie.Need-add-n Inv-loop μ-loop
 add-n c =
     let d = c .before .before in
     let s = d .before .before .before .before in
-    next-fits _ _ _ (s .pre .1 .nodes) (d .if1 .taken) 400 (nodes-most _ (s .pre .0 .totals)) tt
+    turn-next 400 _ _ _ (s .pre .1 .nodes) (nodes-most _ (s .pre .0 .totals)) (d .if1 .taken) tt
 
 loop-less : tie.Need-loop-less Inv-loop μ-loop
 loop-less c = falls _ _ (c .before .before .if1 .taken)
@@ -46,7 +46,7 @@ loop-less c = falls _ _ (c .before .before .if1 .taken)
 loop-again : tie.Need-loop-again Inv-loop μ-loop
 loop-again c =
     let d = c .before .before in
-    (next-most _ _ (d .if1 .taken), all-more _ _ (d .before .before .loop .inv .1) (sym (c .before .tree-ok .ensures) ∙ not-false _ (c .if2 .left)))
+    (turn-most _ _ (d .if1 .taken), all-more _ _ (d .before .before .loop .inv .1) (sym (c .before .tree-ok .ensures) ∙ not-false _ (c .if2 .left)))
 
 returns-2 : tie.Need-returns-2 Inv-loop μ-loop
 unfolding treesOk

@@ -8,10 +8,10 @@ use denote.Ref.{now}
 use lib.Dec.{leb}
 use lib.ListN.{length, length-set}
 use Rattle.base.specs.Below.{allBelow}
+use Rattle.base.proofs.Turns.{turn-next, turn-most, all-begun, all-turn}
 use Rattle.model.specs.Records.{modelOf}
 use Rattle.model.specs.Trees.{typeOf}
 use Rattle.model.specs.Index.{Starts, TypesBelow}
-use Rattle.model.proofs.Counting.{below-total, next-fits, next-most, all-begun, all-turn}
 use Rattle.model.proofs.Lookup.{nodes-most}
 use Rattle.model.proofs.Entries.{entry-place, entry-fits, entry-scaled, value-fits, past, starts-set, types-next}
 use Rattle.model.proofs.types.fill_types.Statement.{statement}
@@ -31,7 +31,7 @@ loop-holds c =
 
 -- the node is there, and below the limit
 there : (c : tie.Then1 Inv-loop μ-loop) → c .before .before .loop .n < length (modelOf (now (c .before .before .before .before .args .m)) .nodes)
-there c = below-total _ _ _ (c .before .before .before .before .pre .1 .1 .0 .nodes) (c .if1 .taken)
+there c = rw (c .before .before .before .before .pre .1 .1 .0 .nodes) at (c .if1 .taken)
 
 most : (c : tie.Then1 Inv-loop μ-loop) → length (modelOf (now (c .before .before .before .before .args .m)) .nodes) ≤ 400
 most c = nodes-most _ (c .before .before .before .before .pre .1 .0 .totals)
@@ -55,7 +55,7 @@ element-write-index : tie.Need-element-write-index Inv-loop μ-loop
 element-write-index c = entry-place 776 400 tt _ _ (there (c .before .before)) (most (c .before .before))
 
 add-n : tie.Need-add-n Inv-loop μ-loop
-add-n c = let d = c .before .before in next-fits _ _ _ (d .before .before .before .before .pre .1 .1 .0 .nodes) (d .if1 .taken) 400 (most d) tt
+add-n c = let d = c .before .before in turn-next 400 _ _ _ (d .before .before .before .before .pre .1 .1 .0 .nodes) (most d) (d .if1 .taken) tt
 
 loop-less : tie.Need-loop-less Inv-loop μ-loop
 loop-less c = falls _ _ (c .before .before .if1 .taken)
@@ -66,7 +66,7 @@ loop-again c =
     let h = d .before .before .loop in
     let e = c .next-type .ensures .0 in
     let place = entry-place 776 400 tt _ _ (there d) (most d) in (
-      next-most _ _ (d .if1 .taken),
+      turn-most _ _ (d .if1 .taken),
       simp length-set (h .inv .1),
       starts-set _ (h .index) (776 + h .n) (c .next-type .result) (past 776 tt (h .n)) (h .inv .2),
       types-next _ (h .index) (h .n) (c .next-type .result) (rw (h .inv .1) place) e (h .inv .3),

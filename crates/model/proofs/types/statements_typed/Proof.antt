@@ -2,9 +2,9 @@ use mathlib.Core.Path.{_≡_}
 use Prim.Native.Nat.{_-_, _≤_, zero-le}
 use borrow.Author.Count.{falls}
 use Rattle.base.specs.Below.{allBelow}
+use Rattle.base.proofs.Turns.{turn-next, turn-most, all-begun, all-turn, all-ended}
 use Rattle.model.specs.Records.{modelOf, statementAt}
 use Rattle.model.specs.Trees.{statementTyped}
-use Rattle.model.proofs.Counting.{below-total, next-fits, next-most, all-begun, all-turn, all-ended}
 use Rattle.model.proofs.Lookup.{statements-most}
 use Rattle.model.proofs.types.statements_typed.Statement.{statement}
 use Rattle.model.proofs.types.statements_typed.Tie as tie
@@ -21,19 +21,19 @@ loop-holds c = (zero-le, all-begun _)
 statement-typed-requires : tie.Need-statement-typed-requires Inv-loop μ-loop
 statement-typed-requires c κs =
     let p = c .before .before .before .before .pre in
-    (p .0, (p .1 .1, below-total _ _ _ (p .1 .0 .statements) (c .if1 .taken)))
+    (p .0, (p .1 .1, rw (p .1 .0 .statements) at (c .if1 .taken)))
 
 add-n : tie.Need-add-n Inv-loop μ-loop
 add-n c =
     let d = c .before in
     let p = d .before .before .before .before .pre in
-    next-fits _ _ _ (p .1 .0 .statements) (d .if1 .taken) 200 (statements-most _ (p .0 .starts .totals)) tt
+    turn-next 200 _ _ _ (p .1 .0 .statements) (statements-most _ (p .0 .starts .totals)) (d .if1 .taken) tt
 
 loop-less : tie.Need-loop-less Inv-loop μ-loop
 loop-less c = falls _ _ (c .before .if1 .taken)
 
 loop-again : tie.Need-loop-again Inv-loop μ-loop
-loop-again c = (next-most _ _ (c .before .if1 .taken), all-turn _ _ _ _ (c .before .before .before .loop .inv .1) (c .statement-typed .ensures))
+loop-again c = (turn-most _ _ (c .before .if1 .taken), all-turn _ _ _ _ (c .before .before .before .loop .inv .1) (c .statement-typed .ensures))
 
 returns : tie.Need-returns Inv-loop μ-loop
 returns c =

@@ -1,30 +1,37 @@
--- The laws of a loop that counts n up to a total and joins a test of each number. Assumes nothing.
+-- Loops that count up to a total: what is known in a turn, and the tests and sums that they join turn by turn. Assumes nothing.
 use mathlib.Core.Path.{_≡_, sym, ap, _∙_}
 use mathlib.Core.Bool.{Bool, true, false, _&&_}
-use Prim.Native.Nat.{ℕ, _+_, _-_, _≤_, _<_}
+use Prim.Native.Nat.{ℕ, _+_, _-_, _*_, _≤_, _<_}
 use native.Mathlib.Nat.{le-antisymm}
 use native.Mathlib.Omega.{arith}
 use lib.Dec.{T, leb, lit≤}
 use mir.Syntax.{w64}
 use mir.Val.{Fits}
 use Rattle.base.specs.Below.{allBelow, sumBelow}
 use Rattle.base.specs.Cases.{pick}
 use Rattle.base.proofs.Below.{all-none, all-next, sum-more}
 
-one : (x : Bool) → pick x 1 0 ≤ 1
-one true = omega arith
-one false = omega arith
+-- turn i of n, a total that is the length k of a list, which is at most b
+module _ (b i n k : ℕ) (e : n ≡ k) (l : k ≤ b) (h : i < n) where
+  pub turn-there : i < k
+  turn-there = rw e at h
 
--- n is below a total t, which is the length k of the model's list, at most b
-module _ (n t k : ℕ) (e : t ≡ k) (h : n < t) where
-  pub below-total : n < k
-  below-total = rw e at h
+  -- an array of b entries has room for it
+  pub turn-room : i < b
+  turn-room = omega arith
 
-  pub next-fits : (b : ℕ) → k ≤ b → T (leb b 65536) → Fits w64 (n + 1)
-  next-fits b l s = let g : b ≤ 65536 = lit≤ s in omega arith
+  module _ (s : T (leb b 65536)) where
+    pub turn-fours : Fits w64 (i * 4)
+    turn-fours = let g : b ≤ 65536 = lit≤ s in omega arith
 
-pub next-most : (n t : ℕ) → n < t → n + 1 ≤ t
-next-most n t h = omega arith
+    pub turn-eights : Fits w64 (i * 8)
+    turn-eights = let g : b ≤ 65536 = lit≤ s in omega arith
+
+    pub turn-next : Fits w64 (i + 1)
+    turn-next = let g : b ≤ 65536 = lit≤ s in omega arith
+
+pub turn-most : (i n : ℕ) → i < n → i + 1 ≤ n
+turn-most i n h = omega arith
 
 -- a loop over pairs: i + 1 is below the total too
 module _ (i t : ℕ) (h : i + 1 < t) where
@@ -57,6 +64,10 @@ module _ (f : ℕ → ℕ) where
 
   pub sum-ended : (n t k s : ℕ) → s ≡ sumBelow f n → n ≤ t → t ≤ n → t ≡ k → s ≡ sumBelow f k
   sum-ended n t k s p h l e = p ∙ ap (sumBelow f) (le-antisymm h l ∙ e)
+
+one : (x : Bool) → pick x 1 0 ≤ 1
+one true = omega arith
+one false = omega arith
 
 -- a count of those that pass: at most one a turn
 module _ (n i t k : ℕ) (e : t ≡ k) (h : i < t) (l : n ≤ i) where
