@@ -4,7 +4,7 @@
 use mathlib.Core.Path.{_≡_, refl, sym, _∙_, ap}
 use mathlib.Core.Bool.{true, true≢false}
 use Prim.Native.Nat.{ℕ, zero, suc, _+_, _-_, _≤_}
-use native.Mathlib.Nat.{zero-add, suc-add, sub-zero, suc-sub-suc}
+use native.Mathlib.Nat.{zero-add, suc-add}
 use native.Mathlib.Decide.{ℕ-discrete}
 use native.Mathlib.Omega.{arith}
 use Rattle.determinacy.specs.Kernel.{Kernel, Laws, NormalForm}
@@ -95,12 +95,3 @@ module _ (K : Kernel) where
           let both = behind-run s q (run xs) (rw (← same) at (run ys)) in
           record { at-most = both .0; still-to-do = both .1 };
     }
-
-  -- `Exactly` in other words: picks that are done are at most n, and what is left is exact again. So n of them end in e, and
-  -- after fewer some process is ready.
-  pub exactly-after : (n : ℕ) {k : ℕ} {c d : Conf} (e : Conf) → Exactly K n c e → Run c 0 k d → (k ≤ n) × Exactly K (n - k) d e
-  exactly-after n e x stay = (omega arith, rw sub-zero x)
-  exactly-after zero e x (by-pick p r t) = absurd (not-ready (x .0) r)
-  exactly-after (suc n) e x (by-pick p r t) =
-      let (at-most, rest) = exactly-after n e (x .1 p r) t in
-      (omega arith, rw suc-sub-suc rest)
