@@ -3,7 +3,7 @@ use mathlib.Core.Path.{_≡_, _∙_}
 use mathlib.Core.List.{List}
 use Prim.Native.Nat.{ℕ, _+_, _≤_, _<_}
 use native.Mathlib.Omega.{arith}
-use borrow.Author.Count.{below-more}
+use borrow.Author.Count.{below-none, below-more}
 use lib.ListN.{length, getD, set, length-set}
 use lib.Seq.{getD-set-same, getD-set-other}
 use Rattle.cycle.specs.Arrays.{Has}
@@ -15,7 +15,7 @@ pub record Filled (f : ℕ → ℕ) (k i : ℕ) (xs : List ℕ) : Type 0 where
 
 module _ (f : ℕ → ℕ) (k : ℕ) where
   pub filled-none : (xs : List ℕ) → length xs ≡ k → Filled f k 0 xs
-  filled-none xs h = record { long = h; has = record { at = λ i l. absurd (omega arith) } }
+  filled-none xs h = record { long = h; has = record { at = below-none _ } }
 
   -- one turn more
   pub filled-more : (xs : List ℕ) (i v : ℕ) → i < k → v ≡ f i → Filled f k i xs → Filled f k (i + 1) (set xs i v)

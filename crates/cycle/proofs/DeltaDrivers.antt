@@ -8,7 +8,7 @@ use native.Mathlib.Omega.{arith}
 use lib.Dec.{eqb}
 use lib.ListN.{length, getD, set, drop, length-set}
 use lib.Seq.{getD-set-same, getD-set-other}
-use borrow.Author.Count.{below-more}
+use borrow.Author.Count.{below-none, below-more}
 use borrow.Author.Tests.{eq-eqb, ne-eqb}
 use Rattle.model.specs.Records.{Model}
 use Rattle.cycle.specs.Configuration.{Transaction, DriverState}
@@ -105,7 +105,7 @@ pub record Taking (c : Config) (k : ℕ) (r : Config) : Type 0 where
 module _ (c : Config) where
   pub taking-none : length (c .signals) ≡ 1024 → length (c .currents) ≡ 64 → length (c .due) ≡ 64 → length (c .drivers) ≡ 64 → Taking c 0 c
   taking-none s u d r =
-      record { rest = refl; signals = s; currents = u; dues = d; drivers = r; done = λ j h. absurd (omega arith); left = λ j h. refl }
+      record { rest = refl; signals = s; currents = u; dues = d; drivers = r; done = below-none _; left = λ j h. refl }
 
   module _ (k : ℕ) (r : Config) (t : Taking c k r) where
     pub taking-same : TakenSlot (c .time) (slotOf r k) (slotOf r k) → Taking c (k + 1) r

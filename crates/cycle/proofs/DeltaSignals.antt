@@ -9,6 +9,7 @@ use native.Mathlib.Omega.{arith}
 use lib.Dec.{eqb}
 use lib.ListN.{length, getD, set}
 use lib.Seq.{getD-set-same, getD-set-other}
+use borrow.Author.Count.{below-none, below-more}
 use borrow.Author.Tests.{eq-eqb, ne-eqb}
 use Rattle.base.proofs.Below.{any-start, any-next}
 use Rattle.model.specs.Records.{Model, driverAt}
@@ -47,7 +48,7 @@ module _ (M : Model) (currents : List ℕ) (nd active : ℕ) (old : List ℕ) wh
   pub resolved-none : ResolvedTo M currents nd active old 0 old 0
   resolved-none =
       record {
-        current = λ s h. absurd (omega arith);
+        current = below-none _;
         other = λ s k h g. refl;
         changed = record { at = λ s h. in-none s ∙ rw (eq-eqb (getD old (32 * s) 0) (getD old (32 * s) 0) refl) };
       }
@@ -60,14 +61,12 @@ module _ (M : Model) (currents : List ℕ) (nd active : ℕ) (old : List ℕ) wh
     -- it is not active
     pub resolved-same : inSet active j ≡ false → ResolvedTo M currents nd active old (j + 1) new changes
     unfolding currentAfter
-    resolved-same e = record { current = current; other = λ s k h g. r .other s k h (λ q. omega (arith, g q)); changed = r .changed }
-      where
-        current : (s : ℕ) → s < j + 1 → getD new (32 * s) 0 ≡ currentAfter M currents nd active old s
-        current s h =
-            elim (ℕ-discrete s j) [
-              | yes q ↦ rw (q, e) before-turn
-              | no q ↦ r .current s (omega (arith, q))
-            ]
+    resolved-same e =
+        record {
+          current = below-more _ _ (r .current) (rw e before-turn);
+          other = λ s k h g. r .other s k h (λ q. omega (arith, g q));
+          changed = r .changed;
+        }
 
     -- it is active, and v the resolution of its drivers' values, o being its old value
     module _ (o v changes' : ℕ) (a : inSet active j ≡ true) (l : 32 * j < length new) (e : o ≡ getD new (32 * j) 0)
@@ -84,11 +83,7 @@ module _ (M : Model) (currents : List ℕ) (nd active : ℕ) (old : List ℕ) wh
 
         current' : (s : ℕ) → s < j + 1 → getD new' (32 * s) 0 ≡ currentAfter M currents nd active old s
         unfolding currentAfter
-        current' s h =
-            elim (ℕ-discrete s j) [
-              | yes q ↦ rw (q, a, here, ← before-turn, ← e) is
-              | no q ↦ elsewhere (32 * s) (λ p. q (omega arith)) ∙ r .current s (omega (arith, q))
-            ]
+        current' = below-more _ _ (λ s h. elsewhere (32 * s) (λ p. omega arith) ∙ r .current s h) (rw (a, here, ← before-turn, ← e) is)
 
         other' : (s k : ℕ) → k < 32 → (k ≡ 0 → j + 1 ≤ s) → getD new' (32 * s + k) 0 ≡ getD old (32 * s + k) 0
         other' s k h g =

@@ -9,7 +9,7 @@ use native.Mathlib.Omega.{arith}
 use lib.Dec.{eqb, ltb}
 use lib.ListN.{length, getD, set, length-set}
 use lib.Seq.{getD-set-same, getD-set-other}
-use borrow.Author.Count.{below-more}
+use borrow.Author.Count.{below-none, below-more}
 use borrow.Author.Tests.{lt-ltb, le-ltb, eq-eqb, ne-eqb, ltb-true, ltb-false}
 use Rattle.base.specs.Below.{anyBelow}
 use Rattle.base.specs.Cases.{pick}
@@ -254,7 +254,7 @@ turning-none M fs count c s f =
       clock = refl;
       sized = s;
       fine = f;
-      passed = λ j b. absurd (omega arith);
+      passed = below-none _;
       same = ap (λ (k : ℕ). settledFrom M 0 k (viewOf c)) (omega arith);
     }
 

@@ -129,20 +129,16 @@ module _ (p q t : ℕ) (known : t ≤ 2) where
       let h : p ≡ q = eqb-true p q (and-left (eqb p q) _ g) in
       (sym f, (omega arith, ⊎-elim (λ u. omega (arith, eqb-true p logic u)) (λ u. omega (arith, eqb-true p boolean u)) (or-cases (eqb p logic) _ (and-right (eqb p q) _ g))))
 
-  pub arithmetic-known : t ≡ arithmeticType p q → (t ≡ integer) × ((p ≡ integer) × (q ≡ integer))
-  arithmetic-known e =
-      let g = passed (eqb p integer && eqb q integer) integer (rw e at known) in
+  -- a sum, a difference or a comparison, x being its type
+  pub integers-known : (x : ℕ) → t ≡ pick (eqb p integer && eqb q integer) x mistyped → (t ≡ x) × ((p ≡ integer) × (q ≡ integer))
+  integers-known x e =
+      let g = passed (eqb p integer && eqb q integer) x (rw e at known) in
       (rw g at e, (eqb-true p integer (and-left (eqb p integer) _ g), eqb-true q integer (and-right (eqb p integer) _ g)))
 
   pub equal-known : t ≡ equalType p q → (t ≡ boolean) × ((q ≡ p) × (p ≤ 1))
   equal-known e =
       let g = passed (eqb p q && (eqb p integer || eqb p logic)) boolean (rw e at known) in
       (rw g at e, (sym (eqb-true p q (and-left (eqb p q) _ g)), ⊎-elim (λ u. omega (arith, eqb-true p integer u)) (λ u. omega (arith, eqb-true p logic u)) (or-cases (eqb p integer) _ (and-right (eqb p q) _ g))))
-
-  pub less-known : t ≡ lessType p q → (t ≡ boolean) × ((p ≡ integer) × (q ≡ integer))
-  less-known e =
-      let g = passed (eqb p integer && eqb q integer) boolean (rw e at known) in
-      (rw g at e, (eqb-true p integer (and-left (eqb p integer) _ g), eqb-true q integer (and-right (eqb p integer) _ g)))
 
 -- a type is at most that of a mistyped node: case by case
 pick-small : (t : Bool) (x y : ℕ) → (t ≡ true → x ≤ 3) → y ≤ 3 → pick t x y ≤ 3
