@@ -9,6 +9,19 @@ use crate::session::{print, session};
 /// An answer as (refusal, byte 1, picks, value, time).
 type Answer = (u8, u8, u16, i32, u64);
 
+/// An advance, and a settle of a few picks.
+const ADV: (u8, u8, u16) = (ADVANCE, 0, 0);
+const SET: (u8, u8, u16) = (SETTLE, 0, 9);
+
+fn process(place: u16, standing: u8, fault: u8, deadline: Option<u64>) -> Process {
+    Process {
+        place,
+        standing,
+        fault,
+        deadline,
+    }
+}
+
 fn play(b: &Builder, list: &[(u8, u8, u16)]) -> (Vec<Answer>, Config) {
     let bytes = orders(list);
     let mut answers = vec![0xAA; 4 * bytes.len()];
@@ -52,7 +65,7 @@ fn resolution_through_drivers() {
         ("--", 'X'),
     ] {
         let b = drivers(values);
-        let (a, _) = play(&b, &[(SETTLE, 0, 9), (ADVANCE, 0, 0), (READ, 0, 0)]);
+        let (a, _) = play(&b, &[SET, ADV, (READ, 0, 0)]);
         assert_eq!(a[2].3, crate::values::code(result as u8) as i32, "{values}");
     }
 }
@@ -78,15 +91,7 @@ fn integer_range() {
             None => {
                 assert_eq!(a, [(0, 2, 1, 1, 0), (13, 0, 0, 0, 0)]);
                 assert_eq!(c.variables, [5]);
-                assert_eq!(
-                    c.processes,
-                    [Process {
-                        place: 0,
-                        standing: STOPPED,
-                        fault: 1,
-                        deadline: None
-                    }]
-                );
+                assert_eq!(c.processes, [process(0, STOPPED, 1, None)]);
             }
         }
     }
@@ -137,15 +142,7 @@ fn waveform_of_eight() {
     );
     assert_eq!(a[1], (0, 2, 1, 3, 0));
     assert_eq!(c.drivers[0].wave, eight);
-    assert_eq!(
-        c.processes[0],
-        Process {
-            place: 8,
-            standing: 2,
-            fault: 3,
-            deadline: None
-        }
-    );
+    assert_eq!(c.processes[0], process(8, 2, 3, None));
     // A ninth at the last one's time takes its place.
     let (a, c) = play(
         &line(&[1, 2, 3, 4, 5, 6, 7, 8, 8]),
@@ -154,9 +151,9 @@ fn waveform_of_eight() {
     assert_eq!(a[1], (0, 0, 1, 0, 0));
     assert_eq!(c.drivers[0].wave, eight);
     // An earlier one removes all later ones.
-    let (_, c) = play(&line(&[1, 2, 3, 4, 5, 6, 7, 8, 3]), &[(SETTLE, 0, 9)]);
+    let (_, c) = play(&line(&[1, 2, 3, 4, 5, 6, 7, 8, 3]), &[SET]);
     assert_eq!(c.drivers[0].wave, [(1, 1), (2, 2), (3, 3)]);
-    let (_, c) = play(&line(&[1, 2, 0]), &[(SETTLE, 0, 9)]);
+    let (_, c) = play(&line(&[1, 2, 0]), &[SET]);
     assert_eq!(c.drivers[0].wave, [(0, 0)]);
 }
 
@@ -167,11 +164,7 @@ fn delta_limit() {
     b.process();
     let loop_start = b.wait(0, ABSENT, zero);
     b.go(loop_start);
-    let mut list = vec![];
-    for _ in 0..1_001 {
-        list.push((SETTLE, 0, 9));
-        list.push((ADVANCE, 0, 0));
-    }
+    let list = [SET, ADV].repeat(1_001);
     let (a, c) = play(&b, &list);
     assert_eq!(a[1_999], (0, 1, 0, 0, 0));
     assert_eq!(a[2_001], (16, 0, 0, 0, 0));
@@ -187,11 +180,7 @@ fn delta_limit() {
 fn time_limit() {
     for (extra, refused) in [(0, false), (1, true)] {
         let b = time_turns(2_000_000_000 + extra);
-        let mut list = vec![];
-        for _ in 0..501 {
-            list.extend([(SETTLE, 0, 9), (ADVANCE, 0, 0), (ADVANCE, 0, 0)]);
-        }
-        let (a, c) = play(&b, &list);
+        let (a, c) = play(&b, &[SET, ADV, ADV].repeat(501));
         let before = 499 * 2_000_000_000;
         let limit = 1_000_000_000_000;
         assert_eq!(a[1_496], (0, 1, 0, 0, before));
@@ -230,13 +219,8 @@ fn no_orders() {
             3
         ]
     );
-    let place = |place| Process {
-        place,
-        standing: READY,
-        fault: 0,
-        deadline: None,
-    };
-    assert_eq!(c.processes, [place(0), place(2)]);
+    let ready = |place| process(place, READY, 0, None);
+    assert_eq!(c.processes, [ready(0), ready(2)]);
 }
 
 #[test]
@@ -280,7 +264,7 @@ fn order_refusals() {
             (SETTLE, 1, 1),
             (READ, 0, 1),
             (PICK, 2, 0),
-            (ADVANCE, 0, 0),
+            ADV,
             (READ, 2, 0),
             (READ, 255, 0),
         ],
@@ -312,16 +296,7 @@ fn ready_before_stopped() {
     b.wait(0, ABSENT, minus);
     b.process();
     b.wait(0, ABSENT, ABSENT);
-    let (a, c) = play(
-        &b,
-        &[
-            (PICK, 0, 0),
-            (ADVANCE, 0, 0),
-            (PICK, 1, 0),
-            (ADVANCE, 0, 0),
-            (SETTLE, 0, 5),
-        ],
-    );
+    let (a, c) = play(&b, &[(PICK, 0, 0), ADV, (PICK, 1, 0), ADV, (SETTLE, 0, 5)]);
     assert_eq!(
         a,
         [
@@ -332,15 +307,7 @@ fn ready_before_stopped() {
             (0, 0, 0, 0, 0)
         ]
     );
-    assert_eq!(
-        c.processes[0],
-        Process {
-            place: 0,
-            standing: 2,
-            fault: 2,
-            deadline: None
-        }
-    );
+    assert_eq!(c.processes[0], process(0, 2, 2, None));
 }
 
 #[test]
@@ -431,7 +398,7 @@ fn quiet_driver_still_drives() {
     b.wait(0, ABSENT, ABSENT);
     b.driver(0, s);
     b.driver(1, s);
-    let (a, c) = play(&b, &[(SETTLE, 0, 9), (ADVANCE, 0, 0), (READ, 0, 0)]);
+    let (a, c) = play(&b, &[SET, ADV, (READ, 0, 0)]);
     assert_eq!(a[2].3, 1);
     assert_eq!(c.drivers[0].current, 3);
     assert_eq!(c.drivers[1].current, 2);
@@ -447,15 +414,7 @@ fn activity_without_change_wakes_nobody() {
     b.schedule(s, high, zero);
     b.wait(1, ABSENT, ABSENT);
     b.driver(0, s);
-    let (a, _) = play(
-        &b,
-        &[
-            (SETTLE, 0, 9),
-            (ADVANCE, 0, 0),
-            (SETTLE, 0, 9),
-            (ADVANCE, 0, 0),
-        ],
-    );
+    let (a, _) = play(&b, &[SET, ADV, SET, ADV]);
     assert_eq!(a[1..], [(0, 1, 0, 0, 0), (0, 0, 0, 0, 0), (17, 0, 0, 0, 0)]);
 }
 
@@ -482,14 +441,7 @@ fn faulting_condition(limit: i32) -> Builder {
 
 #[test]
 fn fault_in_a_waits_condition() {
-    let list = [
-        (SETTLE, 0, 9),
-        (ADVANCE, 0, 0),
-        (ADVANCE, 0, 0),
-        (ADVANCE, 0, 0),
-        (SETTLE, 0, 9),
-        (ADVANCE, 0, 0),
-    ];
+    let list = [SET, ADV, ADV, ADV, SET, ADV];
     let (a, c) = play(&faulting_condition(5), &list);
     assert_eq!(
         a[1..],
@@ -502,27 +454,11 @@ fn fault_in_a_waits_condition() {
         ]
     );
     // Place and deadline are kept; the process after it was woken.
-    assert_eq!(
-        c.processes[1],
-        Process {
-            place: 2,
-            standing: 2,
-            fault: 1,
-            deadline: Some(5)
-        }
-    );
+    assert_eq!(c.processes[1], process(2, 2, 1, Some(5)));
     assert_eq!(c.processes[2].standing, WAITING);
     // At a due deadline b is not asked for.
     let (_, c) = play(&faulting_condition(1), &list[..3]);
-    assert_eq!(
-        c.processes[1],
-        Process {
-            place: 2,
-            standing: 0,
-            fault: 0,
-            deadline: None
-        }
-    );
+    assert_eq!(c.processes[1], process(2, 0, 0, None));
 }
 
 #[test]
@@ -531,14 +467,7 @@ fn wait_forms() {
     let mut b = faulting_condition(4);
     b.m.statements[2].set = 0;
     b.null();
-    let list = [
-        (SETTLE, 0, 9),
-        (ADVANCE, 0, 0),
-        (ADVANCE, 0, 0),
-        (SETTLE, 0, 9),
-        (ADVANCE, 0, 0),
-    ];
-    let (a, c) = play(&b, &[&list[..], &[(ADVANCE, 0, 0)]].concat());
+    let (a, c) = play(&b, &[SET, ADV, ADV, SET, ADV, ADV]);
     assert_eq!(a[4], (0, 2, 0, 0, 4));
     assert_eq!(a[5], (0, 1, 0, 0, 4));
     assert_eq!(c.processes[1].standing, READY);
@@ -557,19 +486,12 @@ fn wait_forms() {
     b.wait(1, is_two, ABSENT);
     b.null();
     b.driver(0, s);
-    let (_, c) = play(&b, &[(SETTLE, 0, 9), (ADVANCE, 0, 0), (ADVANCE, 0, 0)]);
+    let (_, c) = play(&b, &[SET, ADV, ADV]);
     assert_eq!(
         (c.time, c.processes[1].standing, c.processes[1].place),
         (1, WAITING, 3)
     );
-    let list = [
-        (SETTLE, 0, 9),
-        (ADVANCE, 0, 0),
-        (ADVANCE, 0, 0),
-        (ADVANCE, 0, 0),
-        (ADVANCE, 0, 0),
-    ];
-    let (_, c) = play(&b, &list);
+    let (_, c) = play(&b, &[SET, ADV, ADV, ADV, ADV]);
     assert_eq!(
         (c.time, c.processes[1].standing, c.processes[1].place),
         (2, READY, 4)
@@ -578,7 +500,7 @@ fn wait_forms() {
 
 #[test]
 fn time_step_changes_no_current_value() {
-    let (_, c) = play(&line(&[3]), &[(SETTLE, 0, 9), (ADVANCE, 0, 0)]);
+    let (_, c) = play(&line(&[3]), &[SET, ADV]);
     assert_eq!((c.time, c.signals[0][0]), (3, 0));
     assert_eq!(c.drivers[0].wave, [(3, 3)]);
 }
@@ -586,33 +508,21 @@ fn time_step_changes_no_current_value() {
 #[test]
 fn past_values() {
     // 0 until 2, 2 from 2, 5 from 5, 40 from 40.
-    let list = [
-        (SETTLE, 0, 9),
-        (ADVANCE, 0, 0),
-        (ADVANCE, 0, 0),
-        (ADVANCE, 0, 0),
-        (ADVANCE, 0, 0),
-    ];
+    let list = [SET, ADV, ADV, ADV, ADV, ADV];
     let b = line(&[2, 5, 40]);
-    let (_, c) = play(&b, &list);
+    let (_, c) = play(&b, &list[..5]);
     assert_eq!(c.time, 5);
     let s = &c.signals[0];
     assert_eq!(s[..7], [5, 2, 2, 2, 0, 0, 0]);
     assert_eq!(s[31], 0);
-    let (_, c) = play(&b, &[&list[..], &[(ADVANCE, 0, 0)]].concat());
+    let (_, c) = play(&b, &list);
     assert_eq!((c.time, c.signals[0]), (40, [5; 32]));
     // A value lives on for 31 units and not for 32.
-    let (_, c) = play(
-        &line(&[0, 1, 31]),
-        &[&list[..], &[(ADVANCE, 0, 0)]].concat(),
-    );
+    let (_, c) = play(&line(&[0, 1, 31]), &list);
     assert_eq!((c.time, c.signals[0][0]), (31, 31));
     assert_eq!((c.signals[0][31], c.signals[0][30]), (0, 1));
     // Delta steps leave the past alone.
-    let (_, c) = play(
-        &line(&[1]),
-        &[(SETTLE, 0, 9), (ADVANCE, 0, 0), (ADVANCE, 0, 0)],
-    );
+    let (_, c) = play(&line(&[1]), &[SET, ADV, ADV]);
     assert_eq!(c.signals[0][..3], [1, 0, 0]);
 }
 
@@ -641,6 +551,12 @@ fn judged(change: impl Fn(&mut Builder)) -> u32 {
     let mut b = rich();
     change(&mut b);
     judge(&b.encode())
+}
+
+fn all_judged(changes: &[fn(&mut Builder)], number: u32) {
+    for (n, change) in changes.iter().enumerate() {
+        assert_eq!(judged(change), number, "change {n} for {number}");
+    }
 }
 
 /// All kinds of records; process 0 has statements 0 to 5, process 1 the rest.
@@ -862,9 +778,7 @@ fn fields() {
         |b| b.m.statements[5].set = 4,
         |b| b.m.statements[5].set = 1 << 31,
     ];
-    for (n, change) in five.iter().enumerate() {
-        assert_eq!(judged(change), 5, "change {n}");
-    }
+    all_judged(five, 5);
 }
 
 #[test]
@@ -950,9 +864,7 @@ fn types() {
             b.binary(9, 0, 0);
         },
     ];
-    for (n, change) in seven.iter().enumerate() {
-        assert_eq!(judged(change), 7, "change {n}");
-    }
+    all_judged(seven, 7);
 }
 
 #[test]
@@ -975,9 +887,7 @@ fn ownership() {
             b.m.statements[3].b = skip;
         },
     ];
-    for (n, change) in eight.iter().enumerate() {
-        assert_eq!(judged(change), 8, "change {n}");
-    }
+    all_judged(eight, 8);
     // A foreign variable in no statement's tree is no harm.
     assert_eq!(
         judged(|b| {
@@ -1002,34 +912,25 @@ fn ownership() {
 #[test]
 fn first_refusal_over_the_whole_input() {
     // The later rule is broken earlier in the input.
-    assert_eq!(
-        judged(|b| {
+    let changes: [fn(&mut Builder); 4] = [
+        |b| {
             b.m.signals[0].ty = 7;
             b.m.statements.clear();
-        }),
-        4
-    );
-    assert_eq!(
-        judged(|b| {
+        },
+        |b| {
             b.m.nodes[7].a = 8;
             b.m.statements[9].a = 1;
-        }),
-        5
-    );
-    assert_eq!(
-        judged(|b| {
+        },
+        |b| {
             b.m.nodes[7].a = 0;
             b.m.nodes[12].a = 12;
-        }),
-        6
-    );
-    assert_eq!(
-        judged(|b| {
+        },
+        |b| {
             b.m.drivers.reverse();
             b.m.statements[8].c = 1;
-        }),
-        7
-    );
+        },
+    ];
+    assert_eq!(changes.map(judged), [4, 5, 6, 7]);
     let mut bytes = rich().encode();
     bytes[0] = 9;
     assert_eq!(judge(&bytes), 2);

@@ -108,45 +108,35 @@ pub fn sum(x: i32, kind: u8, y: i32) -> Builder {
     b
 }
 
-/// One process waits for 0, `turns` times, then for 1 each time.
-pub fn delta_turns(turns: i32) -> Builder {
+/// One process waits `turns` times for `step`, then for each of `rest`, again
+/// and again.
+fn turns(turns: i32, step: i32, rest: &[i32]) -> Builder {
     let mut b = Builder::new();
     let v = b.variable(INTEGER, 0, 0);
-    let zero = b.integer(0);
-    let one = b.integer(1);
-    let turns = b.integer(turns);
+    let (one, turns, step) = (b.integer(1), b.integer(turns), b.integer(step));
     let read = b.read_variable(v);
-    let more = b.binary(11, read, one);
-    let less = b.binary(14, read, turns);
-    b.process();
-    b.unless(less, 4);
-    b.assign(v, more);
-    b.wait(0, ABSENT, zero);
-    b.go(0);
-    b.wait(0, ABSENT, one);
-    b
-}
-
-/// One process waits 499 times for 2,000,000,000, then for `last`, then
-/// for 1.
-pub fn time_turns(last: i32) -> Builder {
-    let mut b = Builder::new();
-    let v = b.variable(INTEGER, 0, 0);
-    let one = b.integer(1);
-    let turns = b.integer(499);
-    let step = b.integer(2_000_000_000);
-    let last = b.integer(last);
-    let read = b.read_variable(v);
-    let more = b.binary(11, read, one);
-    let less = b.binary(14, read, turns);
+    let (more, less) = (b.binary(11, read, one), b.binary(14, read, turns));
     b.process();
     b.unless(less, 4);
     b.assign(v, more);
     b.wait(0, ABSENT, step);
     b.go(0);
-    b.wait(0, ABSENT, last);
-    b.wait(0, ABSENT, one);
+    for &time in rest {
+        let time = b.integer(time);
+        b.wait(0, ABSENT, time);
+    }
     b
+}
+
+/// One process waits for 0, `count` times, then for 1 each time.
+pub fn delta_turns(count: i32) -> Builder {
+    turns(count, 0, &[1])
+}
+
+/// One process waits 499 times for 2,000,000,000, then for `last`, then
+/// for 1.
+pub fn time_turns(last: i32) -> Builder {
+    turns(499, 2_000_000_000, &[last, 1])
 }
 
 /// Settle and advance, so often.

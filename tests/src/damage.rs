@@ -25,9 +25,9 @@ impl Subject {
     }
 }
 
-/// Damages the model in its rule if it can; gives whether it did.
-type ModelOp = fn(&mut Rng, &mut Subject) -> bool;
-/// The same for the blocks.
+/// Damages the model in its rule; None if it can not.
+type ModelOp = fn(&mut Rng, &mut Subject) -> Option<()>;
+/// Damages the blocks; gives whether it did.
 type BlockOp = fn(&mut Rng, &mut Vec<u8>) -> bool;
 
 fn blocks(bytes: &[u8]) -> usize {
@@ -189,12 +189,12 @@ const TOTAL: &[(&str, ModelOp)] = &[
     ("33 signals or more", |rng, s| {
         s.m.signals
             .resize(33 + rng.below(20), SignalRecord::default());
-        true
+        Some(())
     }),
     ("65 variables or more", |rng, s| {
         s.m.variables
             .resize(65 + rng.below(20), VariableRecord::default());
-        true
+        Some(())
     }),
     ("17 processes or more", |rng, s| {
         for _ in s.m.processes.len()..17 + rng.below(10) {
@@ -202,12 +202,12 @@ const TOTAL: &[(&str, ModelOp)] = &[
             s.m.processes.push(ProcessRecord { first, count: 1 });
             s.m.statements.push(StatementRecord::default());
         }
-        true
+        Some(())
     }),
     ("65 drivers or more", |rng, s| {
         s.m.drivers
             .resize(65 + rng.below(20), DriverRecord::default());
-        true
+        Some(())
     }),
     ("401 nodes or more", |rng, s| {
         s.m.nodes.resize(
@@ -217,7 +217,7 @@ const TOTAL: &[(&str, ModelOp)] = &[
                 ..Default::default()
             },
         );
-        true
+        Some(())
     }),
     ("201 statements or more", |rng, s| {
         let more = 201 + rng.below(40) - s.m.statements.len();
@@ -226,15 +226,15 @@ const TOTAL: &[(&str, ModelOp)] = &[
         if let Some(p) = s.m.processes.last_mut() {
             p.count += more as u16;
         }
-        true
+        Some(())
     }),
     ("no process", |_, s| {
         s.m.processes.clear();
-        true
+        Some(())
     }),
     ("no statement", |_, s| {
         s.m.statements.clear();
-        true
+        Some(())
     }),
 ];
 
@@ -253,13 +253,20 @@ fn outside(rng: &mut Rng, ty: u8) -> i32 {
     }
 }
 
+/// One of the numbers, if there is any.
+fn one_of(rng: &mut Rng, numbers: impl Iterator<Item = usize>) -> Option<usize> {
+    let found: Vec<usize> = numbers.collect();
+    (!found.is_empty()).then(|| rng.choose(&found))
+}
+
 fn some<T>(rng: &mut Rng, list: &[T], fits: impl Fn(&T) -> bool) -> Option<usize> {
-    let found: Vec<usize> = (0..list.len()).filter(|&n| fits(&list[n])).collect();
-    if found.is_empty() {
-        None
-    } else {
-        Some(rng.choose(&found))
-    }
+    one_of(rng, (0..list.len()).filter(|&n| fits(&list[n])))
+}
+
+/// Adds a node; gives its number.
+fn node(m: &mut Model, kind: u8, a: u16, b: u16) -> u16 {
+    m.nodes.push(NodeRecord { kind, a, b, k: 0 });
+    m.nodes.len() as u16 - 1
 }
 
 fn nonzero(rng: &mut Rng) -> u16 {
@@ -280,64 +287,54 @@ const FIELD: &[(&str, ModelOp)] = &[
         let kind = 1 + rng.below(6);
         let total = records(&s.m)[kind - 1].len();
         if total == 0 {
-            return false;
+            return None;
         }
         let byte = rng.choose(UNNAMED[kind - 1]);
         s.patches
             .push((kind, rng.below(total), byte, 1 + rng.below(255) as u8));
-        true
+        Some(())
     }),
     ("a signal's type", |rng, s| {
-        let Some(n) = some(rng, &s.m.signals, |_| true) else {
-            return false;
-        };
+        let n = some(rng, &s.m.signals, |_| true)?;
         s.m.signals[n].ty = rng.choose(&[2, 3, 128, 255]);
-        true
+        Some(())
     }),
     ("a signal's start", |rng, s| {
-        let Some(n) = some(rng, &s.m.signals, |_| true) else {
-            return false;
-        };
+        let n = some(rng, &s.m.signals, |_| true)?;
         s.m.signals[n].start = outside(rng, s.m.signals[n].ty);
-        true
+        Some(())
     }),
     ("a variable's type", |rng, s| {
-        let Some(n) = some(rng, &s.m.variables, |_| true) else {
-            return false;
-        };
+        let n = some(rng, &s.m.variables, |_| true)?;
         s.m.variables[n].ty = rng.choose(&[3, 4, 128, 255]);
-        true
+        Some(())
     }),
     ("a variable's process", |rng, s| {
-        let Some(n) = some(rng, &s.m.variables, |_| true) else {
-            return false;
-        };
+        let n = some(rng, &s.m.variables, |_| true)?;
         s.m.variables[n].process = missing(rng, s.m.processes.len(), 255) as u8;
-        true
+        Some(())
     }),
     ("a variable's start", |rng, s| {
-        let Some(n) = some(rng, &s.m.variables, |_| true) else {
-            return false;
-        };
+        let n = some(rng, &s.m.variables, |_| true)?;
         s.m.variables[n].start = outside(rng, s.m.variables[n].ty);
-        true
+        Some(())
     }),
     ("a process's first", |rng, s| {
         let n = rng.below(s.m.processes.len());
         let off = rng.choose(&[1, 65_535, 2, 256, 32_768]);
         s.m.processes[n].first = s.m.processes[n].first.wrapping_add(off);
-        true
+        Some(())
     }),
     ("a process's count", |rng, s| {
         let n = rng.below(s.m.processes.len());
         let off = rng.choose(&[1, 65_535, 2, 256, 32_768]);
         s.m.processes[n].count = s.m.processes[n].count.wrapping_add(off);
-        true
+        Some(())
     }),
     ("a process of no statement", |rng, s| {
         // The spans join all the same.
         if s.m.processes.len() >= 16 {
-            return false;
+            return None;
         }
         let n = rng.below(s.m.processes.len() + 1);
         let first = match s.m.processes.get(n) {
@@ -345,31 +342,25 @@ const FIELD: &[(&str, ModelOp)] = &[
             None => s.m.statements.len() as u16,
         };
         s.m.processes.insert(n, ProcessRecord { first, count: 0 });
-        true
+        Some(())
     }),
     ("a driver's process", |rng, s| {
-        let Some(n) = some(rng, &s.m.drivers, |_| true) else {
-            return false;
-        };
+        let n = some(rng, &s.m.drivers, |_| true)?;
         s.m.drivers[n].process = missing(rng, s.m.processes.len(), 255) as u8;
-        true
+        Some(())
     }),
     ("a driver's signal", |rng, s| {
-        let Some(n) = some(rng, &s.m.drivers, |_| true) else {
-            return false;
-        };
+        let n = some(rng, &s.m.drivers, |_| true)?;
         s.m.drivers[n].signal = missing(rng, s.m.signals.len(), 255) as u8;
-        true
+        Some(())
     }),
     ("a node's kind", |rng, s| {
         let n = rng.below(s.m.nodes.len());
         s.m.nodes[n].kind = rng.choose(&[0, 15, 16, 128, 255]);
-        true
+        Some(())
     }),
     ("a constant", |rng, s| {
-        let Some(n) = some(rng, &s.m.nodes, |n| n.kind <= 2) else {
-            return false;
-        };
+        let n = some(rng, &s.m.nodes, |n| n.kind <= 2)?;
         s.m.nodes[n].k = outside(
             rng,
             if s.m.nodes[n].kind == 1 {
@@ -378,147 +369,107 @@ const FIELD: &[(&str, ModelOp)] = &[
                 LOGIC
             },
         );
-        true
+        Some(())
     }),
     ("a node's variable", |rng, s| {
-        let Some(n) = some(rng, &s.m.nodes, |n| n.kind == 3) else {
-            return false;
-        };
+        let n = some(rng, &s.m.nodes, |n| n.kind == 3)?;
         s.m.nodes[n].a = missing(rng, s.m.variables.len(), 65_535);
-        true
+        Some(())
     }),
     ("a node's signal", |rng, s| {
-        let Some(n) = some(rng, &s.m.nodes, |n| n.kind == 4 || n.kind == 5) else {
-            return false;
-        };
+        let n = some(rng, &s.m.nodes, |n| n.kind == 4 || n.kind == 5)?;
         s.m.nodes[n].a = missing(rng, s.m.signals.len(), 65_535);
-        true
+        Some(())
     }),
     ("a delayed signal's delay", |rng, s| {
-        let Some(n) = some(rng, &s.m.nodes, |n| n.kind == 5) else {
-            return false;
-        };
+        let n = some(rng, &s.m.nodes, |n| n.kind == 5)?;
         s.m.nodes[n].k = rng.choose(&[32, 33, -1, 256, 65_536, i32::MIN, i32::MAX]);
-        true
+        Some(())
     }),
     ("a node's unused a", |rng, s| {
-        let Some(n) = some(rng, &s.m.nodes, |n| n.kind <= 2) else {
-            return false;
-        };
+        let n = some(rng, &s.m.nodes, |n| n.kind <= 2)?;
         s.m.nodes[n].a = nonzero(rng);
-        true
+        Some(())
     }),
     ("a node's unused b", |rng, s| {
-        let Some(n) = some(rng, &s.m.nodes, |n| n.kind <= 6 || n.kind == 10) else {
-            return false;
-        };
+        let n = some(rng, &s.m.nodes, |n| n.kind <= 6 || n.kind == 10)?;
         s.m.nodes[n].b = nonzero(rng);
-        true
+        Some(())
     }),
     ("a node's unused k", |rng, s| {
         let unused = |n: &NodeRecord| n.kind == 3 || n.kind == 4 || n.kind >= 6;
-        let Some(n) = some(rng, &s.m.nodes, unused) else {
-            return false;
-        };
+        let n = some(rng, &s.m.nodes, unused)?;
         s.m.nodes[n].k = rng.choose(&[1, -1, 256, 65_536, 0x0100_0000, i32::MIN]);
-        true
+        Some(())
     }),
     ("a statement's kind", |rng, s| {
         let n = rng.below(s.m.statements.len());
         s.m.statements[n].kind = rng.choose(&[6, 7, 128, 255]);
-        true
+        Some(())
     }),
     ("an assigned variable", |rng, s| {
-        let Some(n) = some(rng, &s.m.statements, |s| s.kind == 1) else {
-            return false;
-        };
+        let n = some(rng, &s.m.statements, |s| s.kind == 1)?;
         s.m.statements[n].a = missing(rng, s.m.variables.len(), 65_535);
-        true
+        Some(())
     }),
     ("an assigned signal", |rng, s| {
-        let Some(n) = some(rng, &s.m.statements, |s| s.kind == 2) else {
-            return false;
-        };
+        let n = some(rng, &s.m.statements, |s| s.kind == 2)?;
         s.m.statements[n].a = missing(rng, s.m.signals.len(), 65_535);
-        true
+        Some(())
     }),
     ("a statement's b", |rng, s| {
         let uses = |s: &StatementRecord| (1..=3).contains(&s.kind) || s.kind == 5;
-        let Some(n) = some(rng, &s.m.statements, uses) else {
-            return false;
-        };
-        let most = if s.m.statements[n].kind == 5 {
-            65_534
-        } else {
-            65_535
-        };
+        let n = some(rng, &s.m.statements, uses)?;
+        let most = 65_535 - (s.m.statements[n].kind == 5) as usize;
         s.m.statements[n].b = missing(rng, s.m.nodes.len(), most);
-        true
+        Some(())
     }),
     ("a statement's c", |rng, s| {
         let uses = |s: &StatementRecord| s.kind == 2 || s.kind == 5;
-        let Some(n) = some(rng, &s.m.statements, uses) else {
-            return false;
-        };
-        let most = if s.m.statements[n].kind == 5 {
-            65_534
-        } else {
-            65_535
-        };
+        let n = some(rng, &s.m.statements, uses)?;
+        let most = 65_535 - (s.m.statements[n].kind == 5) as usize;
         s.m.statements[n].c = missing(rng, s.m.nodes.len(), most);
-        true
+        Some(())
     }),
     ("a jump out of its process", |rng, s| {
         let jumps = |s: &StatementRecord| s.kind == 3 || s.kind == 4;
-        let Some(n) = some(rng, &s.m.statements, jumps) else {
-            return false;
-        };
+        let n = some(rng, &s.m.statements, jumps)?;
         let p = s.m.processes[process_of(&s.m, n)];
         let total = s.m.statements.len() as u16;
         let end = p.first + p.count;
         let target = rng.choose(&[end, p.first.wrapping_sub(1), total, 0, total - 1, 65_535]);
         if (p.first..end).contains(&target) {
-            return false;
+            return None;
         }
         s.m.statements[n].a = target;
-        true
+        Some(())
     }),
     ("a statement's unused a", |rng, s| {
-        let Some(n) = some(rng, &s.m.statements, |s| s.kind == 0 || s.kind == 5) else {
-            return false;
-        };
+        let n = some(rng, &s.m.statements, |s| s.kind == 0 || s.kind == 5)?;
         s.m.statements[n].a = nonzero(rng);
-        true
+        Some(())
     }),
     ("a statement's unused b", |rng, s| {
-        let Some(n) = some(rng, &s.m.statements, |s| s.kind == 0 || s.kind == 4) else {
-            return false;
-        };
+        let n = some(rng, &s.m.statements, |s| s.kind == 0 || s.kind == 4)?;
         s.m.statements[n].b = nonzero(rng);
-        true
+        Some(())
     }),
     ("a statement's unused c", |rng, s| {
         let unused = |s: &StatementRecord| s.kind != 2 && s.kind != 5;
-        let Some(n) = some(rng, &s.m.statements, unused) else {
-            return false;
-        };
+        let n = some(rng, &s.m.statements, unused)?;
         s.m.statements[n].c = nonzero(rng);
-        true
+        Some(())
     }),
     ("a statement's unused set", |rng, s| {
-        let Some(n) = some(rng, &s.m.statements, |s| s.kind != 5) else {
-            return false;
-        };
+        let n = some(rng, &s.m.statements, |s| s.kind != 5)?;
         s.m.statements[n].set = 1 << rng.below(32);
-        true
+        Some(())
     }),
     ("a set's signal", |rng, s| {
         let signals = s.m.signals.len();
-        let Some(n) = some(rng, &s.m.statements, |s| s.kind == 5) else {
-            return false;
-        };
+        let n = some(rng, &s.m.statements, |s| s.kind == 5)?;
         if signals == 32 {
-            return false;
+            return None;
         }
         let bit = if rng.chance(1, 2) {
             signals
@@ -526,7 +477,7 @@ const FIELD: &[(&str, ModelOp)] = &[
             signals + rng.below(32 - signals)
         };
         s.m.statements[n].set |= 1 << bit;
-        true
+        Some(())
     }),
 ];
 
@@ -546,95 +497,66 @@ fn not_lower(rng: &mut Rng, n: usize, total: usize) -> u16 {
 
 const OPERAND: &[(&str, ModelOp)] = &[
     ("an operand a", |rng, s| {
-        let Some(n) = some(rng, &s.m.nodes, |n| n.kind >= 6) else {
-            return false;
-        };
+        let n = some(rng, &s.m.nodes, |n| n.kind >= 6)?;
         s.m.nodes[n].a = not_lower(rng, n, s.m.nodes.len());
-        true
+        Some(())
     }),
     ("an operand b", |rng, s| {
-        let Some(n) = some(rng, &s.m.nodes, |n| n.kind >= 7 && n.kind != 10) else {
-            return false;
-        };
+        let n = some(rng, &s.m.nodes, |n| n.kind >= 7 && n.kind != 10)?;
         s.m.nodes[n].b = not_lower(rng, n, s.m.nodes.len());
-        true
+        Some(())
     }),
     ("a tree of 65 nodes", |rng, s| {
         // Unary nodes on top of any node.
         let n = rng.below(s.m.nodes.len());
-        let Some(types) = node_types(&s.m) else {
-            return false;
-        };
+        let types = node_types(&s.m)?;
         let more = 65 - sizes(&s.m)[n];
         if s.m.nodes.len() + more > 400 {
-            return false;
+            return None;
         }
         let kind = if types[n] == INTEGER { 10 } else { 6 };
         let mut a = n as u16;
         for _ in 0..more {
-            s.m.nodes.push(NodeRecord {
-                kind,
-                a,
-                b: 0,
-                k: 0,
-            });
-            a = s.m.nodes.len() as u16 - 1;
+            a = node(&mut s.m, kind, a, 0);
         }
-        true
+        Some(())
     }),
     ("a tree of repeats", |rng, s| {
         let n = rng.below(s.m.nodes.len());
-        let Some(types) = node_types(&s.m) else {
-            return false;
-        };
+        let types = node_types(&s.m)?;
         let rounds = if rng.chance(1, 4) { 60 } else { 7 };
         if s.m.nodes.len() + rounds > 400 {
-            return false;
+            return None;
         }
         let kind = if types[n] == INTEGER { 11 } else { 7 };
         let mut a = n as u16;
         for _ in 0..rounds {
-            s.m.nodes.push(NodeRecord {
-                kind,
-                a,
-                b: a,
-                k: 0,
-            });
-            a = s.m.nodes.len() as u16 - 1;
+            a = node(&mut s.m, kind, a, a);
         }
-        true
+        Some(())
     }),
 ];
 
 /// Nodes that take operands of a wrong type when one is exchanged for a leaf.
-fn wrong_operand(rng: &mut Rng, s: &mut Subject, second: bool) -> bool {
-    let Some(types) = node_types(&s.m) else {
-        return false;
-    };
+fn wrong_operand(rng: &mut Rng, s: &mut Subject, second: bool) -> Option<()> {
+    let types = node_types(&s.m)?;
     let takes = |n: &NodeRecord| n.kind >= 6 && (!second || (n.kind != 6 && n.kind != 10));
-    let Some(n) = some(rng, &s.m.nodes, takes) else {
-        return false;
-    };
+    let n = some(rng, &s.m.nodes, takes)?;
     let node = s.m.nodes[n];
     let old = types[if second { node.b } else { node.a } as usize];
-    let leaves: Vec<usize> = (0..n)
-        .filter(|&l| s.m.nodes[l].kind <= 5)
-        .filter(|&l| match node.kind {
-            // One operand: the other allowed type stays allowed.
-            6 => types[l] == INTEGER,
-            _ => types[l] != old,
-        })
-        .collect();
-    if leaves.is_empty() {
-        return false;
-    }
-    let leaf = rng.choose(&leaves) as u16;
+    let wrong = |l: &usize| match node.kind {
+        // One operand: the other allowed type stays allowed.
+        6 => types[*l] == INTEGER,
+        _ => types[*l] != old,
+    };
+    let leaves = (0..n).filter(|&l| s.m.nodes[l].kind <= 5);
+    let leaf = one_of(rng, leaves.filter(wrong))? as u16;
     if second {
         s.m.nodes[n].b = leaf;
     } else {
         s.m.nodes[n].a = leaf;
     }
-    true
+    Some(())
 }
 
 /// A node of a type other than this one.
@@ -650,11 +572,9 @@ const TYPE: &[(&str, ModelOp)] = &[
         wrong_operand(rng, s, true)
     }),
     ("an unused node of wrong types", |rng, s| {
-        let Some(types) = node_types(&s.m) else {
-            return false;
-        };
+        let types = node_types(&s.m)?;
         if s.m.nodes.len() >= 400 {
-            return false;
+            return None;
         }
         let sizes = sizes(&s.m);
         let kind = 6 + rng.below(9) as u8;
@@ -669,20 +589,13 @@ const TYPE: &[(&str, ModelOp)] = &[
         };
         let one = kind == 6 || kind == 10;
         if !wrong || sizes[x] + if one { 0 } else { sizes[y] } > 63 {
-            return false;
+            return None;
         }
-        s.m.nodes.push(NodeRecord {
-            kind,
-            a: x as u16,
-            b: if one { 0 } else { y as u16 },
-            k: 0,
-        });
-        true
+        node(&mut s.m, kind, x as u16, if one { 0 } else { y as u16 });
+        Some(())
     }),
     ("booleans compared", |rng, s| {
-        let Some(types) = node_types(&s.m) else {
-            return false;
-        };
+        let types = node_types(&s.m)?;
         let small: Vec<usize> = {
             let sizes = sizes(&s.m);
             (0..types.len())
@@ -690,60 +603,37 @@ const TYPE: &[(&str, ModelOp)] = &[
                 .collect()
         };
         if small.is_empty() || s.m.nodes.len() >= 400 {
-            return false;
+            return None;
         }
         let (a, b) = (rng.choose(&small) as u16, rng.choose(&small) as u16);
-        s.m.nodes.push(NodeRecord {
-            kind: 13,
-            a,
-            b,
-            k: 0,
-        });
-        true
+        node(&mut s.m, 13, a, b);
+        Some(())
     }),
     ("an assigned value's type", |rng, s| {
-        let Some(types) = node_types(&s.m) else {
-            return false;
-        };
-        let Some(n) = some(rng, &s.m.statements, |s| s.kind == 1 || s.kind == 2) else {
-            return false;
-        };
+        let types = node_types(&s.m)?;
+        let n = some(rng, &s.m.statements, |s| s.kind == 1 || s.kind == 2)?;
         let t = s.m.statements[n];
         let ty = match t.kind {
             1 => s.m.variables[t.a as usize].ty,
             _ => s.m.signals[t.a as usize].ty,
         };
-        let Some(b) = other_type(rng, &types, ty) else {
-            return false;
-        };
+        let b = other_type(rng, &types, ty)?;
         s.m.statements[n].b = b;
-        true
+        Some(())
     }),
     ("a delay's type", |rng, s| {
-        let Some(types) = node_types(&s.m) else {
-            return false;
-        };
-        let Some(n) = some(rng, &s.m.statements, |s| s.kind == 2 || s.kind == 5) else {
-            return false;
-        };
-        let Some(c) = other_type(rng, &types, INTEGER) else {
-            return false;
-        };
+        let types = node_types(&s.m)?;
+        let n = some(rng, &s.m.statements, |s| s.kind == 2 || s.kind == 5)?;
+        let c = other_type(rng, &types, INTEGER)?;
         s.m.statements[n].c = c;
-        true
+        Some(())
     }),
     ("a condition's type", |rng, s| {
-        let Some(types) = node_types(&s.m) else {
-            return false;
-        };
-        let Some(n) = some(rng, &s.m.statements, |s| s.kind == 3 || s.kind == 5) else {
-            return false;
-        };
-        let Some(b) = other_type(rng, &types, BOOLEAN) else {
-            return false;
-        };
+        let types = node_types(&s.m)?;
+        let n = some(rng, &s.m.statements, |s| s.kind == 3 || s.kind == 5)?;
+        let b = other_type(rng, &types, BOOLEAN)?;
         s.m.statements[n].b = b;
-        true
+        Some(())
     }),
 ];
 
@@ -798,7 +688,7 @@ fn add_driver(m: &mut Model, process: u8, signal: u8) {
 const OWNER: &[(&str, ModelOp)] = &[
     ("drivers changed over", |rng, s| {
         if s.m.drivers.len() < 2 {
-            return false;
+            return None;
         }
         let n = rng.below(s.m.drivers.len() - 1);
         let other = if rng.chance(1, 2) {
@@ -807,22 +697,20 @@ const OWNER: &[(&str, ModelOp)] = &[
             s.m.drivers.len() - 1
         };
         s.m.drivers.swap(n, other);
-        n != other
+        (n != other).then_some(())
     }),
     ("a driver twice", |rng, s| {
         if s.m.drivers.is_empty() || s.m.drivers.len() >= 64 {
-            return false;
+            return None;
         }
         let n = rng.below(s.m.drivers.len());
         s.m.drivers.insert(n, s.m.drivers[n]);
-        true
+        Some(())
     }),
     ("an integer signal of two drivers", |rng, s| {
-        let Some(n) = some(rng, &s.m.signals, |s| s.ty == INTEGER) else {
-            return false;
-        };
+        let n = some(rng, &s.m.signals, |s| s.ty == INTEGER)?;
         if s.m.processes.len() < 2 || s.m.drivers.len() > 62 {
-            return false;
+            return None;
         }
         let free: Vec<u8> = (0..s.m.processes.len())
             .filter(|&p| driver_of(&s.m, p, n).is_none())
@@ -832,88 +720,62 @@ const OWNER: &[(&str, ModelOp)] = &[
         for &p in free.iter().take(2 - has.min(2)) {
             add_driver(&mut s.m, p, n as u8);
         }
-        true
+        Some(())
     }),
     ("a driver removed", |rng, s| {
-        let Some(n) = some(rng, &s.m.statements, |s| s.kind == 2) else {
-            return false;
-        };
+        let n = some(rng, &s.m.statements, |s| s.kind == 2)?;
         let p = process_of(&s.m, n);
-        let Some(d) = driver_of(&s.m, p, s.m.statements[n].a as usize) else {
-            return false;
-        };
+        let d = driver_of(&s.m, p, s.m.statements[n].a as usize)?;
         s.m.drivers.remove(d);
-        true
+        Some(())
     }),
     ("a signal without a driver here", |rng, s| {
-        let Some(n) = some(rng, &s.m.statements, |s| s.kind == 2) else {
-            return false;
-        };
+        let n = some(rng, &s.m.statements, |s| s.kind == 2)?;
         let p = process_of(&s.m, n);
         let ty = s.m.signals[s.m.statements[n].a as usize].ty;
-        let free: Vec<usize> = (0..s.m.signals.len())
-            .filter(|&x| s.m.signals[x].ty == ty && driver_of(&s.m, p, x).is_none())
-            .collect();
-        if free.is_empty() {
-            return false;
-        }
-        s.m.statements[n].a = rng.choose(&free) as u16;
-        true
+        let free = |&x: &usize| s.m.signals[x].ty == ty && driver_of(&s.m, p, x).is_none();
+        s.m.statements[n].a = one_of(rng, (0..s.m.signals.len()).filter(free))? as u16;
+        Some(())
     }),
     ("another process's variable assigned", |rng, s| {
-        let Some(n) = some(rng, &s.m.statements, |s| s.kind == 1) else {
-            return false;
-        };
+        let n = some(rng, &s.m.statements, |s| s.kind == 1)?;
         let v = s.m.variables[s.m.statements[n].a as usize];
         let fits = |w: &VariableRecord| w.ty == v.ty && w.process != v.process;
-        let Some(w) = some(rng, &s.m.variables, fits) else {
-            return false;
-        };
+        let w = some(rng, &s.m.variables, fits)?;
         s.m.statements[n].a = w as u16;
-        true
+        Some(())
     }),
     ("another process's variable read", |rng, s| {
-        let Some(types) = node_types(&s.m) else {
-            return false;
-        };
+        let types = node_types(&s.m)?;
         let readers = readers(&s.m);
         let uses = |s: &StatementRecord| !roots(s).is_empty();
-        let Some(n) = some(rng, &s.m.statements, uses) else {
-            return false;
-        };
+        let n = some(rng, &s.m.statements, uses)?;
         let own = 1u32 << process_of(&s.m, n);
         let t = s.m.statements[n];
         let second = t.kind == 2 && rng.chance(1, 2)
             || t.kind == 5 && t.b == ABSENT
             || t.kind == 5 && t.c != ABSENT && rng.chance(1, 2);
         let old = if second { t.c } else { t.b };
-        let fits: Vec<usize> = (0..types.len())
-            .filter(|&x| types[x] == types[old as usize] && readers[x] & !own != 0)
-            .collect();
-        if fits.is_empty() {
-            return false;
-        }
-        let new = rng.choose(&fits) as u16;
+        let fits = |&x: &usize| types[x] == types[old as usize] && readers[x] & !own != 0;
+        let new = one_of(rng, (0..types.len()).filter(fits))? as u16;
         if second {
             s.m.statements[n].c = new;
         } else {
             s.m.statements[n].b = new;
         }
-        true
+        Some(())
     }),
     ("a used variable moved", |rng, s| {
         if s.m.processes.len() < 2 {
-            return false;
+            return None;
         }
         let used = variables_used(&s.m);
-        let Some(v) = some(rng, &used, |&u| u) else {
-            return false;
-        };
+        let v = some(rng, &used, |&u| u)?;
         let others: Vec<u8> = (0..s.m.processes.len() as u8)
             .filter(|&p| p != s.m.variables[v].process)
             .collect();
         s.m.variables[v].process = rng.choose(&others);
-        true
+        Some(())
     }),
 ];
 
@@ -945,7 +807,7 @@ fn subject(rng: &mut Rng) -> Subject {
 fn damage_model(rng: &mut Rng, s: &mut Subject, rule: u32) -> Option<&'static str> {
     for _ in 0..20 {
         let (name, op) = rng.choose(model_ops(rule));
-        if op(rng, s) {
+        if op(rng, s).is_some() {
             return Some(name);
         }
     }
@@ -1068,41 +930,77 @@ fn small() -> Builder {
     b
 }
 
+fn changed(change: impl Fn(&mut Builder)) -> Vec<u8> {
+    let mut b = small();
+    change(&mut b);
+    b.encode()
+}
+
+/// Models by name, with the number that each comes to.
+#[derive(Default)]
+struct Limits(Vec<(String, Vec<u8>, u32)>);
+
+impl Limits {
+    fn add(&mut self, number: u32, name: impl Into<String>, bytes: Vec<u8>) {
+        self.0.push((name.into(), bytes, number));
+    }
+
+    /// The small model after a change.
+    fn changed(&mut self, number: u32, name: impl Into<String>, change: impl Fn(&mut Builder)) {
+        self.add(number, name, changed(change));
+    }
+
+    /// The small model with each value, its number beside it, in a field.
+    fn field(&mut self, what: &str, values: &[(i64, u32)], set: fn(&mut Model, i64)) {
+        for &(x, number) in values {
+            self.changed(number, format!("{what} {x}"), |b| set(&mut b.m, x));
+        }
+    }
+
+    /// A byte of block n changed, its sum repaired: the header is wrong.
+    fn header(&mut self, name: String, bytes: &[u8], n: usize, at: usize, value: u8) {
+        let mut bytes = bytes.to_vec();
+        bytes[BLOCK * n + at] = value;
+        repair(&mut bytes, n);
+        self.add(3, name, bytes);
+    }
+
+    /// A model of n records of a kind, up to `least` and about `most` many.
+    fn total(&mut self, what: &str, least: usize, most: usize, fill: fn(&mut Builder, usize)) {
+        for n in (0..=least).chain(most - 1..=most + 1) {
+            let mut b = Builder::new();
+            fill(&mut b, n);
+            let number = if n < least || n > most { 4 } else { 0 };
+            self.add(number, format!("{n} {what}"), b.encode());
+        }
+    }
+}
+
 /// Models on both sides of each limit: name, bytes, number.
 pub fn limits() -> Vec<(String, Vec<u8>, u32)> {
-    let mut list: Vec<(String, Vec<u8>, u32)> = vec![];
-    let mut add = |name: String, bytes: Vec<u8>, number: u32| list.push((name, bytes, number));
-    let model = |change: &dyn Fn(&mut Builder)| {
-        let mut b = small();
-        change(&mut b);
-        b.encode()
-    };
-    let accepted = model(&|_| ());
-    add("small model".into(), accepted.clone(), 0);
+    let mut list = Limits::default();
+    let accepted = small().encode();
+    list.add(0, "small model", accepted.clone());
 
     // Lengths.
     for length in [
         0, 1, 2, 511, 513, 1_023, 1_025, 32_767, 32_769, 33_279, 33_280, 65_536,
     ] {
-        add(format!("{length} zero bytes"), vec![0; length], 1);
+        list.add(1, format!("{length} zero bytes"), vec![0; length]);
         let mut bytes = accepted.clone();
         bytes.resize(length, 0);
-        add(format!("small model resized to {length}"), bytes, 1);
+        list.add(1, format!("small model resized to {length}"), bytes);
     }
     for length in [512, 1_024, 32_768] {
-        add(format!("{length} zero bytes"), vec![0; length], 2);
+        list.add(2, format!("{length} zero bytes"), vec![0; length]);
     }
     for total in [6, 7, 63, 64, 65, 66] {
         for kind in 1..=6 {
             let m = small().m;
             let mut plan = full_plan(&m);
             plan[kind - 1].splice(0..0, vec![0; total - 6]);
-            let number = if total > 64 { 1 } else { 0 };
-            add(
-                format!("{total} blocks, empty ones of kind {kind}"),
-                encode_with(&m, &plan),
-                number,
-            );
+            let name = format!("{total} blocks, empty ones of kind {kind}");
+            list.add((total > 64) as u32, name, encode_with(&m, &plan));
         }
     }
 
@@ -1113,18 +1011,16 @@ pub fn limits() -> Vec<(String, Vec<u8>, u32)> {
             let at = BLOCK * n + 510;
             let word = u16::from_le_bytes([bytes[at], bytes[at + 1]]).wrapping_add(off);
             bytes[at..at + 2].copy_from_slice(&word.to_le_bytes());
-            add(format!("sum of block {n} off by {off}"), bytes, 2);
+            list.add(2, format!("sum of block {n} off by {off}"), bytes);
         }
     }
 
     // Headers.
     let mut lone = vec![0; BLOCK];
     repair(&mut lone, 0);
-    add("a block of nothing but its sum".into(), lone, 3);
-    let empty: Vec<u8> = (1..=6)
-        .flat_map(|k| empty_block(k as usize - 1, k))
-        .collect();
-    add("six empty blocks".into(), empty, 4);
+    list.add(3, "a block of nothing but its sum", lone);
+    let empty = (1..=6).flat_map(|k| empty_block(k as usize - 1, k));
+    list.add(4, "six empty blocks", empty.collect());
     for (at, values) in [
         (0usize, &[1u8, 6, 64, 255][..]),
         (1, &[1, 128]),
@@ -1135,61 +1031,39 @@ pub fn limits() -> Vec<(String, Vec<u8>, u32)> {
         (509, &[1, 255]),
     ] {
         for &value in values {
-            for n in 0..blocks(&accepted) {
-                if at == 0 && value as usize == n {
-                    continue;
-                }
-                let mut bytes = accepted.clone();
-                bytes[BLOCK * n + at] = value;
-                repair(&mut bytes, n);
-                add(format!("block {n} byte {at} is {value}"), bytes, 3);
+            for n in (0..blocks(&accepted)).filter(|&n| at != 0 || n != value as usize) {
+                let name = format!("block {n} byte {at} is {value}");
+                list.header(name, &accepted, n, at, value);
             }
         }
     }
-    for records in [41, 42, 43, 84, 85] {
-        let m = model(&|b| {
-            b.m.nodes.resize(records, b.m.nodes[0]);
-        });
-        add(format!("{records} nodes"), m, 0);
+    let nodes = |n| changed(|b| b.m.nodes.resize(n, b.m.nodes[0]));
+    for n in [41, 42, 43, 84, 85] {
+        list.add(0, format!("{n} nodes"), nodes(n));
     }
-    let mut bytes = model(&|b| b.m.nodes.resize(42, b.m.nodes[0]));
-    bytes[BLOCK * 4 + 3] = 43;
-    repair(&mut bytes, 4);
-    add("43 records in a block".into(), bytes, 3);
-    let mut bytes = model(&|b| b.m.nodes.resize(42, b.m.nodes[0]));
-    bytes[BLOCK * 4 + 508] = 1;
-    repair(&mut bytes, 4);
-    add("42 records and a byte after them".into(), bytes, 3);
+    for (name, at, value) in [
+        ("43 records in a block", 3, 43),
+        ("42 records and a byte after them", 508, 1),
+    ] {
+        list.header(name.into(), &nodes(42), 4, at, value);
+    }
 
     // Totals.
-    for n in [0, 31, 32, 33] {
-        let number = if n > 32 { 4 } else { 0 };
-        let mut b = Builder::new();
+    list.total("signals", 0, 32, |b, n| {
         for x in 0..n {
             b.signal((x % 2) as u8, 0);
         }
         b.process();
-        let all = if n == 0 {
-            0
-        } else {
-            u32::MAX >> (32 - n.min(32))
-        };
-        b.wait(all, ABSENT, ABSENT);
-        add(format!("{n} signals"), b.encode(), number);
-    }
-    for n in [0, 63, 64, 65] {
-        let number = if n > 64 { 4 } else { 0 };
-        let mut b = Builder::new();
+        b.wait(((1u64 << n.min(32)) - 1) as u32, ABSENT, ABSENT);
+    });
+    list.total("variables", 0, 64, |b, n| {
         for x in 0..n {
             b.variable((x % 3) as u8, 0, 0);
         }
         b.process();
         b.null();
-        add(format!("{n} variables"), b.encode(), number);
-    }
-    for n in [0, 1, 15, 16, 17] {
-        let number = if n == 0 || n > 16 { 4 } else { 0 };
-        let mut b = Builder::new();
+    });
+    list.total("processes", 1, 16, |b, n| {
         for _ in 0..n {
             b.process();
             b.null();
@@ -1197,11 +1071,8 @@ pub fn limits() -> Vec<(String, Vec<u8>, u32)> {
         if n == 0 {
             b.m.statements.push(StatementRecord::default());
         }
-        add(format!("{n} processes"), b.encode(), number);
-    }
-    for n in [0, 63, 64, 65] {
-        let number = if n > 64 { 4 } else { 0 };
-        let mut b = Builder::new();
+    });
+    list.total("drivers", 0, 64, |b, n| {
         for _ in 0..32 {
             b.signal(LOGIC, 4);
         }
@@ -1213,284 +1084,159 @@ pub fn limits() -> Vec<(String, Vec<u8>, u32)> {
             }
         }
         b.m.drivers.truncate(n);
-        add(format!("{n} drivers"), b.encode(), number);
-    }
-    for n in [0, 399, 400, 401] {
-        let number = if n > 400 { 4 } else { 0 };
-        let mut b = Builder::new();
+    });
+    list.total("nodes alone", 0, 400, |b, n| {
         b.process();
         b.null();
         for k in 0..n {
-            b.integer(k);
+            b.integer(k as i32);
         }
-        add(format!("{n} nodes alone"), b.encode(), number);
-    }
-    for n in [0, 1, 199, 200, 201] {
-        let number = if n == 0 || n > 200 { 4 } else { 0 };
-        let mut b = Builder::new();
+    });
+    list.total("statements", 1, 200, |b, n| {
         b.process();
         for _ in 0..n {
             b.null();
         }
-        add(format!("{n} statements"), b.encode(), number);
-    }
+    });
 
     // Field values.
-    for (start, number) in [(TOP, 0), (-TOP, 0), (i32::MIN, 5)] {
-        add(
-            format!("integer signal starts at {start}"),
-            model(&|b| b.m.signals[0].start = start),
-            number,
-        );
-        add(
-            format!("integer variable starts at {start}"),
-            model(&|b| b.m.variables[0].start = start),
-            number,
-        );
-        add(
-            format!("integer constant {start}"),
-            model(&|b| b.m.nodes[0].k = start),
-            number,
-        );
-    }
-    for (start, number) in [(0, 0), (8, 0), (9, 5), (-1, 5), (256, 5), (i32::MIN, 5)] {
-        add(
-            format!("logic signal starts at {start}"),
-            model(&|b| b.m.signals[1].start = start),
-            number,
-        );
-        add(
-            format!("logic variable starts at {start}"),
-            model(&|b| b.m.variables[1].start = start),
-            number,
-        );
-        add(
-            format!("logic constant {start}"),
-            model(&|b| b.m.nodes[1].k = start),
-            number,
-        );
-    }
-    for (start, number) in [(0, 0), (1, 0), (2, 5), (-1, 5), (256, 5)] {
-        add(
-            format!("boolean variable starts at {start}"),
-            model(&|b| b.m.variables[2].start = start),
-            number,
-        );
-    }
-    for (k, number) in [(0, 0), (1, 0), (31, 0), (32, 5), (-1, 5)] {
-        add(
-            format!("signal delayed by {k}"),
-            model(&|b| b.m.nodes[4].k = k),
-            number,
-        );
-    }
-    add(
-        "a boolean signal".into(),
-        model(&|b| b.m.signals[0].ty = 2),
-        5,
-    );
-    add(
-        "variable type 3".into(),
-        model(&|b| b.m.variables[2].ty = 3),
-        5,
-    );
-    for (process, number) in [(1, 0), (2, 5), (255, 5)] {
-        add(
-            format!("an idle variable of process {process}"),
-            model(&|b| b.m.variables[1].process = process),
-            number,
-        );
-        add(
-            format!("last driver of process {process}"),
-            model(&|b| b.m.drivers[2].process = process),
-            number,
-        );
-    }
-    for (signal, number) in [(1, 0), (2, 5), (32, 5), (255, 5)] {
-        add(
-            format!("last driver of signal {signal}"),
-            model(&|b| b.m.drivers[2].signal = signal),
-            number,
-        );
-    }
-    for (kind, number) in [(0, 5), (15, 5), (255, 5)] {
-        add(
-            format!("node kind {kind}"),
-            model(&|b| b.m.nodes[0].kind = kind),
-            number,
-        );
-    }
-    add(
-        "statement kind 6".into(),
-        model(&|b| b.m.statements[0].kind = 6),
-        5,
-    );
-    for (set, number) in [
+    let whole = [(TOP, 0), (-TOP, 0), (-TOP - 1, 5)];
+    list.field("integer signal starts at", &whole, |m, x| {
+        m.signals[0].start = x as i32
+    });
+    list.field("integer variable starts at", &whole, |m, x| {
+        m.variables[0].start = x as i32
+    });
+    list.field("integer constant", &whole, |m, x| m.nodes[0].k = x as i32);
+    let codes = [(0, 0), (8, 0), (9, 5), (-1, 5), (256, 5), (-TOP - 1, 5)];
+    list.field("logic signal starts at", &codes, |m, x| {
+        m.signals[1].start = x as i32
+    });
+    list.field("logic variable starts at", &codes, |m, x| {
+        m.variables[1].start = x as i32
+    });
+    list.field("logic constant", &codes, |m, x| m.nodes[1].k = x as i32);
+    let truths = [(0, 0), (1, 0), (2, 5), (-1, 5), (256, 5)];
+    list.field("boolean variable starts at", &truths, |m, x| {
+        m.variables[2].start = x as i32
+    });
+    let delays = [(0, 0), (1, 0), (31, 0), (32, 5), (-1, 5)];
+    list.field("signal delayed by", &delays, |m, x| m.nodes[4].k = x as i32);
+    list.changed(5, "a boolean signal", |b| b.m.signals[0].ty = 2);
+    list.changed(5, "variable type 3", |b| b.m.variables[2].ty = 3);
+    let processes = [(1, 0), (2, 5), (255, 5)];
+    list.field("an idle variable of process", &processes, |m, x| {
+        m.variables[1].process = x as u8
+    });
+    list.field("last driver of process", &processes, |m, x| {
+        m.drivers[2].process = x as u8
+    });
+    let signals = [(1, 0), (2, 5), (32, 5), (255, 5)];
+    list.field("last driver of signal", &signals, |m, x| {
+        m.drivers[2].signal = x as u8
+    });
+    let kinds = [(0, 5), (15, 5), (255, 5)];
+    list.field("node kind", &kinds, |m, x| m.nodes[0].kind = x as u8);
+    list.changed(5, "statement kind 6", |b| b.m.statements[0].kind = 6);
+    let sets = [
         (0, 0),
         (1, 0),
         (3, 0),
         (4, 5),
         (7, 5),
         (1 << 31, 5),
-        (u32::MAX, 5),
-    ] {
-        add(
-            format!("a wait on set {set}"),
-            model(&|b| b.m.statements[3].set = set),
-            number,
-        );
-    }
-    for (node, number) in [(6, 0), (7, 5), (65_534, 5), (65_535, 0)] {
-        add(
-            format!("a wait until node {node}"),
-            model(&|b| b.m.statements[3].b = node),
-            number,
-        );
-    }
-    for (node, number) in [(5, 0), (7, 5), (65_534, 5), (65_535, 0)] {
-        add(
-            format!("a wait for node {node}"),
-            model(&|b| b.m.statements[3].c = node),
-            number,
-        );
-    }
-    for (node, number) in [(5, 0), (7, 5), (65_534, 5), (65_535, 5)] {
-        add(
-            format!("an assignment of node {node}"),
-            model(&|b| b.m.statements[0].b = node),
-            number,
-        );
-        add(
-            format!("a transaction of node {node}"),
-            model(&|b| b.m.statements[1].b = node),
-            number,
-        );
-        add(
-            format!("a transaction after node {node}"),
-            model(&|b| b.m.statements[1].c = node),
-            number,
-        );
-    }
-    add(
-        "unless without a condition".into(),
-        model(&|b| b.m.statements[2].b = ABSENT),
-        5,
-    );
-    for (target, number) in [(0, 0), (2, 0), (3, 0), (4, 5), (6, 5), (7, 5), (65_535, 5)] {
-        add(
-            format!("process 0 jumps to {target}"),
-            model(&|b| b.m.statements[2].a = target),
-            number,
-        );
-    }
-    for (target, number) in [(0, 5), (3, 5), (4, 0), (6, 0), (7, 5), (65_535, 5)] {
-        add(
-            format!("process 1 jumps to {target}"),
-            model(&|b| b.m.statements[5].a = target),
-            number,
-        );
-    }
+        (u32::MAX as i64, 5),
+    ];
+    list.field("a wait on set", &sets, |m, x| {
+        m.statements[3].set = x as u32
+    });
+    let conditions = [(6, 0), (7, 5), (65_534, 5), (65_535, 0)];
+    list.field("a wait until node", &conditions, |m, x| {
+        m.statements[3].b = x as u16
+    });
+    let times = [(5, 0), (7, 5), (65_534, 5), (65_535, 0)];
+    list.field("a wait for node", &times, |m, x| {
+        m.statements[3].c = x as u16
+    });
+    let values = [(5, 0), (7, 5), (65_534, 5), (65_535, 5)];
+    list.field("an assignment of node", &values, |m, x| {
+        m.statements[0].b = x as u16
+    });
+    list.field("a transaction of node", &values, |m, x| {
+        m.statements[1].b = x as u16
+    });
+    list.field("a transaction after node", &values, |m, x| {
+        m.statements[1].c = x as u16
+    });
+    list.changed(5, "unless without a condition", |b| {
+        b.m.statements[2].b = ABSENT
+    });
+    let own = [(0, 0), (2, 0), (3, 0), (4, 5), (6, 5), (7, 5), (65_535, 5)];
+    list.field("process 0 jumps to", &own, |m, x| {
+        m.statements[2].a = x as u16
+    });
+    let own = [(0, 5), (3, 5), (4, 0), (6, 0), (7, 5), (65_535, 5)];
+    list.field("process 1 jumps to", &own, |m, x| {
+        m.statements[5].a = x as u16
+    });
 
     // Spans.
-    for (first, count, number) in [
-        (4, 3, 0),
-        (3, 3, 5),
-        (3, 4, 5),
-        (5, 3, 5),
-        (5, 2, 5),
-        (4, 2, 5),
-        (4, 4, 5),
-        (4, 0, 5),
+    for (p, first, count, number) in [
+        (1, 4, 3, 0),
+        (1, 3, 3, 5),
+        (1, 3, 4, 5),
+        (1, 5, 3, 5),
+        (1, 5, 2, 5),
+        (1, 4, 2, 5),
+        (1, 4, 4, 5),
+        (1, 4, 0, 5),
+        (0, 0, 4, 0),
+        (0, 0, 3, 5),
+        (0, 0, 5, 5),
+        (0, 1, 3, 5),
+        (0, 0, 0, 5),
+        (0, 0, 65_535, 5),
     ] {
-        add(
-            format!("process 1 from {first} with {count}"),
-            model(&|b| b.m.processes[1] = ProcessRecord { first, count }),
-            number,
-        );
-    }
-    for (first, count, number) in [
-        (0, 4, 0),
-        (0, 3, 5),
-        (0, 5, 5),
-        (1, 3, 5),
-        (0, 0, 5),
-        (0, 65_535, 5),
-    ] {
-        add(
-            format!("process 0 from {first} with {count}"),
-            model(&|b| b.m.processes[0] = ProcessRecord { first, count }),
-            number,
-        );
+        let name = format!("process {p} from {first} with {count}");
+        list.changed(number, name, |b| {
+            b.m.processes[p] = ProcessRecord { first, count }
+        });
     }
     // Spans whose 16-bit sums would come round to the right places.
-    add(
-        "spans that meet modulo 65,536".into(),
-        model(&|b| {
-            b.m.processes = vec![
-                ProcessRecord {
-                    first: 0,
-                    count: 65_535,
-                },
-                ProcessRecord {
-                    first: 65_535,
-                    count: 8,
-                },
-            ]
-        }),
-        5,
-    );
+    list.changed(5, "spans that meet modulo 65,536", |b| {
+        b.m.processes[0].count = 65_535;
+        b.m.processes[1].first = 65_535;
+        b.m.processes[1].count = 8;
+    });
 
     // Operands and trees.
-    for (operand, number) in [(4, 7), (5, 6), (6, 6), (7, 6), (65_535, 6)] {
-        add(
-            format!("node 5 over operand {operand}"),
-            model(&|b| b.m.nodes[5].b = operand),
-            number,
-        );
-    }
+    let operands = [(4, 7), (5, 6), (6, 6), (7, 6), (65_535, 6)];
+    list.field("node 5 over operand", &operands, |m, x| {
+        m.nodes[5].b = x as u16
+    });
     for size in [63, 64, 65, 66] {
         let number = if size > 64 { 6 } else { 0 };
         for used in [true, false] {
-            let grow = |b: &mut Builder| {
-                let mut n = 0;
-                for _ in 1..size {
-                    n = b.unary(10, n);
-                }
+            let name = format!("a chain of {size}, used: {used}");
+            list.changed(number, name, |b| {
+                let n = (1..size).fold(0, |n, _| b.unary(10, n));
                 if used {
                     b.m.statements[0].b = n;
                 }
-            };
-            add(
-                format!("a chain of {size}, used: {used}"),
-                model(&grow),
-                number,
-            );
-            let grow = |b: &mut Builder| {
-                let mut n = 0;
-                for _ in 0..5 {
-                    n = b.binary(11, n, n);
-                }
-                for _ in 63..size {
-                    n = b.unary(10, n);
-                }
+            });
+            let name = format!("a tree of {size} with repeats, used: {used}");
+            list.changed(number, name, |b| {
+                let n = (0..5).fold(0, |n, _| b.binary(11, n, n));
+                let n = (63..size).fold(n, |n, _| b.unary(10, n));
                 if used {
                     b.m.statements[1].b = n;
                 }
-            };
-            add(
-                format!("a tree of {size} with repeats, used: {used}"),
-                model(&grow),
-                number,
-            );
+            });
         }
     }
-    let grow = |b: &mut Builder| {
-        let mut n = 0;
-        for _ in 0..390 {
-            n = b.binary(11, n, n);
-        }
-    };
-    add("repeats without end".into(), model(&grow), 6);
+    list.changed(6, "repeats without end", |b| {
+        (0..390).fold(0, |n, _| b.binary(11, n, n));
+    });
 
     // Types of every node kind over every pair of types.
     for kind in 6..=14u8 {
@@ -1507,50 +1253,34 @@ pub fn limits() -> Vec<(String, Vec<u8>, u32)> {
                     13 => ta == tb && ta != BOOLEAN,
                     _ => ta == INTEGER && tb == INTEGER,
                 };
-                add(
-                    format!("node kind {kind} over types {ta} and {tb}"),
-                    model(&|m| {
-                        m.node(kind, a, if one { 0 } else { b }, 0);
-                    }),
-                    if right { 0 } else { 7 },
-                );
+                let name = format!("node kind {kind} over types {ta} and {tb}");
+                list.changed(if right { 0 } else { 7 }, name, |m| {
+                    m.node(kind, a, if one { 0 } else { b }, 0);
+                });
             }
         }
     }
 
     // Drivers and variables.
-    add("a driver twice".into(), model(&|b| b.driver(1, 1)), 8);
-    add(
-        "a second driver of an integer signal".into(),
-        model(&|b| b.m.drivers[2].signal = 0),
-        8,
-    );
-    add("no drivers".into(), model(&|b| b.m.drivers.clear()), 8);
-    add(
-        "a variable of the other process".into(),
-        model(&|b| b.m.variables[0].process = 1),
-        8,
-    );
-    add(
-        "an unused node over a variable of the other process".into(),
-        model(&|b| {
-            b.unary(6, 3);
-        }),
-        0,
-    );
-    add(
-        "a skipped part over a variable of the other process".into(),
-        model(&|b| {
-            let truth = b.binary(13, 0, 0);
-            let either = b.binary(8, truth, 3);
-            b.m.statements[2].b = either;
-        }),
-        8,
-    );
-    list
+    list.changed(8, "a driver twice", |b| b.driver(1, 1));
+    let name = "a second driver of an integer signal";
+    list.changed(8, name, |b| b.m.drivers[2].signal = 0);
+    list.changed(8, "no drivers", |b| b.m.drivers.clear());
+    let name = "a variable of the other process";
+    list.changed(8, name, |b| b.m.variables[0].process = 1);
+    let name = "an unused node over a variable of the other process";
+    list.changed(0, name, |b| {
+        b.unary(6, 3);
+    });
+    let name = "a skipped part over a variable of the other process";
+    list.changed(8, name, |b| {
+        let truth = b.binary(13, 0, 0);
+        b.m.statements[2].b = b.binary(8, truth, 3);
+    });
+    list.0
 }
 
-const TOP: i32 = 2_147_483_647;
+const TOP: i64 = 2_147_483_647;
 
 #[cfg(test)]
 mod tests {

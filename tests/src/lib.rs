@@ -18,3 +18,14 @@ pub mod vhdl;
 
 #[cfg(test)]
 mod bench;
+
+/// The end of a program: an error is told on standard error.
+pub fn end(program: &str, result: Result<(), String>) -> std::process::ExitCode {
+    match result {
+        Ok(()) => std::process::ExitCode::SUCCESS,
+        Err(message) => {
+            eprintln!("{program}: {message}");
+            std::process::ExitCode::FAILURE
+        }
+    }
+}

@@ -15,6 +15,47 @@ pub type Judge<'a> = &'a dyn Fn(&[u8]) -> u32;
 /// Another kernel's session: model, orders, answers and dump to its number.
 pub type Session<'a> = &'a dyn Fn(&[u8], &[u8], &mut [u8], &mut [u8]) -> u32;
 
+/// What `tally` and `compare` do: `models N SEED`, `sessions N SEED` or
+/// `limits`, in this kernel and in the other one where it is given.
+pub fn run(name: &str, judge: Option<Judge>, session: Option<Session>) -> Result<(), String> {
+    let arguments: Vec<String> = std::env::args().skip(1).collect();
+    let number = |n: usize, name: &str| {
+        let text = arguments.get(n).ok_or(format!("{name} is missing"))?;
+        text.parse::<u64>()
+            .map_err(|_| format!("{name} is not a number: {text}"))
+    };
+    let cases = match arguments.first().map(String::as_str) {
+        Some("models") => {
+            let (n, seed) = (number(1, "N")?, number(2, "SEED")?);
+            models(n, seed, judge)?.print();
+            format!("{n} judged models from seed {seed} on")
+        }
+        Some("sessions") => {
+            let (n, seed) = (number(1, "N")?, number(2, "SEED")?);
+            if judge.is_some() && session.is_none() {
+                return Err("this build has no sessions to compare".into());
+            }
+            sessions(n, seed, session)?.print();
+            format!("{n} sessions from seed {seed} on")
+        }
+        Some("limits") => {
+            let counts = limits(judge, session)?;
+            counts.print();
+            let cases = counts.models.iter().chain(&counts.sessions).sum::<u64>();
+            format!("{cases} limit cases")
+        }
+        _ => {
+            return Err(format!(
+                "use: {name} models N SEED | sessions N SEED | limits"
+            ))
+        }
+    };
+    if judge.is_some() {
+        println!("no difference in {cases}");
+    }
+    Ok(())
+}
+
 #[derive(Default)]
 pub struct ModelTally {
     pub cases: u64,

@@ -2,14 +2,14 @@
 use mathlib.Core.Path.{_≡_, refl, _∙_}
 use mathlib.Core.List.{List, [], _∷_, _++_, map}
 use mathlib.Core.Option.{Option, none, some}
-use Prim.Native.Nat.{ℕ, zero, suc, _+_, _-_, _≤_, _<_, min}
+use Prim.Native.Nat.{ℕ, zero, suc, _-_, _≤_, _<_, min}
 use native.Mathlib.Omega.{arith}
 use lib.Dec.{eqb, lit≤}
 use lib.ListN.{length, getD, replicate, length-map, length-take, length-append, length-replicate, getD-replicate}
 use lib.Seq.{getD-take}
 use borrow.Author.Tests.{eqb-true, eqb-false}
 use Rattle.base.proofs.Cases.{by-test}
-use Rattle.base.proofs.Below.{list-length, list-at, at-append}
+use Rattle.base.proofs.Below.{at-append, map-at, list-length, list-at}
 use Rattle.model.specs.Records.{Model, signalAt, driverAt, statementAt}
 use Rattle.model.specs.Fields.{absent}
 use Rattle.model.specs.Trees.{boolean}
@@ -22,7 +22,7 @@ use Rattle.cycle.specs.Evaluation.{Environment, environmentOf, evalOf}
 use Rattle.cycle.specs.Steps.{taken, deadlineDue, active, withCurrent, signalAfter, signalsAfter, changedIn, wakes, wokenBy, wokenIf, wokenAt, processAfterDelta, deltaStep, shifted, timeStep}
 use Rattle.cycle.specs.Orders.{optional, earliest, dueTimes}
 use Rattle.cycle.specs.Invariant.{ValueOf, lastTime, DriverFine, DeadlineFine, ProcessFine, Reachable}
-use Rattle.cycle.proofs.Lists.{All, map-at}
+use Rattle.cycle.proofs.Lists.{All}
 use Rattle.cycle.proofs.Evaluation.{Typed, EnvironmentFits, value-typed}
 use Rattle.cycle.proofs.Waves.{driver-taken, driver-later}
 use Rattle.cycle.proofs.Driving.{resolved-typed}

@@ -1,11 +1,11 @@
 -- Expressions and statements read from the struct's arrays what the rules read from its view. Assumes nothing.
-use mathlib.Core.Path.{_≡_, sym, _∙_}
+use mathlib.Core.Path.{_≡_, sym}
 use mathlib.Core.List.{List, []}
 use Prim.Native.Nat.{ℕ, _+_, _*_, _≤_, _<_}
 use native.Mathlib.Omega.{arith}
 use lib.ListN.{length, getD}
 use Rattle.base.specs.Below.{listBelow}
-use Rattle.base.proofs.Below.{list-length, list-at}
+use Rattle.base.proofs.Below.{list-at}
 use Rattle.model.specs.Records.{Model}
 use Rattle.model.specs.Facts.{Facts, StatementFits}
 use Rattle.model.specs.declared.records.StatementRecord.{StatementRecord}
@@ -17,6 +17,7 @@ use Rattle.cycle.specs.View.{historyOf, viewOf, arrays}
 use Rattle.cycle.specs.declared.config.Config.{Config}
 use Rattle.cycle.proofs.Evaluation.{agree-all}
 use Rattle.cycle.proofs.Picks.{effect-same}
+use Rattle.cycle.proofs.ViewLaws.{history-at, ns-is, nv-is}
 
 -- what is read from the lists that arrays of variables and signals hold
 abbrev pub listed : List ℕ → List ℕ → ℕ → ℕ → Environment
@@ -25,9 +26,7 @@ listed vs ss nv ns = environmentOf (listBelow (λ a. getD vs a 0) nv) (listBelow
 -- lists as long as the model says
 module _ (M : Model) (fs : Facts M) (vs ss : List ℕ) (nv ns : ℕ) (some : nv ≡ length (M .variables)) (many : ns ≡ length (M .signals)) where
   signal-listed : (s k : ℕ) → s < length (M .signals) → k ≤ 31 → getD ss (32 * s + k) 0 ≡ pastOf (listBelow (historyOf ss) ns) s k
-  unfolding historyOf
-  signal-listed s k h l =
-      rw (list-at (historyOf ss) [] ns s (omega arith)) (sym (list-at (λ k. getD ss (32 * s + k) 0) 0 32 k (omega arith)))
+  signal-listed s k h l = rw (list-at (historyOf ss) [] ns s (omega arith)) (sym (history-at ss s k (omega arith)))
 
   variable-listed : (a : ℕ) → a < length (M .variables) → getD vs a 0 ≡ getD (listBelow (λ a. getD vs a 0) nv) a 0
   variable-listed a h = sym (list-at (λ a. getD vs a 0) 0 nv a (omega arith))
@@ -40,14 +39,6 @@ module _ (M : Model) (fs : Facts M) (vs ss : List ℕ) (nv ns : ℕ) (some : nv 
 
 -- the same of a struct and its view
 module _ (M : Model) (fs : Facts M) (c : Config) (r : Reachable M (viewOf c)) where
-  some : c .nv ≡ length (M .variables)
-  unfolding viewOf
-  some = sym (list-length (λ a. getD (c .variables) a 0) (c .nv)) ∙ r .variables
-
-  many : c .ns ≡ length (M .signals)
-  unfolding viewOf
-  many = sym (list-length (historyOf (c .signals)) (c .ns)) ∙ r .signals
-
   pub effect-viewed : (p : ℕ) (s : StatementRecord) → StatementFits M p s → effectBy M (arrays (c .variables) (c .signals)) p s ≡ effectBy M (environmentOf (viewOf c .variables) (viewOf c .signals)) p s
   unfolding viewOf
-  effect-viewed = effect-listed M fs (c .variables) (c .signals) (c .nv) (c .ns) some many
+  effect-viewed = effect-listed M fs (c .variables) (c .signals) (c .nv) (c .ns) (nv-is M c r) (ns-is M c r)

@@ -3,11 +3,12 @@
 use mathlib.Core.Path.{_≡_, refl, sym, ap, _∙_, subst}
 use mathlib.Core.List.{List, [], _∷_}
 use Prim.Native.Nat.{ℕ, _+_, _≤_, _<_}
-use native.Mathlib.Decide.{decLt, ℕ-discrete}
+use native.Mathlib.Decide.{decLt}
 use native.Mathlib.Omega.{arith}
 use lib.Dec.{eqb}
 use lib.ListN.{length, getD, set, drop, length-set}
 use lib.Seq.{getD-set-same, getD-set-other}
+use borrow.Author.Count.{below-none, below-more}
 use borrow.Author.Tests.{eq-eqb, ne-eqb}
 use Rattle.model.specs.Records.{Model}
 use Rattle.cycle.specs.Configuration.{Transaction, DriverState}
@@ -104,7 +105,7 @@ pub record Taking (c : Config) (k : ℕ) (r : Config) : Type 0 where
 module _ (c : Config) where
   pub taking-none : length (c .signals) ≡ 1024 → length (c .currents) ≡ 64 → length (c .due) ≡ 64 → length (c .drivers) ≡ 64 → Taking c 0 c
   taking-none s u d r =
-      record { rest = refl; signals = s; currents = u; dues = d; drivers = r; done = λ j h. absurd (omega arith); left = λ j h. refl }
+      record { rest = refl; signals = s; currents = u; dues = d; drivers = r; done = below-none _; left = λ j h. refl }
 
   module _ (k : ℕ) (r : Config) (t : Taking c k r) where
     pub taking-same : TakenSlot (c .time) (slotOf r k) (slotOf r k) → Taking c (k + 1) r
@@ -115,15 +116,9 @@ module _ (c : Config) where
           currents = t .currents;
           dues = t .dues;
           drivers = t .drivers;
-          done = done;
+          done = below-more _ _ (t .done) (subst (λ (y : Slot). TakenSlot (c .time) y (slotOf r k)) (t .left k (omega arith)) x);
           left = λ j h. t .left j (omega arith);
         }
-      where
-        here : TakenSlot (c .time) (slotOf c k) (slotOf r k)
-        here = subst (λ (y : Slot). TakenSlot (c .time) y (slotOf r k)) (t .left k (omega arith)) x
-
-        done : (j : ℕ) → j < k + 1 → TakenSlot (c .time) (slotOf c j) (slotOf r j)
-        done j h = elim (ℕ-discrete j k) [ yes q ↦ rw q here | no q ↦ t .done j (omega (arith, q)) ]
 
     module _ (h : k < 64) (y : Slot) (x : TakenSlot (c .time) (slotOf r k) y) where
       abbrev next : Config
@@ -151,13 +146,6 @@ module _ (c : Config) where
       taken-here : TakenSlot (c .time) (slotOf c k) (slotOf next k)
       taken-here = subst (λ (z : Slot). TakenSlot (c .time) (slotOf c k) z) (sym here) (subst (λ (z : Slot). TakenSlot (c .time) z y) (t .left k (omega arith)) x)
 
-      done' : (j : ℕ) → j < k + 1 → TakenSlot (c .time) (slotOf c j) (slotOf next j)
-      done' j l =
-          elim (ℕ-discrete j k) [
-            | yes q ↦ rw q taken-here
-            | no q ↦ subst (λ (z : Slot). TakenSlot (c .time) (slotOf c j) z) (sym (elsewhere j q)) (t .done j (omega (arith, q)))
-          ]
-
       pub taking-more : Taking c (k + 1) next
       taking-more =
           record {
@@ -166,7 +154,7 @@ module _ (c : Config) where
             currents = length-set (r .currents) k (y .current) ∙ t .currents;
             dues = length-set (r .due) k (y .due) ∙ t .dues;
             drivers = length-set (r .drivers) k (y .driver) ∙ t .drivers;
-            done = done';
+            done = below-more _ _ (λ j l. subst (λ (z : Slot). TakenSlot (c .time) (slotOf c j) z) (sym (elsewhere j (λ q. omega arith))) (t .done j l)) taken-here;
             left = λ j l. elsewhere j (λ q. omega arith) ∙ t .left j (omega arith);
           }
 
@@ -180,8 +168,8 @@ module _ (M : Model) (c : Config) (f : Fine M c) where
   time-most = f .reachable .time
 
   module _ (k : ℕ) (h : k < c .nd) where
-    few : getD (c .drivers) k noDriver .count ≤ 8
-    few =
+    pub few-pending : getD (c .drivers) k noDriver .count ≤ 8
+    few-pending =
         let l : k < length (M .drivers) = omega (arith, nd-is M c (f .reachable)) in
         let e : length (pendingOf (getD (c .drivers) k noDriver)) ≤ 8 = rw (pending-in c k h) at (f .reachable .each-driver k l .few) in
         omega (arith, pending-length (getD (c .drivers) k noDriver))
@@ -191,4 +179,4 @@ module _ (M : Model) (c : Config) (f : Fine M c) where
       next-timed = subst Timed (sym (t .left k (omega arith))) (f .due k h)
 
       pub next-few : slotOf r k .driver .count ≤ 8
-      next-few = subst (λ (x : Slot). x .driver .count ≤ 8) (sym (t .left k (omega arith))) few
+      next-few = subst (λ (x : Slot). x .driver .count ≤ 8) (sym (t .left k (omega arith))) few-pending

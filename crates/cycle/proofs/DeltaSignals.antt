@@ -1,14 +1,15 @@
 -- The signals of a delta step: the loops that mark the active ones and that resolve them. Assumes nothing.
 use mathlib.Core.Path.{_≡_, refl, sym, _∙_}
-use mathlib.Core.Bool.{Bool, true, false, not, _&&_, _||_}
+use mathlib.Core.Bool.{true, false, not, _&&_, _||_, and-false, or-false}
 use mathlib.Core.List.{List}
 use Prim.Native.Nat.{ℕ, _+_, _*_, _≤_, _<_}
-use native.Mathlib.Nat.{le-antisymm}
+use native.Mathlib.Nat.{add-zero, le-antisymm}
 use native.Mathlib.Decide.{ℕ-discrete}
 use native.Mathlib.Omega.{arith}
 use lib.Dec.{eqb}
 use lib.ListN.{length, getD, set}
 use lib.Seq.{getD-set-same, getD-set-other}
+use borrow.Author.Count.{below-none, below-more}
 use borrow.Author.Tests.{eq-eqb, ne-eqb}
 use Rattle.base.proofs.Below.{any-start, any-next}
 use Rattle.model.specs.Records.{Model, driverAt}
@@ -19,11 +20,6 @@ use Rattle.cycle.specs.Steps.{inSet}
 use Rattle.cycle.specs.Arrays.{drivingIn}
 use Rattle.cycle.specs.Delta.{SetOf, activeIn, currentAfter, ResolvedTo}
 use Rattle.cycle.proofs.SignalSets.{in-none}
-
-or-nothing : (a x : Bool) → (a || (x && false)) ≡ a
-or-nothing true x = refl
-or-nothing false true = refl
-or-nothing false false = refl
 
 -- one driver after the other
 module _ (M : Model) (due : List ℕ) (t : ℕ) where
@@ -38,7 +34,7 @@ module _ (M : Model) (due : List ℕ) (t : ℕ) where
 
   pub active-same : (k set : ℕ) → (getD due k 0 ≡ t → ⊥) → SetOf (activeIn M due t k) set → SetOf (activeIn M due t (k + 1)) set
   unfolding activeIn
-  active-same k set d a = record { at = λ s h. a .at s h ∙ rw (any-next, ne-eqb (getD due k 0) t d, or-nothing) }
+  active-same k set d a = record { at = λ s h. a .at s h ∙ rw (any-next, ne-eqb (getD due k 0) t d, and-false, or-false) }
 
   pub active-all : (k n set : ℕ) → k ≤ n → n ≤ k → SetOf (activeIn M due t k) set → SetOf (activeIn M due t n) set
   active-all k n set h g a = rw (le-antisymm h g) at a
@@ -52,7 +48,7 @@ module _ (M : Model) (currents : List ℕ) (nd active : ℕ) (old : List ℕ) wh
   pub resolved-none : ResolvedTo M currents nd active old 0 old 0
   resolved-none =
       record {
-        current = λ s h. absurd (omega arith);
+        current = below-none _;
         other = λ s k h g. refl;
         changed = record { at = λ s h. in-none s ∙ rw (eq-eqb (getD old (32 * s) 0) (getD old (32 * s) 0) refl) };
       }
@@ -60,19 +56,17 @@ module _ (M : Model) (currents : List ℕ) (nd active : ℕ) (old : List ℕ) wh
   module _ (j : ℕ) (new : List ℕ) (changes : ℕ) (r : ResolvedTo M currents nd active old j new changes) where
     -- signal j has its old value before its turn
     before-turn : getD new (32 * j) 0 ≡ getD old (32 * j) 0
-    before-turn = let z : 32 * j + 0 ≡ 32 * j = omega arith in rw z at (r .other j 0 (omega arith) (λ e. omega arith))
+    before-turn = simp add-zero at (r .other j 0 (omega arith) (λ e. omega arith))
 
     -- it is not active
     pub resolved-same : inSet active j ≡ false → ResolvedTo M currents nd active old (j + 1) new changes
     unfolding currentAfter
-    resolved-same e = record { current = current; other = λ s k h g. r .other s k h (λ q. omega (arith, g q)); changed = r .changed }
-      where
-        current : (s : ℕ) → s < j + 1 → getD new (32 * s) 0 ≡ currentAfter M currents nd active old s
-        current s h =
-            elim (ℕ-discrete s j) [
-              | yes q ↦ rw (q, e) before-turn
-              | no q ↦ r .current s (omega (arith, q))
-            ]
+    resolved-same e =
+        record {
+          current = below-more _ _ (r .current) (rw e before-turn);
+          other = λ s k h g. r .other s k h (λ q. omega (arith, g q));
+          changed = r .changed;
+        }
 
     -- it is active, and v the resolution of its drivers' values, o being its old value
     module _ (o v changes' : ℕ) (a : inSet active j ≡ true) (l : 32 * j < length new) (e : o ≡ getD new (32 * j) 0)
@@ -89,11 +83,7 @@ module _ (M : Model) (currents : List ℕ) (nd active : ℕ) (old : List ℕ) wh
 
         current' : (s : ℕ) → s < j + 1 → getD new' (32 * s) 0 ≡ currentAfter M currents nd active old s
         unfolding currentAfter
-        current' s h =
-            elim (ℕ-discrete s j) [
-              | yes q ↦ rw (q, a, here, ← before-turn, ← e) is
-              | no q ↦ elsewhere (32 * s) (λ p. q (omega arith)) ∙ r .current s (omega (arith, q))
-            ]
+        current' = below-more _ _ (λ s h. elsewhere (32 * s) (λ p. omega arith) ∙ r .current s h) (rw (a, here, ← before-turn, ← e) is)
 
         other' : (s k : ℕ) → k < 32 → (k ≡ 0 → j + 1 ≤ s) → getD new' (32 * s + k) 0 ≡ getD old (32 * s + k) 0
         other' s k h g =
@@ -104,12 +94,8 @@ module _ (M : Model) (currents : List ℕ) (nd active : ℕ) (old : List ℕ) wh
             w .at s h
             ∙ elim (ℕ-discrete j s) [
               | yes q ↦ rw (← q, r .changed .at j (omega arith), here, ← before-turn, ← e, eq-eqb o o refl, eq-eqb j j refl)
-              | no q ↦ rw (ne-eqb j s q, r .changed .at s h, elsewhere (32 * s) (λ p. q (omega arith))) (or-nothing' _)
+              | no q ↦ rw (ne-eqb j s q, r .changed .at s h, elsewhere (32 * s) (λ p. q (omega arith)), or-false)
             ]
-          where
-            or-nothing' : (b : Bool) → (b || false) ≡ b
-            or-nothing' true = refl
-            or-nothing' false = refl
 
         pub resolved-more : ResolvedTo M currents nd active old (j + 1) new' changes'
         resolved-more = record { current = current'; other = other'; changed = record { at = changed' } }

@@ -1,24 +1,24 @@
 -- The struct after a delta step holds the configuration after the delta step of the rules. Assumes nothing.
 use mathlib.Core.Path.{_≡_, refl, sym, ap, _∙_, subst}
-use mathlib.Core.Bool.{Bool, true, false, not, _&&_, _||_}
-use mathlib.Core.List.{List, [], _∷_, _++_, map}
+use mathlib.Core.Bool.{Bool, false, not, _&&_, or-false, and-false}
+use mathlib.Core.List.{List, [], _∷_, map, map-append}
 use mathlib.Core.Logic.{⊎-elim}
 use Prim.Native.Nat.{ℕ, zero, suc, _+_, _*_, _≤_, _<_}
-use native.Mathlib.Nat.{eq-or-lt-of-le}
+use native.Mathlib.Nat.{add-zero, eq-or-lt-of-le}
 use native.Mathlib.Omega.{arith}
 use lib.Dec.{eqb}
 use lib.ListN.{length, getD}
 use borrow.Author.Tests.{eqb-true, eqb-false, eq-eqb}
 use Rattle.base.specs.Below.{anyBelow, listBelow}
-use Rattle.base.specs.Cases.{pick}
-use Rattle.base.proofs.Below.{list-first, list-same, list-length, list-at}
+use Rattle.base.proofs.Below.{map-at, any-same, list-first, list-same, list-length, list-at}
+use Rattle.base.proofs.Cases.{by-test, picks-same}
 use Rattle.model.specs.Records.{Model, statementAt}
 use Rattle.model.specs.Fields.{absent}
 use Rattle.model.specs.Facts.{Facts}
 use Rattle.model.specs.declared.records.StatementRecord.{StatementRecord}
 use Rattle.cycle.specs.Configuration.{DriverState, ProcessState, Configuration, driverIn, currentOf, drivingOf, resolvedOr, waiting}
 use Rattle.cycle.specs.Evaluation.{Environment, environmentOf, evalOf}
-use Rattle.cycle.specs.Steps.{transactionDue, taken, active, withCurrent, signalAfter, signalsAfter, inSet, changedIn, wakes, wokenBy, wokenIf, wokenAt, processAfterDelta, deltaStep}
+use Rattle.cycle.specs.Steps.{transactionDue, taken, active, withCurrent, signalAfter, signalsAfter, inSet, changedIn, wokenBy, wokenIf, wokenAt, processAfterDelta, deltaStep}
 use Rattle.cycle.specs.Orders.{advanceDone}
 use Rattle.cycle.specs.Invariant.{ProcessFine}
 use Rattle.cycle.specs.View.{pendingOf, noDriver, historyOf, driverView, processView, viewOf, arrays, Fine, outcomeOf, Answers}
@@ -28,19 +28,13 @@ use Rattle.cycle.specs.declared.config.Config.{Config}
 use Rattle.cycle.specs.declared.driver.Driver.{Driver}
 use Rattle.cycle.specs.declared.orders.Answered.{Answered}
 use Rattle.cycle.specs.declared.delta.Processes.{Processes}
-use Rattle.cycle.proofs.Lists.{map-at}
-use Rattle.cycle.proofs.ViewLaws.{history-in, driver-in, process-in, ns-is, nd-is, np-is, nv-is}
+use Rattle.cycle.proofs.ViewLaws.{history-at, history-in, driver-in, process-in, ns-is, nd-is, np-is, nv-is}
+use Rattle.cycle.proofs.Advances.{few-signals}
 use Rattle.cycle.proofs.AdvanceReachable.{delta-reachable}
 use Rattle.cycle.proofs.ArraysAgree.{value-listed}
 use Rattle.cycle.proofs.Resolving.{driving-is}
 use Rattle.cycle.proofs.DeltaProcesses.{condition-there}
 use Rattle.cycle.proofs.DeltaDrivers.{slotOf, heldBy, TakenSlot, first-due, withDrivers, Taking, time-most}
-
--- tests that agree below n
-any-same : (f g : ℕ → Bool) (n : ℕ) → ((i : ℕ) → i < n → f i ≡ g i) → anyBelow f n ≡ anyBelow g n
-unfolding anyBelow
-any-same f g zero h = refl
-any-same f g (suc n) h = rw (any-same f g n (λ i l. h i (omega arith)), h n (omega arith))
 
 -- a test that fails from n on
 any-fewer : (f : ℕ → Bool) (n m : ℕ) → n ≤ m → ((i : ℕ) → n ≤ i → i < m → f i ≡ false) → anyBelow f m ≡ anyBelow f n
@@ -51,43 +45,27 @@ any-fewer f n (suc m) h z =
     (λ (e : n ≡ suc m). rw e)
     (λ (l : n < suc m). rw (any-fewer f n m (omega arith) (λ i a b. z i a (omega arith)), z m (omega arith) (omega arith)) (or-false (anyBelow f n)))
     (eq-or-lt-of-le h)
-  where
-    or-false : (a : Bool) → (a || false) ≡ a
-    or-false true = refl
-    or-false false = refl
-
-and-false : (a : Bool) → (a && false) ≡ false
-and-false true = refl
-and-false false = refl
 
 map-below : {A B : Type 0} (f : A → B) (g : ℕ → A) (n : ℕ) → map f (listBelow g n) ≡ listBelow (λ i. f (g i)) n
 unfolding listBelow
 map-below f g zero = refl
 map-below f g (suc n) = map-append f (listBelow g n) (g n ∷ []) ∙ rw (map-below f g n)
-  where
-    map-append : {A B : Type 0} (f : A → B) (xs ys : List A) → map f (xs ++ ys) ≡ map f xs ++ map f ys
-    map-append f [] ys = refl
-    map-append f (x ∷ xs) ys = rw (map-append f xs ys)
 
 -- the current value of a history of the array
 current-in : (l : List ℕ) (s : ℕ) → getD (historyOf l s) 0 0 ≡ getD l (32 * s) 0
-unfolding historyOf
-current-in l s = list-at (λ k. getD l (32 * s + k) 0) 0 32 0 (omega arith) ∙ (let e : 32 * s + 0 ≡ 32 * s = omega arith in rw e)
+current-in l s = history-at l s 0 (omega arith) ∙ rw add-zero
 
 -- a history with another current value
 module _ (old new : List ℕ) (s : ℕ) (past : (k : ℕ) → k < 32 → (k ≡ 0 → ⊥) → getD new (32 * s + k) 0 ≡ getD old (32 * s + k) 0) where
   abbrev at : List ℕ → ℕ → ℕ
   at l k = getD l (32 * s + k) 0
 
-  first-at : (l : List ℕ) → at l 0 ≡ getD l (32 * s) 0
-  first-at l = let e : 32 * s + 0 ≡ 32 * s = omega arith in rw e
-
   rest-same : listBelow (λ j. at new (suc j)) 31 ≡ listBelow (λ j. at old (suc j)) 31
   rest-same = list-same _ _ 31 (λ j h. past (suc j) (omega arith) (λ e. omega arith))
 
   history-first : (l : List ℕ) → historyOf l s ≡ getD l (32 * s) 0 ∷ listBelow (λ j. at l (suc j)) 31
   unfolding historyOf
-  history-first l = list-first (at l) 31 ∙ rw (first-at l)
+  history-first l = list-first (at l) 31 ∙ rw add-zero
 
   pub history-changed : (v : ℕ) → getD new (32 * s) 0 ≡ v → historyOf new s ≡ withCurrent v (historyOf old s)
   history-changed v e = rw (history-first new, history-first old, e, rest-same)
@@ -174,21 +152,16 @@ module _ (M : Model) (fs : Facts M) (c : Config) (f : Fine M c) (set : ℕ) (a :
         (λ k l. rw (driver-in c k l, first-due (c .time) (pendingOf (getD (c .drivers) k noDriver)) (time-most M c f), ← f .due k l)))
         ∙ sym (a .at s h)
 
-    ns-few : c .ns ≤ 32
-    ns-few = omega (arith, ns-is M c (f .reachable), fs .totals .signals)
-
     past : (s k : ℕ) → k < 32 → (k ≡ 0 → ⊥) → getD new (32 * s + k) 0 ≡ getD (c .signals) (32 * s + k) 0
     past s k h n = parts .resolved .other s k h (λ e. absurd (n e))
 
     history-is : (s : ℕ) → s < c .ns → historyOf new s ≡ signalAfter M v s
     unfolding signalAfter currentAfter viewOf
     history-is s h =
-        rw (active-is s (omega (arith, ns-few)), history-in c s h)
-        ((elim (inSet set s) as (λ b. inSet set s ≡ b → historyOf new s ≡ pick b (withCurrent (resolvedOr (getD (historyOf (c .signals) s) 0 0) (drivingOf M drivers-now s)) (historyOf (c .signals) s)) (historyOf (c .signals) s)) [
-          | true ↦ λ e. history-changed (c .signals) new s (past s) _ (parts .resolved .current s h ∙ rw (e, value))
-          | false ↦ λ e. history-kept (c .signals) new s (past s) (parts .resolved .current s h ∙ rw e)
-        ])
-        refl)
+        rw (active-is s (omega (arith, few-signals fs f)), history-in c s h)
+        (by-test (λ x. historyOf new s ≡ x) (inSet set s) _ _
+        (λ e. history-changed (c .signals) new s (past s) _ (parts .resolved .current s h ∙ rw (e, value)))
+        (λ e. history-kept (c .signals) new s (past s) (parts .resolved .current s h ∙ rw e)))
       where
         value : resolvedOr (getD (c .signals) (32 * s) 0) (drivingIn M currents s (c .nd)) ≡ resolvedOr (getD (historyOf (c .signals) s) 0 0) (drivingOf M drivers-now s)
         value = rw (current-in (c .signals) s, driving-is M currents drivers-now (c .nd) s (nd-is M c (f .reachable)) current-is)
@@ -206,15 +179,14 @@ module _ (M : Model) (fs : Facts M) (c : Config) (f : Fine M c) (set : ℕ) (a :
 
     differs-not : (n : ℕ) → c .ns ≤ n → differs n ≡ false
     differs-not n h =
-        let z : 32 * n + 0 ≡ 32 * n = omega arith in
-        let e : getD new (32 * n) 0 ≡ getD (c .signals) (32 * n) 0 = rw z at (parts .resolved .other n 0 (omega arith) (λ q. h)) in
+        let e : getD new (32 * n) 0 ≡ getD (c .signals) (32 * n) 0 = simp add-zero at (parts .resolved .other n 0 (omega arith) (λ q. h)) in
         rw (eq-eqb (getD (c .signals) (32 * n) 0) (getD new (32 * n) 0) (sym e))
 
     changed-is : (bits : ℕ) → anyBelow (λ n. inSet bits n && inSet changed n) 32 ≡ changedIn M bits (v .signals) (signalsAfter M v)
     unfolding changedIn viewOf
     changed-is bits =
         any-same _ (λ n. inSet bits n && differs n) 32 (λ n h. rw (parts .resolved .changed .at n h))
-        ∙ any-fewer _ (c .ns) 32 ns-few (λ n h l. rw (differs-not n h) (and-false (inSet bits n)))
+        ∙ any-fewer _ (c .ns) 32 (few-signals fs f) (λ n h l. rw (differs-not n h) (and-false (inSet bits n)))
         ∙ rw (← signals-are, ← ns-is M c (f .reachable)) (any-same _ _ (c .ns) (λ n h. rw (current-of (c .signals) n h, current-of new n h)))
 
     -- the processes
@@ -241,11 +213,8 @@ module _ (M : Model) (fs : Facts M) (c : Config) (f : Fine M c) (set : ℕ) (a :
       condition-is : q .standing ≡ waiting → wokenFor M p (arrays (c .variables) new) (w .b) q ≡ wokenIf M p now w q
       unfolding wokenFor wokenIf
       condition-is e =
-          (elim (eqb (w .b) absent) as (λ b. eqb (w .b) absent ≡ b → pick b (wakes M p q) (wokenBy M p q (evalOf M (arrays (c .variables) new) (w .b))) ≡ pick b (wakes M p q) (wokenBy M p q (evalOf M now (w .b)))) [
-            | true ↦ λ z. refl
-            | false ↦ λ z. ap (wokenBy M p q) (value-is (w .b) (condition-there M fs p (c .time) here (entryOf (processesOf c) p) fine w refl e (eqb-false (w .b) absent z)))
-          ])
-          refl
+          picks-same (eqb (w .b) absent) _ _ _ _ (λ z. refl)
+          (λ z. ap (wokenBy M p q) (value-is (w .b) (condition-there M fs p (c .time) here (entryOf (processesOf c) p) fine w refl e (eqb-false (w .b) absent z))))
 
       waiting-is : q .standing ≡ waiting → wokenIn M p (c .time) changed (arrays (c .variables) new) w q ≡ wokenAt M p v (signalsAfter M v) w q
       unfolding wokenIn wokenAt viewOf
@@ -256,11 +225,7 @@ module _ (M : Model) (fs : Facts M) (c : Config) (f : Fine M c) (set : ℕ) (a :
       process-is =
           parts .woken .at p h
           ∙ rw (process-in c p h)
-          ((elim (eqb (q .standing) waiting) as (λ b. eqb (q .standing) waiting ≡ b → pick b (wokenIn M p (c .time) changed (arrays (c .variables) new) w q) q ≡ pick b (wokenAt M p v (signalsAfter M v) w q) q) [
-            | true ↦ λ z. waiting-is (eqb-true (q .standing) waiting z)
-            | false ↦ λ z. refl
-          ])
-          refl)
+          (picks-same (eqb (q .standing) waiting) _ _ _ _ (λ z. waiting-is (eqb-true (q .standing) waiting z)) (λ z. refl))
 
     processes-are : listBelow (processView end) (c .np) ≡ listBelow (processAfterDelta M v (signalsAfter M v)) (length (M .processes))
     unfolding processView

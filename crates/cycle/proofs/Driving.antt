@@ -9,7 +9,7 @@ use lib.Dec.{eqb}
 use lib.ListN.{length}
 use borrow.Author.Tests.{eqb-true, leb-true, le-leb}
 use Rattle.base.specs.Below.{joinBelow}
-use Rattle.base.proofs.Cases.{by-test}
+use Rattle.base.proofs.Cases.{by-test, either-way}
 use Rattle.base.proofs.Below.{_and_, among}
 use Rattle.values.specs.Resolve.{resolutionOf}
 use Rattle.values.proofs.Resolution.{standard-resolution}
@@ -39,11 +39,7 @@ module _ (M : Model) (ds : List DriverState) (s : ℕ) where
     one-more : (n : ℕ) → n < length (M .drivers) → Driven n → Driven (suc n)
     unfolding joinBelow
     one-more n h d =
-        (elim (eqb (driverAt M n .signal) s) as (λ b. eqb (driverAt M n .signal) s ≡ b → Driven (suc n)) [
-          | true ↦ λ e. newest e d
-          | false ↦ λ e. as-before e d
-        ])
-        refl
+        either-way (eqb (driverAt M n .signal) s) (λ e. newest e d) (λ e. as-before e d)
       where
         newest : eqb (driverAt M n .signal) s ≡ true → Driven n → Driven (suc n)
         newest e (undriven q) = driven n (omega arith) (eqb-true _ s e) (rw (q, e))

@@ -1,14 +1,13 @@
 -- What an effect of a process can be: `EffectFits`. Assumes nothing.
 use mathlib.Core.Path.{_≡_, refl}
-use mathlib.Core.Bool.{Bool, true, false}
-use Prim.Native.Nat.{ℕ, suc, _-_, _<_}
+use mathlib.Core.Bool.{true}
+use Prim.Native.Nat.{ℕ, _<_}
 use native.Mathlib.Omega.{arith}
-use lib.Dec.{eqb, ltb}
+use lib.Dec.{eqb}
 use lib.ListN.{length}
-use lib.IntN.{pos, negsuc, natAbs}
+use lib.IntN.{pos, natAbs}
 use lib.Signed.{ltZ}
-use mir.Val.{sel}
-use borrow.Author.Tests.{ltb-true, eqb-false}
+use borrow.Author.Tests.{eqb-false}
 use Rattle.base.specs.Cases.{pick}
 use Rattle.base.proofs.Below.{_and_, among}
 use Rattle.base.proofs.Cases.{by-test}
@@ -28,25 +27,18 @@ use Rattle.cycle.specs.Evaluation.{Environment, environmentOf, int, eval
 use Rattle.cycle.specs.Statements.{withValue, withDelay, effectBy, effectOf}
 use Rattle.cycle.specs.Invariant.{EffectFits, ScheduleFits, Reachable}
 use Rattle.cycle.proofs.Evaluation.{Typed, EnvironmentFits, value-typed}
+use Rattle.cycle.proofs.Signed.{below-half, not-negative}
 
 -- what holds after any value of the type, and of the stop with fault 1, holds after a value
 value-then : (P : Effect → Type 0) (ty : ℕ) (v : Value) (next : ℕ → Effect) → Typed ty v → P (Stop 1) → ((x : ℕ) → valueOk ty x ≡ true → P (next x)) → P (withValue v next)
 value-then P ty (Of x) next h s g = g x h
 value-then P ty (Fault f) next h s g = rw h s
 
--- an integer of 0 or more is its 32 bits, and these are fewer than 2 ^ 31
-delay-small : (x : ℕ) → ltZ (int x) (pos 0) ≡ false → natAbs (int x) < 2147483648
-delay-small x h = by-test (ltb x 2147483648) refl h
-  where
-    by-test : (b : Bool) → ltb x 2147483648 ≡ b → ltZ (sel b (pos x) (negsuc (4294967296 - suc x))) (pos 0) ≡ false → natAbs (sel b (pos x) (negsuc (4294967296 - suc x))) < 2147483648
-    by-test true e h = ltb-true x 2147483648 e
-    by-test false e h = let q : _≡_ {A = ℕ} 0 1 = cc in absurd (omega arith)
-
 -- the same after a delay
 delay-then : (P : Effect → Type 0) (v : Value) (next : ℕ → Effect) → Typed integer v → P (Stop 1) → P (Stop 2) → ((d : ℕ) → d < 2147483648 → P (next d)) → P (withDelay v next)
 unfolding withDelay
 delay-then P v next h s t g =
-    value-then P integer v _ h s (λ x _. by-test P (ltZ (int x) (pos 0)) _ _ (λ e. t) (λ e. g (natAbs (int x)) (delay-small x e)))
+    value-then P integer v _ h s (λ x _. by-test P (ltZ (int x) (pos 0)) _ _ (λ e. t) (λ e. g (natAbs (int x)) (rw (not-negative x e) (below-half x e))))
 
 module _ (M : Model) (fs : Facts M) (p : ℕ) where
   module _ (e : Environment) (ok : EnvironmentFits M e) where

@@ -2,16 +2,15 @@
 use mathlib.Core.Path.{_≡_, refl}
 use mathlib.Core.List.{[]}
 use mathlib.Core.Option.{none}
-use Prim.Native.Nat.{ℕ, _≤_, _<_}
+use Prim.Native.Nat.{ℕ, _<_}
 use native.Mathlib.Omega.{arith}
 use lib.Dec.{lit≤}
 use lib.ListN.{length, getD, replicate, length-map, length-replicate, getD-replicate}
-use Rattle.base.proofs.Below.{list-length, list-at}
+use Rattle.base.proofs.Below.{map-at, list-length, list-at}
 use Rattle.model.specs.Records.{Model, signalAt, variableAt, driverAt, processAt}
 use Rattle.model.specs.Facts.{Facts}
 use Rattle.cycle.specs.Configuration.{driverIn, processIn, pastOf, firstDrivers, firstSignal, first, ready}
 use Rattle.cycle.specs.Invariant.{ValueOf, DriverFine, ProcessFine, Reachable}
-use Rattle.cycle.proofs.Lists.{map-at}
 use Rattle.cycle.proofs.Driving.{resolved-typed}
 
 module _ (M : Model) (fs : Facts M) where

@@ -1,8 +1,8 @@
--- What holds of each element of a list, and the elements of a list after a map or a change. Assumes nothing.
-use mathlib.Core.Path.{_≡_, refl, sym, _∙_}
+-- What holds of each element of a list, also after a change, and the length of a mapped list. Assumes nothing.
+use mathlib.Core.Path.{_≡_, sym, _∙_}
 use mathlib.Core.Logic.{⊎-elim}
 use mathlib.Core.List.{List, [], _∷_, _++_, map}
-use Prim.Native.Nat.{ℕ, zero, suc, _+_, _<_}
+use Prim.Native.Nat.{ℕ, zero, suc, _<_}
 use native.Mathlib.Nat.{not-suc-le-zero, eq-or-lt-of-le, le-of-suc-le-suc}
 use native.Mathlib.Decide.{ℕ-discrete}
 use native.Mathlib.Omega.{arith}
@@ -48,12 +48,6 @@ module _ {A : Type 0} (P : A → Type 0) where
   all-at d [] h i l = absurd (not-suc-le-zero l)
   all-at d (x ∷ xs) h zero l = h .0
   all-at d (x ∷ xs) h (suc i) l = all-at d xs (h .1) i (le-of-suc-le-suc l)
-
--- element n of a mapped list
-pub map-at : {A B : Type 0} (f : A → B) (l : List A) (n : ℕ) (d : A) (d' : B) → n < length l → getD (map f l) n d' ≡ f (getD l n d)
-map-at f [] n d d' h = absurd (not-suc-le-zero h)
-map-at f (x ∷ l) zero d d' h = refl
-map-at f (x ∷ l) (suc n) d d' h = map-at f l n d d' (le-of-suc-le-suc h)
 
 -- a list is as long as what it is mapped to
 pub length-mapped : {A B : Type 0} (f : A → B) (l : List A) (n : ℕ) → length (map f l) ≡ n → length l ≡ n

@@ -1,20 +1,15 @@
 -- The operators of logic and boolean values, by the node's type: the cases that the program goes through. Assumes nothing.
 use mathlib.Core.Path.{_≡_, refl}
-use mathlib.Core.Bool.{Bool, true, false, _&&_}
+use mathlib.Core.Bool.{Bool, true, false, _&&_, true≢false, false≢true}
 use Prim.Native.Nat.{ℕ}
-use native.Mathlib.Omega.{arith}
 use lib.Dec.{eqb}
 use borrow.Author.Tests.{eq-eqb, ne-eqb}
 use Rattle.base.specs.Cases.{pick}
+use Rattle.base.proofs.Cases.{either}
 use Rattle.model.specs.Trees.{boolean}
 use Rattle.cycle.specs.declared.eval.Value.{Value}
 use Rattle.cycle.specs.declared.eval.Value.the-variants.{Of, Fault}
 use Rattle.cycle.specs.Evaluation.{one, two, unlessFirst, decidedBy}
-
--- a fault is the value for both types
-pub either : (b : Bool) (v : Value) → v ≡ pick b v v
-either true v = refl
-either false v = refl
 
 -- `and`, `or`: k decides, and f is the operator of logic values
 module _ (k : ℕ) (f : ℕ → ℕ → ℕ) (ty : ℕ) (p q : Value) where
@@ -30,8 +25,8 @@ module _ (k : ℕ) (f : ℕ → ℕ → ℕ) (ty : ℕ) (p q : Value) where
     where
       by-tests : (x : ℕ) (v : Value) (b d : Bool) → (b && d) ≡ true → Of x ≡ pick b (pick d (Of x) q) v
       by-tests x v true true h = refl
-      by-tests x v true false h = let z : _≡_ {A = ℕ} 0 1 = cc in absurd (omega arith)
-      by-tests x v false d h = let z : _≡_ {A = ℕ} 0 1 = cc in absurd (omega arith)
+      by-tests x v true false h = absurd (false≢true h)
+      by-tests x v false d h = absurd (false≢true h)
 
       by-first : (p : Value) → decidedBy ty p k ≡ true → p ≡ pick (eqb ty boolean) (unlessFirst k p q) (two p q (λ x y. Of (f x y)))
       by-first (Fault e) h = either (eqb ty boolean) (Fault e)
@@ -43,7 +38,7 @@ module _ (k : ℕ) (f : ℕ → ℕ → ℕ) (ty : ℕ) (p q : Value) where
     second b e = rw (first, e) (by-tests b (eqb x k) (rw (first, e) at undecided))
       where
         by-tests : (b d : Bool) → (b && d) ≡ false → pick b (pick d (Of x) q) (one q (λ y. Of (f x y))) ≡ pick b q (one q (λ y. Of (f x y)))
-        by-tests true true h = let z : _≡_ {A = ℕ} 0 1 = cc in absurd (omega arith)
+        by-tests true true h = absurd (true≢false h)
         by-tests true false h = refl
         by-tests false d h = refl
 

@@ -1,22 +1,19 @@
 -- What each return of pick and read has to show. Assumes nothing.
-use mathlib.Core.Path.{_≡_, refl, ap, _∙_}
-use mathlib.Core.Bool.{true, false}
-use Prim.Native.Nat.{ℕ, _+_, _*_, _≤_, _<_}
+use mathlib.Core.Path.{_≡_, refl}
+use mathlib.Core.Bool.{false}
+use Prim.Native.Nat.{ℕ, _*_, _≤_, _<_}
 use native.Mathlib.Nat.{add-zero}
 use native.Mathlib.Omega.{arith}
-use lib.Dec.{ltb, leb}
+use lib.Dec.{leb}
 use lib.ListN.{length, getD}
 use borrow.Author.Tests.{le-leb, lt-leb, eq-eqb, ne-eqb}
-use Rattle.base.specs.Below.{anyBelow}
-use Rattle.base.proofs.Course.{any-first}
 use Rattle.model.specs.Records.{Model}
-use Rattle.cycle.specs.Configuration.{Configuration}
 use Rattle.cycle.specs.Statements.{stepped}
-use Rattle.cycle.specs.Orders.{Outcome, refused, isReady, pickDone, picked, lowestReady, settledFrom, settled, readOf}
+use Rattle.cycle.specs.Orders.{refused, pickDone, picked, readOf}
 use Rattle.cycle.specs.View.{viewOf, Fine, StepsTo, outcomeOf, Answers, AnswersEach}
 use Rattle.cycle.specs.declared.config.Config.{Config}
 use Rattle.cycle.specs.declared.orders.Answered.{Answered}
-use Rattle.cycle.proofs.ViewLaws.{past-in, standing-in, fault-in, ns-is, np-is}
+use Rattle.cycle.proofs.ViewLaws.{past-in, standing-in, ready-in, fault-in, ns-is, np-is}
 
 pub refused-each : (c : Config) (n : ℕ) → AnswersEach c (record { refusal = n; byte = 0; picks = 0; value = 0; config = c }) (λ M. refused n (viewOf c))
 unfolding outcomeOf
@@ -50,20 +47,16 @@ module _ (M : Model) (c : Config) (f : Fine M c) where
       there = lt-leb (length (M .processes)) p (omega (arith, np-is M c (f .reachable)))
 
       not-ready : (getD (c .standings) p 0 ≡ 0 → ⊥) → refused 13 (viewOf c) ≡ picked M p (viewOf c)
-      unfolding picked isReady
-      not-ready g = rw (there, standing-in c p h, ne-eqb (getD (c .standings) p 0) 0 g)
+      unfolding picked
+      not-ready g = rw (there, ready-in c p h, ne-eqb (getD (c .standings) p 0) 0 g)
 
       pub pick-waiting : (r : Answered) → (getD (c .standings) p 0 ≡ 0 → ⊥) → AnswersEach c r (λ M. refused 13 (viewOf c)) → Answers M r (picked M p (viewOf c))
       pick-waiting r g a = rw (not-ready g) at (a M f)
 
       module _ (g : getD (c .standings) p 0 ≡ 0) where
-        is-ready : isReady p (viewOf c) ≡ true
-        unfolding isReady
-        is-ready = eq-eqb _ 0 (standing-in c p h ∙ g)
-
         done : pickDone p (stepped M p (viewOf c)) ≡ picked M p (viewOf c)
         unfolding picked
-        done = rw (there, is-ready)
+        done = rw (there, ready-in c p h, eq-eqb (getD (c .standings) p 0) 0 g)
 
         -- the answer has p's new standing and fault
         pub pick-done : (r : Config) → StepsTo M p c r

@@ -1,7 +1,7 @@
 -- The driving values as the array of current values has them, and the loop that resolves them. Assumes nothing.
 use mathlib.Core.Path.{_≡_, refl}
-use mathlib.Core.Bool.{Bool, true, false, _||_}
-use mathlib.Core.List.{List, [], _∷_, _++_, foldl, append-nil}
+use mathlib.Core.Bool.{Bool, true, false, _||_, or-true, or-false}
+use mathlib.Core.List.{List, [], _∷_, _++_, append-nil, foldl-append}
 use Prim.Native.Nat.{ℕ, _+_, _≤_, _<_}
 use native.Mathlib.Nat.{le-antisymm}
 use lib.Dec.{eqb}
@@ -23,15 +23,11 @@ abbrev pub some : List ℕ → Bool
 some [] = false
 some (v ∷ vs) = true
 
-fold-more : (a : ℕ) (vs : List ℕ) (x : ℕ) → foldl pairOf a (vs ++ (x ∷ [])) ≡ pairOf (foldl pairOf a vs) x
-fold-more a [] x = refl
-fold-more a (v ∷ vs) x = fold-more (pairOf a v) vs x
-
 -- one value more
 resolved-more : (other : ℕ) (vs : List ℕ) (x : ℕ) → resolvedOr other (vs ++ (x ∷ [])) ≡ pick (some vs) (pairOf (resolvedOr other vs) x) x
 unfolding resolutionOf resolutionBy
 resolved-more other [] x = refl
-resolved-more other (v ∷ vs) x = fold-more v vs x
+resolved-more other (v ∷ vs) x = foldl-append pairOf v vs (x ∷ [])
 
 some-more : (vs : List ℕ) (x : ℕ) → some (vs ++ (x ∷ [])) ≡ true
 some-more [] x = refl
@@ -41,14 +37,6 @@ some-more (v ∷ vs) x = refl
 pub record Resolving (M : Model) (cs : List ℕ) (s other k : ℕ) (b : Bool) (v : ℕ) : Type 0 where
   pub value : v ≡ resolvedOr other (drivingIn M cs s k)
   pub found : b ≡ some (drivingIn M cs s k)
-
-or-true : (a : Bool) → (a || true) ≡ true
-or-true true = refl
-or-true false = refl
-
-or-false : (a : Bool) → (a || false) ≡ a
-or-false true = refl
-or-false false = refl
 
 module _ (M : Model) (cs : List ℕ) (s other : ℕ) where
   pub resolving-none : Resolving M cs s other 0 false other

@@ -10,7 +10,7 @@ use native.Mathlib.Omega.{arith}
 use lib.ListN.{length, getD, set, length-set, take, replicate, length-replicate, length-map, getD-replicate, List·getD-append}
 use lib.Seq.{getD-take, ext-getD, getD-append-add, getD-set-same, getD-set-other}
 use Rattle.base.specs.Below.{listBelow}
-use Rattle.base.proofs.Below.{list-length, list-at, list-same}
+use Rattle.base.proofs.Below.{map-at, list-length, list-at, list-same}
 use Rattle.model.specs.Records.{Model}
 use Rattle.cycle.specs.Configuration.{Configuration}
 use Rattle.cycle.specs.Steps.{shifted, timeStep}
@@ -20,7 +20,6 @@ use Rattle.cycle.specs.View.{historyOf, driverView, processView, viewOf,
 use Rattle.cycle.specs.Shift.{Between, MovedBy, FilledTo, ShiftedBy}
 use Rattle.cycle.specs.declared.config.Config.{Config}
 use Rattle.cycle.proofs.AdvanceReachable.{shifted-length, time-reachable}
-use Rattle.cycle.proofs.Lists.{map-at}
 
 -- entries written from the one before hi down
 module _ (f : ℕ → ℕ) (old : List ℕ) (hi : ℕ) where

@@ -1,6 +1,6 @@
 -- Sets of signals as bits: a bit of a union, of a set of one, and when two sets have a signal in common. Assumes nothing.
 use mathlib.Core.Path.{_≡_, refl, sym, ap, _∙_}
-use mathlib.Core.Bool.{Bool, true, false, not, _&&_, _||_}
+use mathlib.Core.Bool.{Bool, true, false, not, _&&_, _||_, true≢false, and-true, and-false, or-false}
 use Prim.Native.Nat.{ℕ, zero, suc, _*_, _/_, _%_, _^_, _<_}
 use native.Mathlib.Nat.{mod-lt, mod-eq-of-lt, mul-mod-left, div-eq-of-lt, mul-div-mul-right, div-lt-iff-lt-mul, pow-suc, div-one}
 use native.Mathlib.Omega.{arith}
@@ -10,6 +10,7 @@ use lib.Pow.{pow-lt, pow-pos}
 use borrow.Author.Tests.{eqb-false, eq-eqb, ne-eqb}
 use Rattle.base.specs.Below.{anyBelow}
 use Rattle.base.proofs.Below.{any-fails, any-none}
+use Rattle.base.proofs.Cases.{either-way}
 use Rattle.cycle.specs.Steps.{inSet}
 use Rattle.cycle.specs.Delta.{SetOf}
 
@@ -85,23 +86,9 @@ module _ (a b n : ℕ) (h : a < 2 ^ n) where
 
   pub meets : not (eqb (bitAnd a b) 0) ≡ anyBelow both n
   meets =
-      (elim (anyBelow both n) as (λ t. anyBelow both n ≡ t → not (eqb (bitAnd a b) 0) ≡ t) [
-        | true ↦ λ e. rw (ne-eqb (bitAnd a b) 0 (λ q. let z : true ≡ false = sym e ∙ none-common q in absurd (clash z)))
-        | false ↦ λ e. rw (eq-eqb (bitAnd a b) 0 (some-common e))
-      ])
-      refl
-    where
-      clash : true ≡ false → ⊥
-      clash z = let y : _≡_ {A = ℕ} 0 1 = cc in omega arith
-
-or-false : (a x : Bool) → a ≡ (a || (x && false))
-or-false true x = refl
-or-false false true = refl
-or-false false false = refl
-
-and-true : (a : Bool) → a ≡ (a && true)
-and-true true = refl
-and-true false = refl
+      either-way (anyBelow both n)
+      (λ e. rw (e, ne-eqb (bitAnd a b) 0 (λ q. true≢false (sym e ∙ none-common q))))
+      (λ e. rw (e, eq-eqb (bitAnd a b) 0 (some-common e)))
 
 -- a set with signal n, where b holds
 module _ (set n : ℕ) (b : Bool) where
@@ -109,7 +96,7 @@ module _ (set n : ℕ) (b : Bool) where
   with-one h e =
       let l : 2 ^ n < 4294967296 = pow-lt {i = n} {j = 32} h in
       let o : 1 * 2 ^ n % 4294967296 ≡ 2 ^ n = ap (λ (x : ℕ). x % 4294967296) (omega arith) ∙ mod-eq-of-lt l in
-      record { at = λ s k. rw (o, e) (in-either set (2 ^ n) s ∙ rw (in-one n s, ← and-true (eqb n s))) }
+      record { at = λ s k. rw (o, e) (in-either set (2 ^ n) s ∙ rw (in-one n s, and-true)) }
 
   pub with-none : b ≡ false → SetOf (λ s. inSet set s || (eqb n s && b)) set
-  with-none e = record { at = λ s k. rw e (or-false (inSet set s) (eqb n s)) }
+  with-none e = record { at = λ s k. rw (e, and-false, or-false) }

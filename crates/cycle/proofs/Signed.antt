@@ -1,26 +1,27 @@
 -- Signed arithmetic: what the machine's sums ask, from bounds on the operands, and the two ways between a word and its integer.
 -- Assumes nothing.
 use mathlib.Core.Path.{_≡_, refl, sym, _∙_}
-use mathlib.Core.Bool.{Bool, true, false, cond}
-use Prim.Native.Nat.{ℕ, zero, suc, _+_, _-_, _<_, _≤_, _^_}
+use mathlib.Core.Bool.{true, false, true≢false, false≢true}
+use Prim.Native.Nat.{ℕ, zero, suc, _+_, _<_, _≤_, _^_}
 use native.Mathlib.Omega.{arith}
 use lib.IntN.{ℤ, pos, negsuc, natAbs, negℤ, subℕ, +ℤ-idl, _+ℤ_, _-ℤ_}
 use lib.Signed.{ltZ, nonNeg}
 use lib.Dec.{T, ltb}
 use borrow.Author.Tests.{ltb-true, ltb-false, le-ltb, lt-ltb}
 use mir.Syntax.{w32, w64}
-use mir.Val.{Fits, SFits, toZ, ofZ, sel}
+use mir.Val.{Fits, SFits, toZ, ofZ}
 use mir.Facts.{toZ-ofZ, toZ-pos, sfits-toZ, sfits-widen, fits-ofZ}
+use Rattle.base.proofs.Cases.{either-way}
 use Rattle.cycle.specs.Evaluation.{int}
 
 -- what `in_range` tests
 pub too-low : (z : ℤ) → ltZ z (negsuc 2147483646) ≡ true → ltb (natAbs z) 2147483648 ≡ false
-too-low (pos n) e = let q : _≡_ {A = ℕ} 0 1 = cc in absurd (omega arith)
+too-low (pos n) e = absurd (false≢true e)
 too-low (negsuc n) e = le-ltb (suc n) 2147483648 (omega (arith, ltb-true 2147483646 n e))
 
 pub too-high : (z : ℤ) → ltZ (pos 2147483647) z ≡ true → ltb (natAbs z) 2147483648 ≡ false
 too-high (pos n) e = le-ltb n 2147483648 (omega (arith, ltb-true 2147483647 n e))
-too-high (negsuc n) e = let q : _≡_ {A = ℕ} 0 1 = cc in absurd (omega arith)
+too-high (negsuc n) e = absurd (false≢true e)
 
 pub inside : (z : ℤ) → ltZ z (negsuc 2147483646) ≡ false → ltZ (pos 2147483647) z ≡ false → natAbs z < 2147483648
 inside (pos n) e f = omega (arith, ltb-false 2147483647 n f)
@@ -28,11 +29,7 @@ inside (negsuc n) e f = omega (arith, ltb-false 2147483646 n e)
 
 -- the size of a sum and of a negation
 sub-abs : (m n : ℕ) → natAbs (subℕ m n) ≤ m + n
-sub-abs m n = by-test (ltb m n) refl
-  where
-    by-test : (b : Bool) → ltb m n ≡ b → natAbs (cond b (negsuc (n - suc m)) (pos (m - n))) ≤ m + n
-    by-test true e = omega (arith, ltb-true m n e)
-    by-test false e = omega arith
+sub-abs m n = either-way (ltb m n) (λ e. rw e (omega (arith, ltb-true m n e))) (λ e. rw e (omega arith))
 
 add-abs : (x y : ℤ) → natAbs (x +ℤ y) ≤ natAbs x + natAbs y
 add-abs (pos m) (pos n) = omega arith
@@ -110,13 +107,13 @@ module _ (x : ℕ) (h : x < 4294967296) {r : ℤ} (e : r ≡ int x) where
     pub less-is : ltZ (read r) (read s) ≡ ltZ (int x) (int y)
     less-is = rw (int-read, other-read)
 
--- an integer of 0 or more is its 32 bits
-pub not-negative : (x : ℕ) → ltZ (int x) (pos 0) ≡ false → natAbs (int x) ≡ x
-not-negative x h = by-test (ltb x 2147483648) h
-  where
-    by-test : (b : Bool) → ltZ (sel b (pos x) (negsuc (4294967296 - suc x))) (pos 0) ≡ false → natAbs (sel b (pos x) (negsuc (4294967296 - suc x))) ≡ x
-    by-test true h = refl
-    by-test false h = let q : _≡_ {A = ℕ} 0 1 = cc in absurd (omega arith)
+-- an integer of 0 or more is its 32 bits, and these are fewer than 2 ^ 31
+module _ (x : ℕ) (h : ltZ (int x) (pos 0) ≡ false) where
+  pub below-half : x < 2147483648
+  below-half = either-way (ltb x 2147483648) (ltb-true x 2147483648) (λ e. absurd (true≢false (rw e at h)))
+
+  pub not-negative : natAbs (int x) ≡ x
+  not-negative = rw (lt-ltb x 2147483648 below-half)
 
 -- `int`: a word below half is its integer, and any other is 2 ^ 32 above it
 pub int-low : (x : ℕ) → x < 2147483648 → toZ w64 x ≡ int x
@@ -135,7 +132,7 @@ lifted (negsuc n) e h = simp (le-ltb 4294967296 (suc n) (omega arith))
 
 kept : (z : ℤ) → ltZ z (pos 0) ≡ false → z ≡ pos (ofZ w32 z)
 kept (pos n) e = refl
-kept (negsuc n) e = let q : _≡_ {A = ℕ} 0 1 = cc in absurd (omega arith)
+kept (negsuc n) e = absurd (true≢false e)
 
 module _ (z : ℤ) (f : SFits w64 z) (h : natAbs z < 2147483648) where
   pub lift-fits : SFits w64 (toZ w64 (ofZ w64 z) +ℤ pos 4294967296)

@@ -4,12 +4,12 @@ use mathlib.Core.Bool.{Bool, true, false, _&&_}
 use mathlib.Core.Logic.{⊎-elim}
 use Prim.Native.Nat.{ℕ, suc, _+_, _-_, _≤_, _<_}
 use native.Mathlib.Decide.{ℕ-discrete}
-use native.Mathlib.Nat.{eq-or-lt-of-le}
 use native.Mathlib.Numerals.{add-one}
 use native.Mathlib.Omega.{arith}
 use lib.Dec.{eqb, ltb}
 use lib.ListN.{length, getD, set, length-set}
 use lib.Seq.{getD-set-same, getD-set-other}
+use borrow.Author.Count.{below-none, below-more}
 use borrow.Author.Tests.{lt-ltb, le-ltb, eq-eqb, ne-eqb, ltb-true, ltb-false}
 use Rattle.base.specs.Below.{anyBelow}
 use Rattle.base.specs.Cases.{pick}
@@ -22,20 +22,20 @@ use Rattle.model.specs.declared.records.ProcessRecord.{ProcessRecord}
 use Rattle.cycle.specs.Configuration.{driverIn}
 use Rattle.cycle.specs.Statements.{nextPlace, applied, effectBy, effectOf, stepped}
 use Rattle.cycle.specs.Orders.{isReady, lowestReady, settledFrom, settled}
-use Rattle.cycle.specs.Invariant.{lastTime, DriverFine, EffectFits, StoreFits, ScheduleFits, Reachable}
+use Rattle.cycle.specs.Invariant.{lastTime, DriverFine, EffectFits, StoreFits, ScheduleFits}
 use Rattle.cycle.specs.View.{never, pendingOf, firstTime, noDriver, viewOf, arrays, Fine, StepsTo, outcomeOf, Answers}
 use Rattle.cycle.specs.Waveform.{Waveform, ScheduledTo}
 use Rattle.cycle.specs.declared.config.Config.{Config}
 use Rattle.cycle.specs.declared.driver.Scheduled.{Scheduled}
 use Rattle.cycle.specs.declared.effect.Effect.{Effect}
 use Rattle.cycle.specs.declared.effect.Effect.the-variants.{Skip, Store, Schedule, Jump, Wait, WaitFor, Stop}
-use Rattle.cycle.proofs.Drivers.{pending-length}
+use Rattle.cycle.proofs.DeltaDrivers.{time-most, few-pending}
 use Rattle.cycle.proofs.Effects.{own-statement, placed, effect-fits}
 use Rattle.cycle.proofs.ArraysAgree.{effect-viewed}
 use Rattle.cycle.proofs.Picks.{standing-stays}
 use Rattle.cycle.proofs.StepReachable.{stepped-reachable}
 use Rattle.cycle.proofs.Waves.{rising-from}
-use Rattle.cycle.proofs.ViewLaws.{pending-in, place-in, standing-in, deadline-in, nd-is, np-is}
+use Rattle.cycle.proofs.ViewLaws.{pending-in, place-in, standing-in, ready-in, deadline-in, nd-is, np-is}
 use Rattle.cycle.proofs.Settling.{Passed, settle-over, settle-none, settle-turn}
 use Rattle.cycle.proofs.Changes.{Sized, movedTo, scheduledTo, waitsUntil, stopsBy, moved-sized, scheduled-sized, waits-sized, stops-sized, skip-view, store-view, jump-view, wait-view, wait-for-view, stop-view, schedule-view, full-view}
 
@@ -90,10 +90,6 @@ pub record Stepped (M : Model) (p : ℕ) (c c' : Config) : Type 0 where
   pub np : c' .np ≡ c .np
   pub sized : Sized c'
 
-early-time : (M : Model) (c : Config) → Reachable M (viewOf c) → c .time ≤ lastTime
-unfolding viewOf
-early-time M c r = r .time
-
 module _ {M : Model} {now p : ℕ} {c : Config} {e : Effect} (t : Turn M now p c e) where
   abbrev fs : Facts M
   fs = t .facts
@@ -117,7 +113,7 @@ module _ {M : Model} {now p : ℕ} {c : Config} {e : Effect} (t : Turn M now p c
   place-spans = spans M fs c f p in-np
 
   pub early : now ≤ lastTime
-  early = rw (← t .clock) (early-time M c (f .reachable))
+  early = rw (← t .clock) (time-most M c f)
 
   -- what the effect names is there
   fits : EffectFits M p (statementAt M (getD (c .places) p 0) .kind) e
@@ -131,8 +127,7 @@ module _ {M : Model} {now p : ℕ} {c : Config} {e : Effect} (t : Turn M now p c
 
   -- the pick is made
   pub is-ready : isReady p (viewOf c) ≡ true
-  unfolding isReady
-  is-ready = eq-eqb _ 0 (standing-in c p in-np ∙ t .idle)
+  is-ready = ready-in c p in-np ∙ eq-eqb _ 0 (t .idle)
 
   step-is : applied M p e (viewOf c) ≡ stepped M p (viewOf c)
   unfolding stepped
@@ -207,7 +202,7 @@ module _ {M : Model} {now p : ℕ} {c : Config} {e : Effect} (t : Turn M now p c
     waveform =
         let g : DriverFine _ (viewOf c .time) (driverIn (viewOf c .drivers) k) = f .reachable .each-driver k (schedule-fits .driver) in
         record {
-          few = omega (arith, pending-length (getD (c .drivers) k noDriver), rw (pending-in c k in-nd) at (g .few));
+          few = few-pending M c f k in-nd;
           rising = rising-from 0 (viewOf c .time) (pendingOf (getD (c .drivers) k noDriver)) (omega arith) (rw (pending-in c k in-nd) at (g .rising));
         }
 
@@ -259,13 +254,9 @@ turning-none M fs count c s f =
       clock = refl;
       sized = s;
       fine = f;
-      passed = λ j b. absurd (omega arith);
+      passed = below-none _;
       same = ap (λ (k : ℕ). settledFrom M 0 k (viewOf c)) (omega arith);
     }
-
-not-ready : (c : Config) (p : ℕ) → p < c .np → (getD (c .standings) p 0 ≡ 0 → ⊥) → isReady p (viewOf c) ≡ false
-unfolding isReady
-not-ready c p h r = ne-eqb _ 0 (λ e. r (sym (standing-in c p h) ∙ e))
 
 and-rest : (a b : Bool) → a ≡ true → (a && b) ≡ false → b ≡ false
 and-rest a b h g = rw h at g
@@ -282,13 +273,9 @@ module _ {M : Model} {count now end : ℕ} {c₀ : Config} {p n : ℕ} {c : Conf
         clock = t .clock;
         sized = t .sized;
         fine = t .fine;
-        passed = past;
+        passed = below-more _ _ (t .passed) (ready-in c p (omega (arith, t .whole)) ∙ ne-eqb _ 0 r);
         same = t .same;
       }
-    where
-      past : Passed (p + 1) (viewOf c)
-      past j b =
-          ⊎-elim (λ (e : j ≡ p). rw e (not-ready c p (omega (arith, t .whole)) r)) (λ (l : j < p). t .passed j l) (eq-or-lt-of-le (omega arith))
 
   -- a ready process is picked
   pub turning-next : n < count → p < end → isReady p (viewOf c) ≡ true → (c' : Config) → Stepped M p c c' → Turning M count now end c₀ p (n + 1) c'
@@ -327,9 +314,9 @@ module _ {M : Model} {count now end : ℕ} {c₀ : Config} {p n : ℕ} {c : Conf
         (split n count)
 
     still : anyBelow (λ p. eqb (getD (c .standings) p 0) 0) end ≡ ltb (lowestReady M (viewOf c)) (length (M .processes))
-    unfolding isReady lowestReady
+    unfolding lowestReady
     still =
-        any-same (λ p. eqb (getD (c .standings) p 0) 0) (λ p. isReady p (viewOf c)) end (λ j l. rw (standing-in c j (omega (arith, t .whole))))
+        any-same (λ p. eqb (getD (c .standings) p 0) 0) (λ p. isReady p (viewOf c)) end (λ j l. sym (ready-in c j (omega (arith, t .whole))))
         ∙ rw total (any-first (λ p. isReady p (viewOf c)) (length (M .processes)))
 
     pub settle-end : (more : Bool) (byte : ℕ) → more ≡ anyBelow (λ p. eqb (getD (c .standings) p 0) 0) end → byte ≡ pick more 1 0

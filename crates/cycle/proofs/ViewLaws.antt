@@ -2,6 +2,7 @@
 use mathlib.Core.Path.{_≡_, refl, sym, ap, _∙_}
 use mathlib.Core.List.{List, []}
 use Prim.Native.Nat.{ℕ, _+_, _*_, _<_}
+use lib.Dec.{eqb}
 use lib.ListN.{length, getD, set}
 use lib.Seq.{getD-set-same, getD-set-other}
 use Rattle.base.specs.Below.{listBelow}
@@ -9,10 +10,16 @@ use Rattle.base.proofs.Below.{list-length, list-at, list-change}
 use Rattle.model.specs.Records.{Model}
 use Rattle.cycle.specs.Configuration.{DriverState, ProcessState, driverIn, processIn, pastOf}
 use Rattle.cycle.specs.Statements.{moved, waits, stops}
+use Rattle.cycle.specs.Orders.{isReady}
 use Rattle.cycle.specs.Invariant.{Reachable}
 use Rattle.cycle.specs.View.{pendingOf, noDriver, deadlineOf, historyOf, driverView, processView, viewOf}
 use Rattle.cycle.specs.declared.config.Config.{Config}
 use Rattle.cycle.specs.declared.driver.Driver.{Driver}
+
+-- a history of the array
+pub history-at : (l : List ℕ) (s k : ℕ) → k < 32 → getD (historyOf l s) k 0 ≡ getD l (32 * s + k) 0
+unfolding historyOf
+history-at l s k h = list-at (λ k. getD l (32 * s + k) 0) 0 32 k h
 
 -- the lists of the view are as long as the struct says, and their elements are those of the arrays
 module _ (c : Config) where
@@ -37,8 +44,7 @@ module _ (c : Config) where
   history-in s h = list-at (historyOf (c .signals)) [] (c .ns) s h
 
   pub past-in : (s k : ℕ) → s < c .ns → k < 32 → pastOf (viewOf c .signals) s k ≡ getD (c .signals) (32 * s + k) 0
-  unfolding historyOf
-  past-in s k h l = rw (history-in s h) (list-at (λ k. getD (c .signals) (32 * s + k) 0) 0 32 k l)
+  past-in s k h l = rw (history-in s h) (history-at (c .signals) s k l)
 
   pub driver-in : (k : ℕ) → k < c .nd → driverIn (viewOf c .drivers) k ≡ driverView c k
   unfolding viewOf
@@ -59,6 +65,10 @@ module _ (c : Config) where
   pub standing-in : (p : ℕ) → p < c .np → processIn (viewOf c .processes) p .standing ≡ getD (c .standings) p 0
   unfolding processView
   standing-in p h = ap (λ (q : ProcessState). q .standing) (process-in p h)
+
+  pub ready-in : (p : ℕ) → p < c .np → isReady p (viewOf c) ≡ eqb (getD (c .standings) p 0) 0
+  unfolding isReady
+  ready-in p h = rw (standing-in p h)
 
   pub deadline-in : (p : ℕ) → p < c .np → processIn (viewOf c .processes) p .deadline ≡ deadlineOf (getD (c .deadlines) p 0)
   unfolding processView

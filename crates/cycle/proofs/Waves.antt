@@ -17,8 +17,7 @@ use Rattle.cycle.proofs.Lists.{All}
 
 -- all transactions of the waveform are before the time at
 abbrev pub Before : ℕ → List Transaction → Type 0
-Before at [] = Unit {0}
-Before at (x ∷ w) = (x .time < at) × Before at w
+Before at = All (λ x. x .time < at)
 
 -- a waveform that starts at t or later starts at any earlier time or later
 pub rising-from : (s t : ℕ) (w : List Transaction) → s ≤ t → Rising t w → Rising s w

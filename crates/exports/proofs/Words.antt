@@ -1,8 +1,8 @@
 -- The words of a configuration, read from the struct that holds it. Assumes nothing.
-use mathlib.Core.Path.{_≡_, refl}
-use mathlib.Core.Bool.{Bool, true, false}
+use mathlib.Core.Path.{_≡_, sym}
+use mathlib.Core.Bool.{Bool}
 use mathlib.Core.List.{List, [], _++_, append-nil}
-use Prim.Native.Nat.{ℕ, _+_, _-_, _/_, _%_, _≤_, _<_}
+use Prim.Native.Nat.{ℕ, _-_, _/_, _%_, _≤_, _<_}
 use native.Mathlib.Nat.{le-antisymm}
 use native.Mathlib.Omega.{arith}
 use borrow.Author.Tests.{lt-ltb, le-ltb, ne-eqb}
@@ -11,6 +11,7 @@ use lib.ListN.{length, getD, take, drop, drop-of-length-le, List·getD-eq-defaul
 use Rattle.base.specs.Below.{listBelow}
 use Rattle.base.specs.Cases.{pick}
 use Rattle.base.proofs.Below.{list-length, list-at, NoneOf, none-of}
+use Rattle.base.proofs.Cases.{either}
 use Rattle.cycle.specs.Configuration.{Transaction, Configuration, driverIn, pastOf}
 use Rattle.cycle.specs.View.{never, pendingOf, noDriver, driverView, processView, viewOf}
 use Rattle.cycle.specs.declared.config.Config.{Config}
@@ -37,8 +38,7 @@ variable-none c a h =
     rw (List·getD-eq-default (viewOf c .variables) 0 l)
 
 same : (b : Bool) → pick {A = ℕ} b 0 0 ≡ 0
-same true = refl
-same false = refl
+same b = sym (either b 0)
 
 driver-zeros : (j : ℕ) → 0 ≡ driverWord (record { current = 0; pending = [] }) j
 unfolding driverWord

@@ -19,7 +19,7 @@ use Rattle.model.specs.Facts.{TotalsFit, NodeFits, NodeTyped, StatementO
 use Rattle.model.proofs.Lookup.{signals-most, variables-most, processes-some, processes-most, drivers-most, nodes-most, statements-some, statements-most}
 use Rattle.model.proofs.Spans.{process-fits, owner-below, owner-spans}
 use Rattle.model.proofs.Operands.{lower-a, lower-b, lower-ok, size-most}
-use Rattle.model.proofs.NodeTypes.{type-integer, type-logic, type-variable, type-signal, type-not, type-logical, type-negate, type-arithmetic, type-equal, type-less, logical-known, arithmetic-known, equal-known, less-known}
+use Rattle.model.proofs.NodeTypes.{type-integer, type-logic, type-variable, type-signal, type-not, type-logical, type-negate, type-arithmetic, type-equal, type-less, logical-known, integers-known, equal-known}
 use Rattle.model.proofs.NodeFields.{signal-fits, variable-fits, node-ok, kind-least, kind-most, constant-integer, constant-logic, names-variable, names-signal, delay-most}
 use Rattle.model.proofs.Own.{reads}
 use Rattle.model.proofs.Drivers.{drives, rise, found, single, driver-process, driver-signal}
@@ -56,12 +56,12 @@ module _ (M : Model) (n : ℕ) (lower : lowerOk (nodeAt M n) n ≡ true) (known 
 
   arithmetic : 11 ≤ kind → kind ≤ 12 → (typeOf M n ≡ integer) × ((typeA ≡ integer) × (typeB ≡ integer))
   arithmetic l h =
-      arithmetic-known typeA typeB (typeOf M n) known (type-arithmetic M n (nodeAt M n) refl (a-lower (omega arith)) (b-lower (omega arith) (λ e. omega arith)) l h)
+      integers-known typeA typeB (typeOf M n) known integer (type-arithmetic M n (nodeAt M n) refl (a-lower (omega arith)) (b-lower (omega arith) (λ e. omega arith)) l h)
 
   arithmetic-a : 10 ≤ kind → kind ≤ 12 → (typeOf M n ≡ integer) × (typeA ≡ integer)
   arithmetic-a l h =
       elim (ℕ-discrete kind 10) [
-        | yes e ↦ let t = arithmetic-known typeA typeA (typeOf M n) known (type-negate M n (nodeAt M n) refl (a-lower (omega arith)) e) in (t .0, t .1 .0)
+        | yes e ↦ let t = integers-known typeA typeA (typeOf M n) known integer (type-negate M n (nodeAt M n) refl (a-lower (omega arith)) e) in (t .0, t .1 .0)
         | no e ↦ let t = arithmetic (omega arith) h in (t .0, t .1 .0)
       ]
 
@@ -71,7 +71,7 @@ module _ (M : Model) (n : ℕ) (lower : lowerOk (nodeAt M n) n ≡ true) (known 
 
   less : kind ≡ 14 → (typeOf M n ≡ boolean) × ((typeA ≡ integer) × (typeB ≡ integer))
   less e =
-      less-known typeA typeB (typeOf M n) known (type-less M n (nodeAt M n) refl (a-lower (omega arith)) (b-lower (omega arith) (λ f. omega arith)) e)
+      integers-known typeA typeB (typeOf M n) known boolean (type-less M n (nodeAt M n) refl (a-lower (omega arith)) (b-lower (omega arith) (λ f. omega arith)) e)
 
   relation : kind ≤ 14 → 13 ≤ kind → (typeOf M n ≡ boolean) × (typeB ≡ typeA)
   relation m l =

@@ -1,15 +1,15 @@
 -- The laws of rule 5: a node's fields by ranges of its kind, and a process's span. Assumes nothing.
-use mathlib.Core.Path.{_≡_, refl, _∙_}
+use mathlib.Core.Path.{_≡_, _∙_}
 use mathlib.Core.Bool.{false, _&&_}
 use mathlib.Core.List.{List, [], _∷_, map}
 use Prim.Native.Nat.{ℕ, zero, suc, _+_, _-_, _*_, _%_, _^_, _≤_, _<_, zero-le}
-use native.Mathlib.Nat.{not-suc-le-zero, le-of-suc-le-suc}
+use native.Mathlib.Nat.{not-suc-le-zero}
 use native.Mathlib.Omega.{arith}
 use borrow.Author.Tests.{ne-eqb, le-leb, lt-leb, le-ltb}
 use mir.Syntax.{w8}
 use mir.Val.{Fits}
 use lib.Dec.{eqb, leb, leb·zero, lit<}
-use lib.ListN.{length, getD, drop}
+use lib.ListN.{length, getD, drop, List·getD-eq-default}
 use lib.Pow.{shl-exact}
 use lib.Seq.{getD-take, getD-drop}
 use Rattle.base.specs.Bytes.{byteAt}
@@ -88,11 +88,6 @@ due-next M zero h e = absurd (not-suc-le-zero h)
 due-next M (suc p) h e = let g : suc p - 1 ≡ p = omega arith in rw g at e
 
 -- past the last process there is no span
-getD-past : {A : Type 0} (xs : List A) (d : A) (n : ℕ) → length xs ≤ n → getD xs n d ≡ d
-getD-past [] d n h = refl
-getD-past (x ∷ xs) d zero h = absurd (not-suc-le-zero h)
-getD-past (x ∷ xs) d (suc n) h = getD-past xs d n (le-of-suc-le-suc h)
-
 pub no-span : (M : Model) (p a : ℕ) → length (M .processes) ≤ p → false ≡ inSpan M p a
 unfolding inSpan
-no-span M p a h = rw (getD-past (M .processes) _ p h, le-ltb a 0 zero-le, leb·zero a)
+no-span M p a h = rw (List·getD-eq-default (M .processes) _ h, le-ltb a 0 zero-le, leb·zero a)

@@ -1,22 +1,17 @@
 -- The laws of the index: record n of a kind is the one that its start names. Assumes nothing.
-use mathlib.Core.Path.{_≡_, refl, _∙_}
+use mathlib.Core.Path.{_≡_, _∙_}
 use mathlib.Core.Bool.{true}
-use mathlib.Core.List.{List, [], _∷_, map}
-use Prim.Native.Nat.{ℕ, zero, suc, _+_, _-_, _≤_, _<_}
-use native.Mathlib.Nat.{not-suc-le-zero, le-of-suc-le-suc, add-sub-cancel-left}
+use mathlib.Core.List.{List}
+use Prim.Native.Nat.{ℕ, _+_, _-_, _≤_, _<_}
+use native.Mathlib.Nat.{add-sub-cancel-left}
 use borrow.Author.Tests.{leb-true}
 use lib.ListN.{length, getD, take, drop, length-map}
 use Rattle.model.specs.Blocks.{startsOf, totalOf, partAt}
 use Rattle.model.specs.Records.{Model, modelOf, recordsOf, signalOf, variableOf, processOf, driverOf, nodeOf, statementOf}
 use Rattle.model.specs.Fields.{totalsOk}
 use Rattle.model.specs.Index.{Starts, sectionOf}
-use Rattle.base.proofs.Below.{every-at}
+use Rattle.base.proofs.Below.{every-at, map-at}
 use Rattle.model.proofs.Starts.{starts-length, starts-in}
-
-getD-map : {A B : Type 0} (f : A → B) (xs : List A) (a : A) (b : B) (n : ℕ) → n < length xs → getD (map f xs) n b ≡ f (getD xs n a)
-getD-map f [] a b n h = absurd (not-suc-le-zero h)
-getD-map f (x ∷ xs) a b zero h = refl
-getD-map f (x ∷ xs) a b (suc n) h = getD-map f xs a b n (le-of-suc-le-suc h)
 
 module _ {A : Type 0} (read : List ℕ → A) (k : ℕ) (m : List ℕ) where
   pub records-length : length (recordsOf read k m) ≡ totalOf k m
@@ -25,7 +20,7 @@ module _ {A : Type 0} (read : List ℕ → A) (k : ℕ) (m : List ℕ) where
 
   pub record-at : (d : A) (n : ℕ) → n < totalOf k m → getD (recordsOf read k m) n d ≡ read (partAt m (getD (startsOf k m) n 0))
   unfolding recordsOf
-  record-at d n h = getD-map _ (startsOf k m) 0 d n (rw starts-length h)
+  record-at d n h = map-at _ (startsOf k m) n 0 d (rw starts-length h)
 
 -- how many records of each kind the model has
 module _ (m : List ℕ) where

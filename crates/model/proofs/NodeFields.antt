@@ -1,6 +1,6 @@
 -- The laws of record fields: what rule 5 says of signals, variables and nodes by their kinds. Assumes nothing.
 use mathlib.Core.Path.{_≡_, refl}
-use mathlib.Core.Bool.{true, false}
+use mathlib.Core.Bool.{true, false≢true}
 use mathlib.Core.Logic.{⊎-elim}
 use Prim.Native.Nat.{ℕ, _≤_, _<_}
 use native.Mathlib.Omega.{arith}
@@ -13,16 +13,12 @@ use Rattle.model.specs.Fields.{valueOk, signalOk, variableOk, nodeOk, fi
 use Rattle.model.specs.Facts.{SignalFits, VariableFits}
 use Rattle.model.specs.declared.records.NodeRecord.{NodeRecord}
 
--- a test that failed did not pass
-pub failed : {A : Type 0} → false ≡ true → A
-failed e = let q : _≡_ {A = ℕ} 0 1 = cc in absurd (omega arith)
-
 -- a type with a value is one of the three
 value-type : (ty x : ℕ) → valueOk ty x ≡ true → ty ≤ 2
 unfolding valueOk
 value-type ty x h =
     ⊎-elim (λ (l : ty < 3). omega arith)
-    (λ (l : 3 ≤ ty). failed (rw (ne-eqb ty 0 (omega arith), ne-eqb ty 1 (omega arith), ne-eqb ty 2 (omega arith)) at h))
+    (λ (l : 3 ≤ ty). absurd (false≢true (rw (ne-eqb ty 0 (omega arith), ne-eqb ty 1 (omega arith), ne-eqb ty 2 (omega arith)) at h)))
     (split ty 3)
 
 module _ (M : Model) (ok : fieldsOk M ≡ true) where

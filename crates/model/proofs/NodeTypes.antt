@@ -1,6 +1,6 @@
 -- The laws of node types: what `typeOf` says of a node of each kind, its operands being lower. Assumes nothing.
 use mathlib.Core.Path.{_≡_, refl, sym, _∙_}
-use mathlib.Core.Bool.{Bool, true, false, _&&_, _||_}
+use mathlib.Core.Bool.{Bool, true, false, _&&_, _||_, and-self}
 use mathlib.Core.List.{List}
 use mathlib.Core.Logic.{⊎-elim, _⊎_, inl, inr}
 use Prim.Native.Nat.{ℕ, _+_, _≤_, _<_}
@@ -11,6 +11,7 @@ use lib.ListN.{getD, List·getD-eq-default}
 use Rattle.base.specs.Cases.{pick}
 use Rattle.base.specs.Course.{course, upTo}
 use Rattle.base.proofs.Below.{among, and-left, and-right, split}
+use Rattle.base.proofs.Cases.{by-test}
 use Rattle.base.proofs.Course.{earlier, entries}
 use Rattle.model.specs.Records.{Model, signalAt, variableAt, nodeAt}
 use Rattle.model.specs.Fields.{nodeOk, fieldsOk}
@@ -30,10 +31,6 @@ equalType p q = pick (eqb p q && (eqb p integer || eqb p logic)) boolean mistype
 
 abbrev pub lessType : ℕ → ℕ → ℕ
 lessType p q = pick (eqb p integer && eqb q integer) boolean mistyped
-
-and-same : (t : Bool) → (t && t) ≡ t
-and-same true = refl
-and-same false = refl
 
 module _ (M : Model) (n : ℕ) where
   -- what is said of node m where those below n are known
@@ -91,7 +88,7 @@ module _ (M : Model) (n : ℕ) where
 
       pub type-negate : d .kind ≡ 10 → typeOf M n ≡ arithmeticType (typeOf M (d .a)) (typeOf M (d .a))
       unfolding typeBy
-      type-negate e = rw and-same (rw (e, below-is (d .a) lower) at next)
+      type-negate e = rw and-self (rw (e, below-is (d .a) lower) at next)
 
       module _ (lower-b : d .b < n) where
         both : typeOf M n ≡ typeBy M d (typeOf M (d .a)) (typeOf M (d .b))
@@ -132,9 +129,10 @@ module _ (p q t : ℕ) (known : t ≤ 2) where
       let h : p ≡ q = eqb-true p q (and-left (eqb p q) _ g) in
       (sym f, (omega arith, ⊎-elim (λ u. omega (arith, eqb-true p logic u)) (λ u. omega (arith, eqb-true p boolean u)) (or-cases (eqb p logic) _ (and-right (eqb p q) _ g))))
 
-  pub arithmetic-known : t ≡ arithmeticType p q → (t ≡ integer) × ((p ≡ integer) × (q ≡ integer))
-  arithmetic-known e =
-      let g = passed (eqb p integer && eqb q integer) integer (rw e at known) in
+  -- a sum, a difference or a comparison, x being its type
+  pub integers-known : (x : ℕ) → t ≡ pick (eqb p integer && eqb q integer) x mistyped → (t ≡ x) × ((p ≡ integer) × (q ≡ integer))
+  integers-known x e =
+      let g = passed (eqb p integer && eqb q integer) x (rw e at known) in
       (rw g at e, (eqb-true p integer (and-left (eqb p integer) _ g), eqb-true q integer (and-right (eqb p integer) _ g)))
 
   pub equal-known : t ≡ equalType p q → (t ≡ boolean) × ((q ≡ p) × (p ≤ 1))
@@ -142,15 +140,9 @@ module _ (p q t : ℕ) (known : t ≤ 2) where
       let g = passed (eqb p q && (eqb p integer || eqb p logic)) boolean (rw e at known) in
       (rw g at e, (sym (eqb-true p q (and-left (eqb p q) _ g)), ⊎-elim (λ u. omega (arith, eqb-true p integer u)) (λ u. omega (arith, eqb-true p logic u)) (or-cases (eqb p integer) _ (and-right (eqb p q) _ g))))
 
-  pub less-known : t ≡ lessType p q → (t ≡ boolean) × ((p ≡ integer) × (q ≡ integer))
-  less-known e =
-      let g = passed (eqb p integer && eqb q integer) boolean (rw e at known) in
-      (rw g at e, (eqb-true p integer (and-left (eqb p integer) _ g), eqb-true q integer (and-right (eqb p integer) _ g)))
-
 -- a type is at most that of a mistyped node: case by case
 pick-small : (t : Bool) (x y : ℕ) → (t ≡ true → x ≤ 3) → y ≤ 3 → pick t x y ≤ 3
-pick-small true x y h g = h refl
-pick-small false x y h g = g
+pick-small t x y h g = by-test (λ z. z ≤ 3) t x y h (λ e. g)
 
 case-small : (k j x y : ℕ) → (k ≡ j → x ≤ 3) → y ≤ 3 → pick (eqb k j) x y ≤ 3
 case-small k j x y h g = pick-small (eqb k j) x y (λ t. h (eqb-true k j t)) g

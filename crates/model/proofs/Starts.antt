@@ -2,29 +2,19 @@
 use mathlib.Core.Path.{_≡_, refl}
 use mathlib.Core.Bool.{Bool, true, false}
 use mathlib.Core.List.{List}
-use mathlib.Core.Logic.{⊎-elim}
-use Prim.Native.Nat.{ℕ, zero, suc, _+_, _≤_, _<_}
-use native.Mathlib.Nat.{not-suc-le-zero, eq-or-lt-of-le, le-of-suc-le-suc}
+use Prim.Native.Nat.{ℕ, _+_, _≤_, _<_}
+use native.Mathlib.Nat.{not-suc-le-zero}
 use native.Mathlib.Omega.{arith}
 use borrow.Author.Tests.{leb-true, eqb-true}
 use lib.Dec.{eqb}
 use lib.ListN.{length, getD}
 use Rattle.base.specs.Cases.{pick}
 use Rattle.base.specs.Below.{sumBelow, joinBelow, listBelow}
-use Rattle.base.proofs.Below.{every-at, all-at, list-at, list-length, join-each, join-length, join-more}
+use Rattle.base.proofs.Below.{every-at, all-at, sum-upto, list-at, list-length, join-each, join-length, join-more}
+use Rattle.base.proofs.Cases.{pick-most}
 use Rattle.model.specs.Blocks.{blocksOf, lengthOk, kindAt, countAt, headOk, headsOk, countIn, startAt, startsIn, startsOf, totalOf}
 use Rattle.model.specs.Index.{placed}
 use Rattle.model.proofs.Places.{placed-more}
-
-pick-le : (t : Bool) (n : ℕ) → pick t n 0 ≤ n
-pick-le true n = omega arith
-pick-le false n = omega arith
-
--- the sum up to a number and what is added there are within the whole sum
-sum-upto : (f : ℕ → ℕ) (n b : ℕ) → b < n → sumBelow f b + f b ≤ sumBelow f n
-unfolding sumBelow
-sum-upto f zero b h = absurd (not-suc-le-zero h)
-sum-upto f (suc n) b h = ⊎-elim (λ (e : b ≡ n). rw (← e) (omega arith)) (λ (l : b < n). omega (arith, sum-upto f n b l)) (eq-or-lt-of-le (le-of-suc-le-suc h))
 
 pick-some : (t : Bool) (n j : ℕ) → j < pick t n 0 → t ≡ true
 pick-some true n j h = refl
@@ -49,7 +39,7 @@ module _ (m : List ℕ) where
 
   pub count-le : (k b : ℕ) → countIn k m b ≤ countAt m b
   unfolding countIn
-  count-le k b = pick-le (eqb (kindAt m b) k) (countAt m b)
+  count-le k b = pick-most (eqb (kindAt m b) k) (countAt m b)
 
   -- the records up to block b, and those in it, are within the total
   pub total-upto : (k b : ℕ) → b < blocksOf m → sumBelow (countIn k m) b + countIn k m b ≤ totalOf k m

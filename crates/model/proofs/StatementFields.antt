@@ -1,6 +1,6 @@
 -- The laws of statement fields: what rule 5 says of a statement by its kind. Assumes nothing.
 use mathlib.Core.Path.{_≡_, refl}
-use mathlib.Core.Bool.{true}
+use mathlib.Core.Bool.{true, false≢true}
 use mathlib.Core.Logic.{⊎-elim}
 use Prim.Native.Nat.{ℕ, _^_, _≤_, _<_}
 use native.Mathlib.Omega.{arith}
@@ -13,7 +13,6 @@ use Rattle.model.specs.Fields.{absent, isNode, isNodeOrAbsent, inSpan, o
 use Rattle.model.specs.Facts.{Spans}
 use Rattle.model.specs.declared.records.StatementRecord.{StatementRecord}
 use Rattle.model.proofs.NodeTypes.{or-cases}
-use Rattle.model.proofs.NodeFields.{failed}
 
 pub statement-ok : (M : Model) (n : ℕ) → fieldsOk M ≡ true → n < length (M .statements) → statementOk M n (statementAt M n) ≡ true
 unfolding fieldsOk
@@ -31,8 +30,8 @@ module _ (M : Model) (n : ℕ) (s : StatementRecord) (ok : statementOk M n s ≡
       let k = s .kind in
       ⊎-elim (λ (l : k < 6). omega arith)
       (λ (l : 6 ≤ k).
-      failed
-      (rw (ne-eqb k 0 (omega arith), ne-eqb k 1 (omega arith), ne-eqb k 2 (omega arith), ne-eqb k 3 (omega arith), ne-eqb k 4 (omega arith), ne-eqb k 5 (omega arith)) at ok))
+      absurd
+      (false≢true (rw (ne-eqb k 0 (omega arith), ne-eqb k 1 (omega arith), ne-eqb k 2 (omega arith), ne-eqb k 3 (omega arith), ne-eqb k 4 (omega arith), ne-eqb k 5 (omega arith)) at ok)))
       (split k 6)
 
   pub names-variable : s .kind ≡ 1 → s .a < length (M .variables)

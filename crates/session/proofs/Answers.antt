@@ -1,7 +1,7 @@
 -- What the bytes of an answer and of an order say: the refusal, the picks made, the count.
 -- Assumes nothing.
 use mathlib.Core.Path.{_≡_}
-use mathlib.Core.List.{List, [], _∷_, _++_}
+use mathlib.Core.List.{List, [], _∷_}
 use Prim.Native.Nat.{ℕ, zero, suc, _*_, _<_}
 use native.Mathlib.Omega.{arith}
 use lib.ListN.{take, drop}
@@ -9,6 +9,7 @@ use lib.Seq.{getD-take, getD-drop}
 use Rattle.base.specs.Below.{listBelow}
 use Rattle.base.specs.Bytes.{byteAt, wordAt}
 use Rattle.cycle.specs.Orders.{Outcome}
+use Rattle.cycle.proofs.Lists.{All, all-append}
 use Rattle.session.specs.Lists.{Order, orderOf, ordersOf, answerOf}
 use Rattle.session.specs.Demand3.{Bytes}
 
@@ -24,17 +25,12 @@ picks-word r h = omega arith
 
 -- the count of an order is 16 bits
 abbrev pub Small : List Order → Type 0
-Small [] = Unit {0}
-Small (o ∷ os) = (o .count < 65536) × Small os
-
-small-append : (os us : List Order) → Small os → Small us → Small (os ++ us)
-small-append [] us s t = t
-small-append (o ∷ os) us s t = (s .0, small-append os us (s .1) t)
+Small = All (λ o. o .count < 65536)
 
 small-below : (f : ℕ → Order) → ((i : ℕ) → f i .count < 65536) → (n : ℕ) → Small (listBelow f n)
 unfolding listBelow
 small-below f h zero = tt
-small-below f h (suc n) = small-append (listBelow f n) (f n ∷ []) (small-below f h n) (h n, tt)
+small-below f h (suc n) = all-append (λ o. o .count < 65536) (listBelow f n) (f n ∷ []) (small-below f h n) (h n, tt)
 
 -- byte j of order i
 byte-small : (xs : Bytes) (i j : ℕ) → j < 4 → byteAt (take 4 (drop (4 * i) (xs .bytes))) j < 256

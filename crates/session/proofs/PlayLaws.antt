@@ -1,6 +1,6 @@
 -- Laws of a list of orders played from its bytes: the next order, its answer written behind those before it, and the end.
 -- Assumes nothing.
-use mathlib.Core.Path.{_≡_, refl, ap, _∙_}
+use mathlib.Core.Path.{_≡_, ap, _∙_}
 use mathlib.Core.Bool.{Bool, true, false, not}
 use mathlib.Core.List.{List, [], _∷_, _++_, append-assoc, append-nil}
 use Prim.Native.Nat.{ℕ, _+_, _*_, _-_, _/_, _≤_, _<_}
@@ -138,8 +138,3 @@ module _ {M : Model} {os : List ℕ} {c₀ : Configuration} {i : ℕ} {at : Conf
             end = end-next ∙ t .playing .end;
             bytes = bytes-next _ ∙ t .playing .bytes;
           }
-
--- a refused order leaves the configuration
-pub refused-answers : {M : Model} {at : Config} (n : ℕ) → Fine M at → Answers M (record { refusal = n; byte = 0; picks = 0; value = 0; config = at }) (refused n (viewOf at))
-unfolding outcomeOf
-refused-answers n f = record { is = refl; fine = f }

@@ -1,24 +1,21 @@
 -- The operators see a number's code alone, and give codes: X and what is read as X are in none of the operators' classes. Assumes nothing.
 use mathlib.Core.Path.{_≡_, refl}
-use mathlib.Core.Bool.{Bool, true, false}
 use Prim.Native.Nat.{ℕ, _<_}
 use native.Mathlib.Omega.{arith}
 use lib.Dec.{eqb, ltb, lit<}
 use borrow.Author.Tests.{ltb-true, ltb-false, ne-eqb}
 use Rattle.base.specs.Below.{allBelow}
 use Rattle.base.proofs.Below.{all-at}
-use Rattle.base.specs.Cases.{pick}
+use Rattle.base.proofs.Cases.{by-test}
 use Rattle.values.specs.Nine.{codeOf, isU, low, high}
 use Rattle.values.specs.Operators.{notOf, andOf, orOf, xorOf}
 use Rattle.values.proofs.Tables.{Coded, code-below, below}
 
 test-code : (x n : ℕ) → n < 9 → (n ≡ 1 → ⊥) → eqb (codeOf x) n ≡ eqb x n
 unfolding codeOf
-test-code x n h g = by-test (ltb x 9) refl
-  where
-    by-test : (b : Bool) → ltb x 9 ≡ b → eqb (pick b x 1) n ≡ eqb x n
-    by-test true e = refl
-    by-test false e = let l = ltb-false x 9 e in rw (ne-eqb 1 n (λ z. g (omega arith)), ne-eqb x n (λ z. omega arith))
+test-code x n h g =
+    by-test (λ y. eqb y n ≡ eqb x n) (ltb x 9) x 1 (λ e. refl)
+    (λ e. let l = ltb-false x 9 e in rw (ne-eqb 1 n (λ z. g (omega arith)), ne-eqb x n (λ z. omega arith)))
 
 isU-code : (x : ℕ) → isU (codeOf x) ≡ isU x
 unfolding isU

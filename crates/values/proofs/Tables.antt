@@ -1,25 +1,21 @@
 -- What one computed test over the codes 0 to 8 says of all numbers, since a table and a rule see a number's code alone.
 -- Assumes nothing.
-use mathlib.Core.Path.{_≡_, refl, sym, _∙_}
-use mathlib.Core.Bool.{Bool, true, false}
+use mathlib.Core.Path.{_≡_, sym, _∙_}
+use mathlib.Core.Bool.{Bool, true}
 use mathlib.Core.List.{List, []}
 use Prim.Native.Nat.{ℕ, _<_}
 use lib.Dec.{eqb, ltb, lit<}
 use lib.ListN.{getD}
 use borrow.Author.Tests.{ltb-true, lt-ltb, eqb-true}
 use Rattle.base.specs.Below.{allBelow}
-use Rattle.base.specs.Cases.{pick}
 use Rattle.base.proofs.Below.{all-at}
+use Rattle.base.proofs.Cases.{by-test}
 use Rattle.values.specs.Nine.{codeOf}
 use Rattle.values.specs.Resolve.{inRow, pairIn, closed, symmetric, associative, PairLaws}
 
 pub code-below : (x : ℕ) → codeOf x < 9
 unfolding codeOf
-code-below x = by-test (ltb x 9) refl
-  where
-    by-test : (b : Bool) → ltb x 9 ≡ b → pick b x 1 < 9
-    by-test true e = ltb-true x 9 e
-    by-test false e = lit< tt
+code-below x = by-test (λ y. y < 9) (ltb x 9) x 1 (ltb-true x 9) (λ e. lit< tt)
 
 pub code-self : (x : ℕ) → x < 9 → codeOf x ≡ x
 unfolding codeOf

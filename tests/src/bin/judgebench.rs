@@ -1,12 +1,12 @@
 //! How long the judging of a full 32,768-byte model takes: the second kernel and, with the feature `proved`, the proved one.
 
 use second_kernel::builder::Builder;
-use second_kernel::model::{self, encode_with, full_plan, Model, ABSENT};
+use second_kernel::model::{self, encode_with, full_plan, ABSENT};
 use std::hint::black_box;
 use std::time::Instant;
 
 /// Every total at its limit, every tree as large as can be, 64 blocks.
-fn largest() -> (Model, Vec<u8>) {
+fn largest() -> Vec<u8> {
     let mut b = Builder::new();
     for _ in 0..32 {
         b.signal(model::LOGIC, 2);
@@ -28,32 +28,15 @@ fn largest() -> (Model, Vec<u8>) {
     while b.m.nodes.len() < 400 {
         last = b.node(6, last, 0, 0);
     }
-    let statements = [
-        13, 13, 13, 13, 13, 13, 13, 13, 12, 12, 12, 12, 12, 12, 12, 12,
-    ];
-    for (p, count) in statements.iter().enumerate() {
+    for p in 0..16 {
         b.process();
-        for n in 0..*count {
+        for n in 0..if p < 8 { 13 } else { 12 } {
             let root = roots[n % roots.len()];
-            let statement = match n % 2 {
-                0 => model::StatementRecord {
-                    kind: 1,
-                    a: 4 * p as u16,
-                    b: root,
-                    c: 0,
-                    set: 0,
-                },
-                _ => model::StatementRecord {
-                    kind: 5,
-                    a: 0,
-                    b: ABSENT,
-                    c: root,
-                    set: 1,
-                },
+            match n % 2 {
+                0 => b.assign(4 * p, root),
+                _ => b.wait(1, ABSENT, root),
             };
-            b.m.statements.push(statement);
         }
-        b.m.processes[p].count = *count as u16;
     }
     for p in 0..16 {
         for s in 0..4 {
@@ -63,8 +46,7 @@ fn largest() -> (Model, Vec<u8>) {
     let mut plan = full_plan(&b.m);
     let blocks: usize = plan.iter().map(Vec::len).sum();
     plan[5].extend(std::iter::repeat(0).take(64 - blocks));
-    let bytes = encode_with(&b.m, &plan);
-    (b.m, bytes)
+    encode_with(&b.m, &plan)
 }
 
 fn time(name: &str, bytes: &[u8], judge: &dyn Fn(&[u8]) -> u32) -> f64 {
@@ -87,7 +69,7 @@ fn time(name: &str, bytes: &[u8], judge: &dyn Fn(&[u8]) -> u32) -> f64 {
 }
 
 fn main() {
-    let (_, bytes) = largest();
+    let bytes = largest();
     let second = time("second", &bytes, &model::judge);
     #[cfg(feature = "proved")]
     {

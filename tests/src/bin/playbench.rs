@@ -2,10 +2,9 @@
 //! a line per answer.
 
 use std::io::Write;
-use std::process::ExitCode;
 
 fn file(name: &str) -> Result<Vec<u8>, String> {
-    std::fs::read(name).map_err(|e| format!("playbench: cannot read file `{name}`: {e}"))
+    std::fs::read(name).map_err(|e| format!("cannot read file `{name}`: {e}"))
 }
 
 fn run() -> Result<(), String> {
@@ -15,15 +14,9 @@ fn run() -> Result<(), String> {
     let mut out = std::io::stdout().lock();
     out.write_all(text.as_bytes())
         .and_then(|()| out.flush())
-        .map_err(|e| format!("playbench: cannot write: {e}"))
+        .map_err(|e| format!("cannot write: {e}"))
 }
 
-fn main() -> ExitCode {
-    match run() {
-        Ok(()) => ExitCode::SUCCESS,
-        Err(message) => {
-            eprintln!("{message}");
-            ExitCode::FAILURE
-        }
-    }
+fn main() -> std::process::ExitCode {
+    second_kernel::end("playbench", run())
 }

@@ -5,7 +5,7 @@ use borrow.Author.Tests.{eq-eqb, ne-eqb}
 use lib.Dec.{eqb}
 use Rattle.model.specs.Trees.{boolean}
 use Rattle.cycle.specs.declared.eval.Value.the-variants.{Of}
-use Rattle.cycle.proofs.Logical.{either}
+use Rattle.base.proofs.Cases.{either}
 use Rattle.cycle.proofs.operators.not.Statement.{statement}
 use Rattle.cycle.proofs.operators.not.Tie as tie
 

@@ -1,8 +1,8 @@
 use mathlib.Core.Path.{_≡_, sym, _∙_}
 use mathlib.Core.Bool.{false}
 use Prim.Native.Nat.{ℕ, _-_, _≤_, _<_, zero-le}
-use native.Mathlib.Nat.{le-antisymm, not-suc-le-zero}
-use borrow.Author.Count.{falls, below-more}
+use native.Mathlib.Nat.{le-antisymm}
+use borrow.Author.Count.{falls, below-none, below-more}
 use borrow.Author.Tests.{lt-ltb, le-ltb}
 use lib.Dec.{ltb}
 use Rattle.base.proofs.Course.{first-found, first-none}
@@ -20,7 +20,7 @@ abbrev μ-loop : tie.MeasureT-loop
 μ-loop m index t n p₀ p = t .processes - p
 
 loop-holds : tie.Need-loop-holds Inv-loop μ-loop
-loop-holds c = (zero-le, λ k h. absurd (not-suc-le-zero h))
+loop-holds c = (zero-le, below-none _)
 
 end-of-requires : tie.Need-end-of-requires Inv-loop μ-loop
 end-of-requires c κs = let s = c .before .before .before .before in (s .pre .0, rw (s .pre .1 .processes) at (c .if1 .taken))

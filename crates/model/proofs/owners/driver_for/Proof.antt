@@ -1,8 +1,8 @@
 use mathlib.Core.Path.{_≡_, sym, _∙_}
 use mathlib.Core.Bool.{false}
 use Prim.Native.Nat.{ℕ, _-_, _≤_, _<_, zero-le}
-use native.Mathlib.Nat.{le-antisymm, not-suc-le-zero}
-use borrow.Author.Count.{falls, below-more}
+use native.Mathlib.Nat.{le-antisymm}
+use borrow.Author.Count.{falls, below-none, below-more}
 use Rattle.base.proofs.Course.{first-found, first-none}
 use Rattle.base.proofs.Turns.{turn-next, turn-most}
 use Rattle.model.specs.Records.{modelOf}
@@ -19,7 +19,7 @@ abbrev μ-loop : tie.MeasureT-loop
 μ-loop m index t p s i₀ i = t .drivers - i
 
 loop-holds : tie.Need-loop-holds Inv-loop μ-loop
-loop-holds c = (zero-le, λ k h. absurd (not-suc-le-zero h))
+loop-holds c = (zero-le, below-none _)
 
 driver-at-requires : tie.Need-driver-at-requires Inv-loop μ-loop
 driver-at-requires c κs = let s = c .before .before .before .before in (s .pre .0, rw (s .pre .1 .drivers) at (c .if1 .taken))

@@ -2,8 +2,8 @@
 -- the types are kept. Assumes nothing.
 use mathlib.Core.Path.{_∙_}
 use Prim.Native.Nat.{_+_, _-_, _≤_, _<_, zero-le}
-use native.Mathlib.Nat.{le-antisymm, not-suc-le-zero}
-use borrow.Author.Count.{falls}
+use native.Mathlib.Nat.{le-antisymm}
+use borrow.Author.Count.{falls, below-none}
 use denote.Ref.{now}
 use lib.ListN.{length, length-set}
 use Rattle.base.proofs.Turns.{turn-next, turn-most}
@@ -21,7 +21,7 @@ abbrev μ-loop : tie.MeasureT-loop
 μ-loop m index₀ t n₀ index n = t .statements - n
 
 loop-holds : tie.Need-loop-holds Inv-loop μ-loop
-loop-holds c = (zero-le, c .before .pre .0, λ k h. absurd (not-suc-le-zero h))
+loop-holds c = (zero-le, c .before .pre .0, below-none _)
 
 -- the statement is there, and below the limit
 there : (c : tie.Then1 Inv-loop μ-loop) → c .before .before .loop .n < length (modelOf (now (c .before .before .before .before .args .m)) .statements)

@@ -2,8 +2,8 @@
 -- Assumes nothing.
 use mathlib.Core.Path.{_≡_, ap, _∙_}
 use Prim.Native.Nat.{_+_, _-_, _≤_, _<_, zero-le}
-use native.Mathlib.Nat.{le-antisymm, not-suc-le-zero}
-use borrow.Author.Count.{falls}
+use native.Mathlib.Nat.{le-antisymm}
+use borrow.Author.Count.{falls, below-none}
 use denote.Ref.{now}
 use lib.Dec.{leb}
 use lib.ListN.{length, length-set}
@@ -27,7 +27,7 @@ abbrev μ-loop : tie.MeasureT-loop
 loop-holds : tie.Need-loop-holds Inv-loop μ-loop
 loop-holds c =
     let p = c .before .pre in
-    (zero-le, p .0, p .1 .0, (λ k h. absurd (not-suc-le-zero h)), all-begun _)
+    (zero-le, p .0, p .1 .0, below-none _, all-begun _)
 
 -- the node is there, and below the limit
 there : (c : tie.Then1 Inv-loop μ-loop) → c .before .before .loop .n < length (modelOf (now (c .before .before .before .before .args .m)) .nodes)

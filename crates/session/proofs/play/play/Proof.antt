@@ -5,8 +5,9 @@ use borrow.Author.Needs.{needs}
 use Rattle.model.specs.Records.{modelOf}
 use Rattle.cycle.specs.View.{viewOf}
 use Rattle.cycle.proofs.Advances.{few-signals}
+use Rattle.cycle.proofs.OrderLaws.{refused-each}
 use Rattle.session.specs.Lists.{played}
-use Rattle.session.proofs.PlayLaws.{Playing, Reading, playing-next, refused-order, pick-order, advance-order, settle-order, read-order, refused-answers, no-orders, all-written}
+use Rattle.session.proofs.PlayLaws.{Playing, Reading, playing-next, refused-order, pick-order, advance-order, settle-order, read-order, no-orders, all-written}
 use Rattle.session.proofs.play.play.Statement.{statement}
 use Rattle.session.proofs.play.play.Tie as tie
 
@@ -95,7 +96,7 @@ loop-again c =
     let put = c .before .before in
     let test = put .before .before in
     let order = reading (test .before) in
-    playing-next order (refused-order order (test .if1 .taken)) (refused-answers 11 (order .playing .fine)) (put .put-answer .ensures)
+    playing-next order (refused-order order (test .if1 .taken)) (refused-each _ 11 _ (order .playing .fine)) (put .put-answer .ensures)
 
 pick-requires : tie.Need-pick-requires Inv-loop μ-loop
 pick-requires c κs = search needs
