@@ -1,15 +1,13 @@
 -- The past of the signals after a time step: what a loop over the entries leaves is each history shifted. Assumes nothing.
 use mathlib.Core.Path.{_≡_, refl, sym, ap, _∙_}
-use mathlib.Core.List.{List, [], _∷_, _++_, map}
-use Prim.Native.Nat.{ℕ, zero, suc, _+_, _-_, _*_, _%_, _≤_, _<_, min}
-use native.Mathlib.Nat.{eq-or-lt-of-le, le-of-suc-le-suc}
+use mathlib.Core.List.{List, [], _++_, map}
+use Prim.Native.Nat.{ℕ, _+_, _-_, _*_, _%_, _≤_, _<_, min}
 use native.Mathlib.Decide.{decLt, ℕ-discrete}
-use native.Mathlib.Numerals.{add-one}
 use native.Mathlib.Omega.{arith}
-use lib.ListN.{length, getD, set, length-set, take, replicate, length-replicate, length-map, getD-replicate, List·getD-append}
+use lib.ListN.{length, getD, set, length-set, replicate, length-replicate, length-map, getD-replicate, List·getD-append}
 use lib.Seq.{getD-take, ext-getD, getD-append-add, getD-set-same, getD-set-other}
 use Rattle.base.specs.Below.{listBelow}
-use Rattle.base.proofs.Below.{list-length, list-at, list-same}
+use Rattle.base.proofs.Below.{list-length, list-at}
 use Rattle.cycle.specs.Steps.{shifted}
 use Rattle.cycle.specs.View.{historyOf}
 use Rattle.cycle.specs.Shift.{Between, MovedBy, FilledTo, ShiftedBy}

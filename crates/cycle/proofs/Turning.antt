@@ -198,9 +198,6 @@ module _ {M : Model} {now p : ℕ} {c : Config} {e : Effect} (t : Turn M now p c
     pub in-drivers : k < 64
     in-drivers = omega (arith, schedule-fits .driver, fs .totals .drivers)
 
-    pub delay-small : d < 2147483648
-    delay-small = schedule-fits .delay
-
     -- the driver has a waveform
     pub waveform : Waveform (getD (c .drivers) k noDriver)
     waveform =
