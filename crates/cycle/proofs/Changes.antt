@@ -160,19 +160,19 @@ module _ (M : Model) (c : Config) (p : ℕ) (h : p < c .np) where
     unfolding viewOf driverView
     stop-view f = change-is (Stop f) (stopsBy c p f) refl refl refl refl (stopped-is f) refl
 
-    module _ (k d v : ℕ) (kd : k < c .nd) (k64 : k < 64) (r : Scheduled) (to : ScheduledTo (getD (c .drivers) k noDriver) (c .time + d) v r) where
+    module _ (k d v : ℕ) (kd : k < c .nd) (k64 : k < 64) (r : Scheduled) (to : ScheduledTo (getD (c .drivers) k noDriver) d v r) where
       full-is : r .full ≡ fullAfter (Schedule k d v) (c .time) (viewOf c .drivers)
-      full-is = to .full ∙ rw (pending-in c k kd)
+      full-is = to .full (c .time) ∙ rw (pending-in c k kd)
 
-      driver-is : driving (getD (c .currents) k 0) (r .driver) ≡ driverAfter (c .time + d) v (driverIn (viewOf c .drivers) k)
+      driver-is : driving (c .time) (getD (c .currents) k 0) (r .driver) ≡ driverAfter (c .time + d) v (driverIn (viewOf c .drivers) k)
       unfolding driverView
-      driver-is = to .driver (getD (c .currents) k 0) ∙ rw (driver-in c k kd)
+      driver-is = to .driver (c .time) (getD (c .currents) k 0) ∙ rw (driver-in c k kd)
 
       pub schedule-view : (t i : ℕ) → i ≡ next → r .full ≡ false → viewOf (scheduledTo c p k (r .driver) t i) ≡ applied M p (Schedule k d v) (viewOf c)
       unfolding viewOf driverView processView
       schedule-view t i e f =
           change-is (Schedule k d v) (scheduledTo c p k (r .driver) t i) refl refl refl
-          (driver-set (c .currents) (c .drivers) (c .nd) k (r .driver) (omega (arith, s .drivers)) ∙ rw driver-is)
+          (driver-set (c .time) (c .currents) (c .drivers) (c .nd) k (r .driver) (omega (arith, s .drivers)) ∙ rw driver-is)
           (moved-is i (c .variables) ∙ rw (← full-is, f, e)) refl
 
       stays : r .full ≡ true → viewOf c .drivers ≡ set (viewOf c .drivers) k (driverAfter (c .time + d) v (driverIn (viewOf c .drivers) k))

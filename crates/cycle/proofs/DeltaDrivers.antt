@@ -29,16 +29,16 @@ pub record Slot : Type 0 where
 abbrev pub slotOf : Config → ℕ → Slot
 slotOf c k = record { current = getD (c .currents) k 0; due = getD (c .due) k 0; driver = getD (c .drivers) k noDriver }
 
-abbrev pub heldBy : Slot → DriverState
-heldBy x = record { current = x .current; pending = pendingOf (x .driver) }
+abbrev pub heldBy : ℕ → Slot → DriverState
+heldBy t x = record { current = x .current; pending = pendingOf t (x .driver) }
 
 -- `due` has the first pending time
-abbrev pub Timed : Slot → Type 0
-Timed x = x .due ≡ firstTime (pendingOf (x .driver))
+abbrev pub Timed : ℕ → Slot → Type 0
+Timed t x = x .due ≡ firstTime (pendingOf t (x .driver))
 
 pub record TakenSlot (t : ℕ) (x y : Slot) : Type 0 where
-  pub state : heldBy y ≡ taken t (heldBy x)
-  pub due : Timed y
+  pub state : heldBy t y ≡ taken t (heldBy t x)
+  pub due : Timed t y
 
 -- a time is none of those that stand for no transaction
 pub first-due : (t : ℕ) (w : List Transaction) → t ≤ lastTime → dueIn t w ≡ eqb (firstTime w) t
@@ -49,26 +49,26 @@ not-due : (t current : ℕ) (w : List Transaction) → (firstTime w ≡ t → �
 not-due t current [] n = refl
 not-due t current (x ∷ w) n = rw (ne-eqb (x .time) t n)
 
-module _ (t : ℕ) (x : Slot) (m : Timed x) where
+module _ (t : ℕ) (x : Slot) (m : Timed t x) where
   pub slot-kept : (x .due ≡ t → ⊥) → TakenSlot t x x
   unfolding taken
-  slot-kept n = record { state = not-due t (x .current) (pendingOf (x .driver)) (λ e. n (m ∙ e)); due = m }
+  slot-kept n = record { state = not-due t (x .current) (pendingOf t (x .driver)) (λ e. n (m ∙ e)); due = m }
 
   module _ (h : t ≤ lastTime) (d : x .due ≡ t) where
     pub some-pending : 1 ≤ x .driver .count
     some-pending =
         elim (decLt 0 (x .driver .count)) [
           | yes l ↦ l
-          | no l ↦ absurd (omega (arith, l, m, first-none (x .driver) (omega (arith, l))))
+          | no l ↦ absurd (omega (arith, l, m, first-none t (x .driver) (omega (arith, l))))
         ]
 
-    at-first : getD (x .driver .times) 0 0 ≡ t
-    at-first = first-some (x .driver) (λ e. omega (arith, some-pending)) ∙ sym m ∙ d
+    at-first : t + getD (x .driver .times) 0 0 ≡ t
+    at-first = first-some t (x .driver) (λ e. omega (arith, some-pending)) ∙ sym m ∙ d
 
-    pub slot-taken : (e : Driver) (f : ℕ) → pendingOf e ≡ drop 1 (pendingOf (x .driver)) → f ≡ firstTime (pendingOf e) → TakenSlot t x (record { current = getD (x .driver .values) 0 0; due = f; driver = e })
+    pub slot-taken : (e : Driver) (f : ℕ) → ((t : ℕ) → pendingOf t e ≡ drop 1 (pendingOf t (x .driver))) → f ≡ firstTime (pendingOf t e) → TakenSlot t x (record { current = getD (x .driver .values) 0 0; due = f; driver = e })
     unfolding taken
     slot-taken e f p q =
-        record { state = rw (p, pending-first (x .driver) some-pending, eq-eqb (getD (x .driver .times) 0 0) t at-first); due = q }
+        record { state = rw (p t, pending-first t (x .driver) some-pending, eq-eqb (t + getD (x .driver .times) 0 0) t at-first); due = q }
 
 -- a configuration with other drivers
 abbrev pub withDrivers : Config → List ℕ → List ℕ → List Driver → Config
@@ -171,12 +171,12 @@ module _ (M : Model) (c : Config) (f : Fine M c) where
     pub few-pending : getD (c .drivers) k noDriver .count ≤ 8
     few-pending =
         let l : k < length (M .drivers) = omega (arith, nd-is M c (f .reachable)) in
-        let e : length (pendingOf (getD (c .drivers) k noDriver)) ≤ 8 = rw (pending-in c k h) at (f .reachable .each-driver k l .few) in
-        omega (arith, pending-length (getD (c .drivers) k noDriver))
+        let e : length (pendingOf (c .time) (getD (c .drivers) k noDriver)) ≤ 8 = rw (pending-in c k h) at (f .reachable .each-driver k l .few) in
+        omega (arith, pending-length (c .time) (getD (c .drivers) k noDriver))
 
     module _ (r : Config) (t : Taking c k r) where
-      pub next-timed : Timed (slotOf r k)
-      next-timed = subst Timed (sym (t .left k (omega arith))) (f .due k h)
+      pub next-timed : Timed (c .time) (slotOf r k)
+      next-timed = subst (Timed (c .time)) (sym (t .left k (omega arith))) (f .due k h)
 
       pub next-few : slotOf r k .driver .count ≤ 8
       next-few = subst (λ (x : Slot). x .driver .count ≤ 8) (sym (t .left k (omega arith))) few-pending

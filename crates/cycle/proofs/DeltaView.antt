@@ -140,7 +140,7 @@ module _ (M : Model) (fs : Facts M) (c : Config) (f : Fine M c) (set : ℕ) (a :
     unfolding driverView viewOf
     current-is k h =
         let l : k < length (listBelow (driverView c) (c .nd)) = omega (arith, list-length (driverView c) (c .nd)) in
-        let e : driverIn drivers-now k ≡ taken (c .time) (heldBy (slotOf c k)) = map-at (taken (c .time)) (viewOf c .drivers) k _ _ l ∙ ap (taken (c .time)) (driver-in c k h) in
+        let e : driverIn drivers-now k ≡ taken (c .time) (heldBy (c .time) (slotOf c k)) = map-at (taken (c .time)) (viewOf c .drivers) k _ _ l ∙ ap (taken (c .time)) (driver-in c k h) in
         ap (λ (x : DriverState). x .current) (done k h .state ∙ sym e)
 
     -- the active signals
@@ -149,7 +149,7 @@ module _ (M : Model) (fs : Facts M) (c : Config) (f : Fine M c) (set : ℕ) (a :
     active-is s h =
         rw (← nd-is M c (f .reachable))
         (any-same _ _ (c .nd)
-        (λ k l. rw (driver-in c k l, first-due (c .time) (pendingOf (getD (c .drivers) k noDriver)) (time-most M c f), ← f .due k l)))
+        (λ k l. rw (driver-in c k l, first-due (c .time) (pendingOf (c .time) (getD (c .drivers) k noDriver)) (time-most M c f), ← f .due k l)))
         ∙ sym (a .at s h)
 
     past : (s k : ℕ) → k < 32 → (k ≡ 0 → ⊥) → getD new (32 * s + k) 0 ≡ getD (c .signals) (32 * s + k) 0

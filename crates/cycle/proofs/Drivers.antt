@@ -6,10 +6,11 @@ use mathlib.Core.List.{List, [], _∷_, _++_, append-nil}
 use mathlib.Core.Logic.{⊎-elim}
 use Prim.Native.Nat.{ℕ, zero, suc, _+_, _-_, _≤_, _<_}
 use native.Mathlib.Nat.{eq-or-lt-of-le, le-of-suc-le-suc, not-suc-le-zero}
+use native.Mathlib.Decide.{ℕ-discrete}
 use native.Mathlib.Numerals.{one-add}
 use native.Mathlib.Omega.{arith}
 use lib.Dec.{ltb}
-use lib.ListN.{length, getD, drop, set, length-drop, drop-of-length-le, List·getD-append}
+use lib.ListN.{length, getD, drop, set, length-set, length-drop, drop-of-length-le, List·getD-append}
 use lib.Seq.{drop-cons, getD-drop, getD-set-same, getD-set-other}
 use borrow.Author.Tests.{lt-ltb, le-ltb}
 use Rattle.base.specs.Cases.{pick}
@@ -19,16 +20,16 @@ use Rattle.cycle.specs.Configuration.{Transaction}
 use Rattle.cycle.specs.Statements.{before, scheduled, overflows, driverAfter}
 use Rattle.cycle.specs.Invariant.{Rising}
 use Rattle.cycle.specs.View.{never, pendingOf, firstTime}
-use Rattle.cycle.specs.Waveform.{Waveform, Kept, ScheduledTo}
+use Rattle.cycle.specs.Waveform.{Waveform, Kept, Nearer, ScheduledTo, Ahead, Elapsed}
 use Rattle.cycle.specs.declared.driver.Driver.{Driver}
 use Rattle.cycle.proofs.Waves.{scheduled-length}
 
 abbrev pub nothing : Transaction
 nothing = record { time = 0; value = 0 }
 
--- transaction j of the arrays
-abbrev pub transactionAt : Driver → ℕ → Transaction
-transactionAt d j = record { time = getD (d .times) j 0; value = getD (d .values) j 0 }
+-- transaction j of the arrays, at the time t
+abbrev pub transactionAt : ℕ → Driver → ℕ → Transaction
+transactionAt t d j = record { time = t + getD (d .times) j 0; value = getD (d .values) j 0 }
 
 -- each transaction of a waveform is later than those before it
 from-first : (t : ℕ) (w : List Transaction) → Rising t w → (k : ℕ) → k < length w → t ≤ getD w k nothing .time
@@ -71,29 +72,44 @@ module _ (at : ℕ) where
       (λ (l : n < suc c). rw (before-first f c n (omega arith) b (λ k l m. s k l (omega arith)), before-none (f c) (s c (omega arith) (omega arith)), append-nil))
       (eq-or-lt-of-le h))
 
-module _ (d : Driver) where
-  pub pending-length : length (pendingOf d) ≡ d .count
+module _ (t : ℕ) (d : Driver) where
+  pub pending-length : length (pendingOf t d) ≡ d .count
   unfolding pendingOf
-  pending-length = list-length (transactionAt d) (d .count)
+  pending-length = list-length (transactionAt t d) (d .count)
 
-  pub pending-at : (j : ℕ) → j < d .count → getD (pendingOf d) j nothing ≡ transactionAt d j
+  pub pending-at : (j : ℕ) → j < d .count → getD (pendingOf t d) j nothing ≡ transactionAt t d j
   unfolding pendingOf
-  pending-at j h = list-at (transactionAt d) nothing (d .count) j h
+  pending-at j h = list-at (transactionAt t d) nothing (d .count) j h
 
-  pub pending-none : d .count ≡ 0 → pendingOf d ≡ []
+  time-at : (j : ℕ) → j < d .count → getD (pendingOf t d) j nothing .time ≡ t + getD (d .times) j 0
+  time-at j h = ap (λ (x : Transaction). x .time) (pending-at j h)
+
+  pub pending-none : d .count ≡ 0 → pendingOf t d ≡ []
   unfolding pendingOf
   pending-none e = rw (e, list-none)
 
   -- the first, then the rest
-  pub pending-first : 1 ≤ d .count → pendingOf d ≡ transactionAt d 0 ∷ listBelow (λ j. transactionAt d (suc j)) (d .count - 1)
+  pub pending-first : 1 ≤ d .count → pendingOf t d ≡ transactionAt t d 0 ∷ listBelow (λ j. transactionAt t d (suc j)) (d .count - 1)
   unfolding pendingOf
-  pending-first h = let e : d .count ≡ suc (d .count - 1) = omega arith in ap (listBelow (transactionAt d)) e ∙ list-first (transactionAt d) (d .count - 1)
+  pending-first h = let e : d .count ≡ suc (d .count - 1) = omega arith in ap (listBelow (transactionAt t d)) e ∙ list-first (transactionAt t d) (d .count - 1)
 
-  pub first-none : d .count ≡ 0 → never ≡ firstTime (pendingOf d)
+  pub first-none : d .count ≡ 0 → never ≡ firstTime (pendingOf t d)
   first-none e = rw (pending-none e)
 
-  pub first-some : (d .count ≡ 0 → ⊥) → getD (d .times) 0 0 ≡ firstTime (pendingOf d)
+  pub first-some : (d .count ≡ 0 → ⊥) → t + getD (d .times) 0 0 ≡ firstTime (pendingOf t d)
   first-some f = rw (pending-first (omega (arith, f)))
+
+  -- a rising waveform rises in its arrays, and none of it is before its first time s
+  module _ (s : ℕ) (r : Rising s (pendingOf t d)) where
+    pub waveform-of : d .count ≤ 8 → Waveform d
+    waveform-of l =
+        record {
+          few = l;
+          rising = λ j k m h. omega (arith, time-at j (omega arith), time-at k h, later s (pendingOf t d) r j k m (rw pending-length h));
+        }
+
+    pub ahead-of : d .count ≤ 8 → Ahead (s - t) d
+    ahead-of l = record { few = l; far = λ j h. omega (arith, time-at j h, from-first s (pendingOf t d) r j (rw pending-length h)) }
 
 -- without the first: the arrays are shifted
 module _ (d : Driver) (us ws : List ℕ) (eu : us ≡ drop 1 (d .times) ++ 0 ∷ []) (ew : ws ≡ drop 1 (d .values) ++ 0 ∷ []) where
@@ -103,12 +119,43 @@ module _ (d : Driver) (us ws : List ℕ) (eu : us ≡ drop 1 (d .times) ++ 0 ∷
   next-at : (l : List ℕ) → length l ≡ 8 → (j : ℕ) → j < 7 → getD (drop 1 l ++ 0 ∷ []) j 0 ≡ getD l (suc j) 0
   next-at l e j h = rw (List·getD-append (drop 1 l) (0 ∷ []) 0 j (rw length-drop (omega arith)), getD-drop, one-add)
 
-  pub shifted-pending : length (d .times) ≡ 8 → length (d .values) ≡ 8 → 1 ≤ d .count → d .count ≤ 8 → pendingOf rest ≡ drop 1 (pendingOf d)
+  pub shifted-pending : length (d .times) ≡ 8 → length (d .values) ≡ 8 → 1 ≤ d .count → d .count ≤ 8 → (t : ℕ) → pendingOf t rest ≡ drop 1 (pendingOf t d)
   unfolding pendingOf
-  shifted-pending lt lv h l =
-      rw (pending-first d h)
-      (list-same (transactionAt rest) (λ j. transactionAt d (suc j)) (d .count - 1)
+  shifted-pending lt lv h l t =
+      rw (pending-first t d h)
+      (list-same (transactionAt t rest) (λ j. transactionAt t d (suc j)) (d .count - 1)
       (λ j m. rw (eu, ew, next-at (d .times) lt j (omega arith), next-at (d .values) lv j (omega arith))))
+
+-- times that come nearer, one after the other: the first i are n less, the others stand
+pub record Nearing (old : List ℕ) (n i : ℕ) (new : List ℕ) : Type 0 where
+  pub long : length new ≡ 8
+  pub done : Nearer old i n new
+  pub left : (j : ℕ) → i ≤ j → getD new j 0 ≡ getD old j 0
+
+pub nearing-none : (old : List ℕ) (n : ℕ) → length old ≡ 8 → Nearing old n 0 old
+nearing-none old n e = record { long = e; done = λ j h. absurd (omega arith); left = λ j h. refl }
+
+module _ (old : List ℕ) (n i : ℕ) (new : List ℕ) (h : Nearing old n i new) where
+  pub nearing-more : (v : ℕ) → i < 8 → n + v ≡ getD new i 0 → Nearing old n (i + 1) (set new i v)
+  nearing-more v l e =
+      let m : i < length new = omega (arith, h .long) in
+      record {
+        long = length-set new i v ∙ h .long;
+        done = λ j k. elim (ℕ-discrete j i) [
+          | yes q ↦ rw (q, getD-set-same new i v 0 m) (e ∙ h .left i (omega arith))
+          | no q ↦ rw (getD-set-other new i j v 0 q) (h .done j (omega (arith, q)))
+        ];
+        left = λ j k. getD-set-other new i j v 0 (λ q. omega arith) ∙ h .left j (omega arith);
+      }
+
+  pub nearing-all : (c : ℕ) → i ≤ c → c ≤ i → Nearer old c n new
+  nearing-all c l m j k = h .done j (omega arith)
+
+-- n units later the same transactions are pending
+pub elapsed-is : (d : Driver) (n : ℕ) (ts : List ℕ) → Nearer (d .times) (d .count) n ts → Elapsed n d (record { times = ts; values = d .values; count = d .count })
+unfolding pendingOf
+elapsed-is d n ts h t =
+    list-same _ (transactionAt t d) (d .count) (λ j l. let e : t + n + getD ts j 0 ≡ t + getD (d .times) j 0 = omega (arith, h j l) in rw e)
 
 -- n elements of l, read one by one from i on
 abbrev pub reads : {A : Type 0} → List A → A → ℕ → ℕ → List A
@@ -125,54 +172,51 @@ reads-drop l d i (suc n) e =
 pub shifted : (l : List ℕ) → length l ≡ 8 → reads l 0 1 7 ++ 0 ∷ [] ≡ drop 1 l ++ 0 ∷ []
 shifted l e = ap (λ (m : List ℕ). m ++ 0 ∷ []) (reads-drop l 0 1 7 (omega arith))
 
--- a schedule, n being how many transactions are kept
-module _ (d : Driver) (w : Waveform d) (at v n : ℕ) (k : Kept (d .times) (d .count) at n) where
-  rises : (j : ℕ) → n < j → j < d .count → getD (d .times) n 0 < getD (d .times) j 0
-  rises j l h =
-      rw (ap (λ (x : Transaction). x .time) (pending-at d n (omega arith)), ap (λ (x : Transaction). x .time) (pending-at d j h))
-      at (later 0 (pendingOf d) (w .rising) n j l (rw (pending-length d) h))
-
-  kept-are : before at (pendingOf d) ≡ listBelow (transactionAt d) n
+-- a schedule at the time t, n being how many transactions are kept
+module _ (d : Driver) (w : Waveform d) (delay v n : ℕ) (k : Kept (d .times) (d .count) delay n) where
+  -- units from t compare as times do
+  kept-are : (t : ℕ) → before (t + delay) (pendingOf t d) ≡ listBelow (transactionAt t d) n
   unfolding pendingOf
-  kept-are =
-      before-first at (transactionAt d) (d .count) n (k .within) (k .below)
-      (λ j l h. ⊎-elim (λ (e : n ≡ j). rw e at (k .stop (omega arith))) (λ (m : n < j). omega (arith, k .stop (omega arith), rises j m h)) (eq-or-lt-of-le l))
+  kept-are t =
+      before-first (t + delay) (transactionAt t d) (d .count) n (k .within) (λ j l. omega (arith, k .below j l))
+      (λ j l h. ⊎-elim (λ (e : n ≡ j). omega (arith, rw e at (k .stop (omega arith)))) (λ (m : n < j). omega (arith, k .stop (omega arith), w .rising n j m h)) (eq-or-lt-of-le l))
 
-  scheduled-long : length (scheduled (pendingOf d) at v) ≡ n + 1
-  scheduled-long = scheduled-length (pendingOf d) at v ∙ rw (kept-are, list-length (transactionAt d) n)
+  scheduled-long : (t : ℕ) → length (scheduled (pendingOf t d) (t + delay) v) ≡ n + 1
+  scheduled-long t = scheduled-length (pendingOf t d) (t + delay) v ∙ rw (kept-are t, list-length (transactionAt t d) n)
 
-  room : n < 8 → overflows (scheduled (pendingOf d) at v) ≡ false
+  room : n < 8 → (t : ℕ) → overflows (scheduled (pendingOf t d) (t + delay) v) ≡ false
   unfolding overflows
-  room h = le-ltb 8 (length (scheduled (pendingOf d) at v)) (omega (arith, scheduled-long))
+  room h t = le-ltb 8 (length (scheduled (pendingOf t d) (t + delay) v)) (omega (arith, scheduled-long t))
 
-  over : 8 ≤ n → overflows (scheduled (pendingOf d) at v) ≡ true
+  over : 8 ≤ n → (t : ℕ) → overflows (scheduled (pendingOf t d) (t + delay) v) ≡ true
   unfolding overflows
-  over h = lt-ltb 8 (length (scheduled (pendingOf d) at v)) (omega (arith, scheduled-long))
+  over h t = lt-ltb 8 (length (scheduled (pendingOf t d) (t + delay) v)) (omega (arith, scheduled-long t))
 
   abbrev new : Driver
-  new = record { times = set (d .times) n at; values = set (d .values) n v; count = n + 1 }
+  new = record { times = set (d .times) n delay; values = set (d .values) n v; count = n + 1 }
 
-  new-listed : length (d .times) ≡ 8 → length (d .values) ≡ 8 → n < 8 → pendingOf new ≡ listBelow (transactionAt d) n ++ (record { time = at; value = v } ∷ [])
-  unfolding pendingOf
-  new-listed lt lv h =
-      let lt' : n < length (d .times) = omega arith in
-      let lv' : n < length (d .values) = omega arith in
-      rw (
-        list-more,
-        list-same (transactionAt new) (transactionAt d) n
-            (λ j l. let o : j ≡ n → ⊥ = λ e. omega arith in rw (getD-set-other (d .times) n j at 0 o, getD-set-other (d .values) n j v 0 o)),
-        getD-set-same (d .times) n at 0 lt',
-        getD-set-same (d .values) n v 0 lv',
-      )
+  module _ (lt : length (d .times) ≡ 8) (lv : length (d .values) ≡ 8) (h : n < 8) where
+    new-listed : (t : ℕ) → pendingOf t new ≡ listBelow (transactionAt t d) n ++ (record { time = t + delay; value = v } ∷ [])
+    unfolding pendingOf
+    new-listed t =
+        let lt' : n < length (d .times) = omega arith in
+        let lv' : n < length (d .values) = omega arith in
+        rw (
+          list-more,
+          list-same (transactionAt t new) (transactionAt t d) n
+              (λ j l. let o : j ≡ n → ⊥ = λ e. omega arith in rw (getD-set-other (d .times) n j delay 0 o, getD-set-other (d .values) n j v 0 o)),
+          getD-set-same (d .times) n delay 0 lt',
+          getD-set-same (d .values) n v 0 lv',
+        )
 
-  new-pending : length (d .times) ≡ 8 → length (d .values) ≡ 8 → n < 8 → pendingOf new ≡ scheduled (pendingOf d) at v
-  unfolding scheduled
-  new-pending lt lv h = rw kept-are (new-listed lt lv h)
+    new-pending : (t : ℕ) → pendingOf t new ≡ scheduled (pendingOf t d) (t + delay) v
+    unfolding scheduled
+    new-pending t = rw (kept-are t) (new-listed t)
 
-  pub scheduled-in : length (d .times) ≡ 8 → length (d .values) ≡ 8 → n < 8 → ScheduledTo d at v (record { driver = new; full = false })
+    pub scheduled-in : ScheduledTo d delay v (record { driver = new; full = false })
+    unfolding driverAfter
+    scheduled-in = record { driver = λ t x. rw (room h t, new-pending t); full = λ t. sym (room h t); few = omega arith }
+
+  pub scheduled-ninth : 8 ≤ n → ScheduledTo d delay v (record { driver = d; full = true })
   unfolding driverAfter
-  scheduled-in lt lv h = record { driver = λ x. rw (room h, new-pending lt lv h); full = sym (room h); few = omega arith }
-
-  pub scheduled-ninth : 8 ≤ n → ScheduledTo d at v (record { driver = d; full = true })
-  unfolding driverAfter
-  scheduled-ninth h = record { driver = λ x. rw (over h); full = sym (over h); few = w .few }
+  scheduled-ninth h = record { driver = λ t x. rw (over h t); full = λ t. sym (over h t); few = w .few }

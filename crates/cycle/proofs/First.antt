@@ -34,7 +34,7 @@ pub record Begins (M : Model) (c : Config) (d : Driver) (vs : List ℕ) : Type 0
   pub currents : Has (driverStart M) (c .nd) (c .currents)
   pub values : Has (firstValue M (c .currents) (c .nd)) (c .ns) vs
   pub signals : Has (valueAt vs) (32 * c .ns) (c .signals)
-  pub none : pendingOf d ≡ []
+  pub none : (t : ℕ) → pendingOf t d ≡ []
   pub drivers : c .drivers ≡ replicate 64 d
   pub due : c .due ≡ replicate 64 never
   pub standings : c .standings ≡ replicate 16 0
@@ -68,7 +68,7 @@ module _ (M : Model) (fs : Facts M) (c : Config) (d : Driver) (vs : List ℕ) (b
   unfolding driverView
   driver-is k h =
       let l : k < 64 = omega (arith, b .nd, fs .totals .drivers) in
-      rw (b .drivers, getD-replicate 64 k d noDriver l, b .none, b .currents .at k h, driver-at M fs k (omega (arith, b .nd)))
+      rw (b .drivers, getD-replicate 64 k d noDriver l, b .none (c .time), b .currents .at k h, driver-at M fs k (omega (arith, b .nd)))
 
   drivers-are : listBelow (driverView c) (c .nd) ≡ firstDrivers M
   unfolding firstDrivers
@@ -97,10 +97,10 @@ module _ (M : Model) (fs : Facts M) (c : Config) (d : Driver) (vs : List ℕ) (b
   unfolding viewOf first
   view-first = rw (signals-are, drivers-are, processes-are, variables-are, b .time, b .deltas)
 
-  due-is : (k : ℕ) → k < c .nd → getD (c .due) k 0 ≡ firstTime (pendingOf (getD (c .drivers) k noDriver))
+  due-is : (k : ℕ) → k < c .nd → getD (c .due) k 0 ≡ firstTime (pendingOf (c .time) (getD (c .drivers) k noDriver))
   due-is k h =
       let l : k < 64 = omega (arith, b .nd, fs .totals .drivers) in
-      rw (b .due, b .drivers, getD-replicate 64 k never 0 l, getD-replicate 64 k d noDriver l, b .none)
+      rw (b .due, b .drivers, getD-replicate 64 k never 0 l, getD-replicate 64 k d noDriver l, b .none (c .time))
 
   pub begins-first : FirstOf M c
   begins-first = record { is = view-first; fine = record { reachable = rw view-first (first-reachable M fs); due = due-is } }

@@ -33,4 +33,5 @@ pub mod DeltaProcesses
 pub mod First
 pub mod Advances
 pub mod Shifts
+pub mod TimeView
 pub mod Soonest

@@ -1,25 +1,17 @@
 -- The past of the signals after a time step: what a loop over the entries leaves is each history shifted. Assumes nothing.
 use mathlib.Core.Path.{_≡_, refl, sym, ap, _∙_}
-use mathlib.Core.List.{List, [], _∷_, _++_, map}
-use mathlib.Core.Option.{some}
-use Prim.Native.Nat.{ℕ, zero, suc, _+_, _-_, _*_, _%_, _≤_, _<_, min}
-use native.Mathlib.Nat.{eq-or-lt-of-le, le-of-suc-le-suc}
+use mathlib.Core.List.{List, [], _++_, map}
+use Prim.Native.Nat.{ℕ, _+_, _-_, _*_, _%_, _≤_, _<_, min}
 use native.Mathlib.Decide.{decLt, ℕ-discrete}
-use native.Mathlib.Numerals.{add-one}
 use native.Mathlib.Omega.{arith}
-use lib.ListN.{length, getD, set, length-set, take, replicate, length-replicate, length-map, getD-replicate, List·getD-append}
+use lib.ListN.{length, getD, set, length-set, replicate, length-replicate, length-map, getD-replicate, List·getD-append}
 use lib.Seq.{getD-take, ext-getD, getD-append-add, getD-set-same, getD-set-other}
 use Rattle.base.specs.Below.{listBelow}
-use Rattle.base.proofs.Below.{map-at, list-length, list-at, list-same}
-use Rattle.model.specs.Records.{Model}
-use Rattle.cycle.specs.Configuration.{Configuration}
-use Rattle.cycle.specs.Steps.{shifted, timeStep}
-use Rattle.cycle.specs.Orders.{advanceDone, earliest, dueTimes}
-use Rattle.cycle.specs.Invariant.{lastTime}
-use Rattle.cycle.specs.View.{historyOf, driverView, processView, viewOf, Fine, outcomeOf, Answers}
+use Rattle.base.proofs.Below.{map-at, list-length, list-at}
+use Rattle.cycle.specs.Steps.{shifted}
+use Rattle.cycle.specs.View.{historyOf}
 use Rattle.cycle.specs.Shift.{Between, MovedBy, FilledTo, ShiftedBy}
-use Rattle.cycle.specs.declared.config.Config.{Config}
-use Rattle.cycle.proofs.AdvanceReachable.{shifted-length, time-reachable}
+use Rattle.cycle.proofs.AdvanceReachable.{shifted-length}
 
 -- entries written from the one before hi down
 module _ (f : ℕ → ℕ) (old : List ℕ) (hi : ℕ) where
@@ -136,39 +128,3 @@ all-shifted old new n ns h =
         list-at (historyOf new) [] ns s l
         ∙ history-shifted old new n ns s h l
         ∙ sym (map-at (shifted n) (listBelow (historyOf old) ns) s [] [] (rw list-length l) ∙ ap (shifted n) (list-at (historyOf old) [] ns s l))
-
--- the struct after a time step
-abbrev pub later : Config → ℕ → List ℕ → Config
-later c t new =
-    record {
-      time = t;
-      deltas = 0;
-      ns = c .ns;
-      nv = c .nv;
-      nd = c .nd;
-      np = c .np;
-      signals = new;
-      currents = c .currents;
-      due = c .due;
-      drivers = c .drivers;
-      places = c .places;
-      standings = c .standings;
-      deadlines = c .deadlines;
-      faults = c .faults;
-      variables = c .variables;
-      room = c .room;
-    }
-
-module _ (c : Config) (t : ℕ) (new : List ℕ) (h : ShiftedBy (c .signals) (t - c .time) (32 * c .ns) new) where
-  later-view : viewOf (later c t new) ≡ timeStep t (viewOf c)
-  unfolding viewOf timeStep driverView processView
-  later-view = rw (all-shifted (c .signals) new (t - c .time) (c .ns) h)
-
-  pub time-stepped : (M : Model) → Fine M c → earliest (dueTimes M (viewOf c)) ≡ some t → t ≤ lastTime
-      → Answers M (record { refusal = 0; byte = 2; picks = 0; value = 0; config = later c t new }) (advanceDone 2 (timeStep t (viewOf c)))
-  unfolding outcomeOf
-  time-stepped M f e l =
-      record {
-        is = rw later-view;
-        fine = record { reachable = rw later-view (time-reachable M (viewOf c) (f .reachable) t e l); due = f .due };
-      }

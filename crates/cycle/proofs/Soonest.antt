@@ -105,7 +105,7 @@ module _ (M : Model) (c : Config) (f : Fine M c) where
 
   -- each number stands for the times of its driver, or of its process
   driver-stands : (k : ℕ) → k < c .nd → Stands (getD (c .due) k 0) (timesIn (driverIn (v .drivers) k .pending))
-  driver-stands k h = rw (f .due k h, pending-in c k h) (first-stands (pendingOf (getD (c .drivers) k noDriver)))
+  driver-stands k h = rw (f .due k h, pending-in c k h) (first-stands (pendingOf (c .time) (getD (c .drivers) k noDriver)))
 
   process-stands : (p : ℕ) → p < c .np → Stands (getD (c .deadlines) p 0) (optional (processIn (v .processes) p .deadline))
   process-stands p h = rw (deadline-in c p h) (deadline-stands (getD (c .deadlines) p 0))

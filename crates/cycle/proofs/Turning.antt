@@ -30,11 +30,11 @@ use Rattle.cycle.specs.declared.driver.Scheduled.{Scheduled}
 use Rattle.cycle.specs.declared.effect.Effect.{Effect}
 use Rattle.cycle.specs.declared.effect.Effect.the-variants.{Skip, Store, Schedule, Jump, Wait, WaitFor, Stop}
 use Rattle.cycle.proofs.DeltaDrivers.{time-most, few-pending}
+use Rattle.cycle.proofs.Drivers.{waveform-of}
 use Rattle.cycle.proofs.Effects.{own-statement, placed, effect-fits}
 use Rattle.cycle.proofs.ArraysAgree.{effect-viewed}
 use Rattle.cycle.proofs.Picks.{standing-stays}
 use Rattle.cycle.proofs.StepReachable.{stepped-reachable}
-use Rattle.cycle.proofs.Waves.{rising-from}
 use Rattle.cycle.proofs.ViewLaws.{pending-in, place-in, standing-in, ready-in, deadline-in, nd-is, np-is}
 use Rattle.cycle.proofs.Settling.{Passed, settle-over, settle-none, settle-turn}
 use Rattle.cycle.proofs.Changes.{Sized, movedTo, scheduledTo, waitsUntil, stopsBy, moved-sized, scheduled-sized, waits-sized, stops-sized, skip-view, store-view, jump-view, wait-view, wait-for-view, stop-view, schedule-view, full-view}
@@ -137,7 +137,7 @@ module _ {M : Model} {now p : ℕ} {c : Config} {e : Effect} (t : Turn M now p c
   Next c' = Stepped M p c c'
 
   turned : (c' : Config) → viewOf c' ≡ applied M p e (viewOf c) → c' .time ≡ c .time → c' .np ≡ c .np → Sized c'
-      → ((k : ℕ) → k < c' .nd → getD (c' .due) k 0 ≡ firstTime (pendingOf (getD (c' .drivers) k noDriver)))
+      → ((k : ℕ) → k < c' .nd → getD (c' .due) k 0 ≡ firstTime (pendingOf (c' .time) (getD (c' .drivers) k noDriver)))
       → Next c'
   turned c' v ct cn sized due =
       record {
@@ -194,36 +194,27 @@ module _ {M : Model} {now p : ℕ} {c : Config} {e : Effect} (t : Turn M now p c
     pub in-drivers : k < 64
     in-drivers = omega (arith, schedule-fits .driver, fs .totals .drivers)
 
-    pub delay-small : d < 2147483648
-    delay-small = schedule-fits .delay
-
     -- the driver has a waveform
     pub waveform : Waveform (getD (c .drivers) k noDriver)
     waveform =
         let g : DriverFine _ (viewOf c .time) (driverIn (viewOf c .drivers) k) = f .reachable .each-driver k (schedule-fits .driver) in
-        record {
-          few = few-pending M c f k in-nd;
-          rising = rising-from 0 (viewOf c .time) (pendingOf (getD (c .drivers) k noDriver)) (omega arith) (rw (pending-in c k in-nd) at (g .rising));
-        }
+        waveform-of (c .time) (getD (c .drivers) k noDriver) (viewOf c .time) (rw (pending-in c k in-nd) at (g .rising)) (few-pending M c f k in-nd)
 
-    module _ (r : Scheduled) (to : ScheduledTo (getD (c .drivers) k noDriver) (now + d) v r) where
-      to-time : ScheduledTo (getD (c .drivers) k noDriver) (c .time + d) v r
-      to-time = rw (t .clock) to
-
+    module _ (r : Scheduled) (to : ScheduledTo (getD (c .drivers) k noDriver) d v r) where
       pub full-turn : r .full ≡ true → Next (stopsBy c p 3)
-      full-turn g = turned (stopsBy c p 3) (rw x (full-view M c p in-np s in-16 k d v in-nd in-drivers r to-time g)) refl refl (stops-sized c p s 3) (f .due)
+      full-turn g = turned (stopsBy c p 3) (rw x (full-view M c p in-np s in-16 k d v in-nd in-drivers r to g)) refl refl (stops-sized c p s 3) (f .due)
 
-      pub schedule-turn : r .full ≡ false → (u i : ℕ) → u ≡ firstTime (pendingOf (r .driver)) → i ≡ following → Next (scheduledTo c p k (r .driver) u i)
+      pub schedule-turn : r .full ≡ false → (u i : ℕ) → u ≡ firstTime (pendingOf now (r .driver)) → i ≡ following → Next (scheduledTo c p k (r .driver) u i)
       schedule-turn g u i a b =
-          turned (scheduledTo c p k (r .driver) u i) (rw x (schedule-view M c p in-np s in-16 k d v in-nd in-drivers r to-time u i b g)) refl refl
+          turned (scheduledTo c p k (r .driver) u i) (rw x (schedule-view M c p in-np s in-16 k d v in-nd in-drivers r to u i b g)) refl refl
           (scheduled-sized c p s k (r .driver) u i) first
         where
-          first : (j : ℕ) → j < c .nd → getD (set (c .due) k u) j 0 ≡ firstTime (pendingOf (getD (set (c .drivers) k (r .driver)) j noDriver))
+          first : (j : ℕ) → j < c .nd → getD (set (c .due) k u) j 0 ≡ firstTime (pendingOf (c .time) (getD (set (c .drivers) k (r .driver)) j noDriver))
           first j l = elim (ℕ-discrete j k) [
             | yes q ↦
                 let m : k < length (c .due) = omega (arith, s .due, in-drivers) in
                 let o : k < length (c .drivers) = omega (arith, s .drivers, in-drivers) in
-                rw (q, getD-set-same (c .due) k u 0 m, getD-set-same (c .drivers) k (r .driver) noDriver o) a
+                rw (q, getD-set-same (c .due) k u 0 m, getD-set-same (c .drivers) k (r .driver) noDriver o, t .clock) a
             | no q ↦ rw (getD-set-other (c .due) k j u 0 q, getD-set-other (c .drivers) k j (r .driver) noDriver q) (f .due j l)
           ]
 

@@ -50,7 +50,7 @@ module _ (c : Config) where
   unfolding viewOf
   driver-in k h = list-at (driverView c) _ (c .nd) k h
 
-  pub pending-in : (k : ℕ) → k < c .nd → driverIn (viewOf c .drivers) k .pending ≡ pendingOf (getD (c .drivers) k noDriver)
+  pub pending-in : (k : ℕ) → k < c .nd → driverIn (viewOf c .drivers) k .pending ≡ pendingOf (c .time) (getD (c .drivers) k noDriver)
   unfolding driverView
   pending-in k h = ap (λ (d : DriverState). d .pending) (driver-in k h)
 
@@ -106,15 +106,15 @@ abbrev pub rowOf : List ℕ → List ℕ → List ℕ → List ℕ → ℕ → P
 rowOf places standings deadlines faults p =
     record { place = getD places p 0; standing = getD standings p 0; deadline = deadlineOf (getD deadlines p 0); fault = getD faults p 0 }
 
-abbrev pub driverOf : List ℕ → List Driver → ℕ → DriverState
-driverOf currents drivers k = record { current = getD currents k 0; pending = pendingOf (getD drivers k noDriver) }
+abbrev pub driverOf : ℕ → List ℕ → List Driver → ℕ → DriverState
+driverOf t currents drivers k = record { current = getD currents k 0; pending = pendingOf t (getD drivers k noDriver) }
 
 -- the view, with its lists written out
 pub view-is : (c : Config) → viewOf c ≡ record {
   time = c .time;
   deltas = c .deltas;
   signals = listBelow (historyOf (c .signals)) (c .ns);
-  drivers = listBelow (driverOf (c .currents) (c .drivers)) (c .nd);
+  drivers = listBelow (driverOf (c .time) (c .currents) (c .drivers)) (c .nd);
   processes = listBelow (rowOf (c .places) (c .standings) (c .deadlines) (c .faults)) (c .np);
   variables = listBelow (λ a. getD (c .variables) a 0) (c .nv);
 }
@@ -148,6 +148,6 @@ module _ (places standings deadlines faults : List ℕ) (n p : ℕ) where
       ∙ rw (getD-set-same standings p 2 0 h, getD-set-same faults p f 0 l)
 
 -- the waveform of driver k is changed
-pub driver-set : (currents : List ℕ) (drivers : List Driver) (n k : ℕ) (d : Driver) → k < length drivers → listBelow (driverOf currents (set drivers k d)) n ≡ set (listBelow (driverOf currents drivers) n) k (record { current = getD currents k 0; pending = pendingOf d })
-driver-set currents drivers n k d h =
-    list-change (driverOf currents drivers) _ n k (λ j o. rw (getD-set-other drivers k j d noDriver o)) ∙ rw (getD-set-same drivers k d noDriver h)
+pub driver-set : (t : ℕ) (currents : List ℕ) (drivers : List Driver) (n k : ℕ) (d : Driver) → k < length drivers → listBelow (driverOf t currents (set drivers k d)) n ≡ set (listBelow (driverOf t currents drivers) n) k (record { current = getD currents k 0; pending = pendingOf t d })
+driver-set t currents drivers n k d h =
+    list-change (driverOf t currents drivers) _ n k (λ j o. rw (getD-set-other drivers k j d noDriver o)) ∙ rw (getD-set-same drivers k d noDriver h)

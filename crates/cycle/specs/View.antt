@@ -23,9 +23,9 @@ use Rattle.cycle.specs.declared.orders.Answered.{Answered}
 abbrev pub never : ℕ
 never = 18446744073709551615
 
--- the pending transactions of a driver
-unfoldable pub pendingOf : Driver → List Transaction
-pendingOf d = listBelow (λ j. record { time = getD (d .times) j 0; value = getD (d .values) j 0 }) (d .count)
+-- the pending transactions of a driver at the time t: its times are held as units from t, 32 bits, since a delay has 31
+unfoldable pub pendingOf : ℕ → Driver → List Transaction
+pendingOf t d = listBelow (λ j. record { time = t + getD (d .times) j 0; value = getD (d .values) j 0 }) (d .count)
 
 -- what a read past the end of an array of drivers gives
 abbrev pub noDriver : Driver
@@ -39,7 +39,7 @@ unfoldable pub historyOf : List ℕ → ℕ → List ℕ
 historyOf signals s = listBelow (λ k. getD signals (32 * s + k) 0) 32
 
 unfoldable pub driverView : Config → ℕ → DriverState
-driverView c k = record { current = getD (c .currents) k 0; pending = pendingOf (getD (c .drivers) k noDriver) }
+driverView c k = record { current = getD (c .currents) k 0; pending = pendingOf (c .time) (getD (c .drivers) k noDriver) }
 
 unfoldable pub processView : Config → ℕ → ProcessState
 processView c p =
@@ -79,7 +79,7 @@ pub record Runs (m index : List ℕ) : Type 0 where
 -- what holds of the struct between orders: its view is reachable, and `due` has the first pending times
 pub record Fine (M : Model) (c : Config) : Type 0 where
   pub reachable : Reachable M (viewOf c)
-  pub due : (k : ℕ) → k < c .nd → getD (c .due) k 0 ≡ firstTime (pendingOf (getD (c .drivers) k noDriver))
+  pub due : (k : ℕ) → k < c .nd → getD (c .due) k 0 ≡ firstTime (pendingOf (c .time) (getD (c .drivers) k noDriver))
 
 -- the struct r holds the configuration after a pick of process p
 pub record StepsTo (M : Model) (p : ℕ) (c r : Config) : Type 0 where

@@ -1,11 +1,11 @@
 -- What a driver's functions promise of its waveform.
 use mathlib.Core.Path.{_≡_}
 use mathlib.Core.List.{List}
-use Prim.Native.Nat.{ℕ, _≤_, _<_}
+use Prim.Native.Nat.{ℕ, _+_, _≤_, _<_}
 use lib.ListN.{getD}
 use Rattle.cycle.specs.Configuration.{DriverState}
 use Rattle.cycle.specs.Statements.{scheduled, overflows, driverAfter}
-use Rattle.cycle.specs.Invariant.{Rising}
+use Rattle.cycle.specs.Due.{NoneBefore}
 use Rattle.cycle.specs.View.{pendingOf}
 use Rattle.cycle.specs.declared.driver.Driver.{Driver}
 use Rattle.cycle.specs.declared.driver.Scheduled.{Scheduled}
@@ -13,7 +13,7 @@ use Rattle.cycle.specs.declared.driver.Scheduled.{Scheduled}
 -- "a waveform of at most eight pending transactions (time, value), rising in time"
 pub record Waveform (d : Driver) : Type 0 where
   pub few : d .count ≤ 8
-  pub rising : Rising 0 (pendingOf d)
+  pub rising : (j k : ℕ) → j < k → k < d .count → getD (d .times) j 0 < getD (d .times) k 0
 
 -- n is the place of the first of the first c times that does not lie before the time at
 pub record Kept (ts : List ℕ) (c at n : ℕ) : Type 0 where
@@ -21,12 +21,25 @@ pub record Kept (ts : List ℕ) (c at n : ℕ) : Type 0 where
   pub below : (k : ℕ) → k < n → getD ts k 0 < at
   pub stop : n < c → at ≤ getD ts n 0
 
--- a driver with the current value x
-abbrev pub driving : ℕ → Driver → DriverState
-driving x d = record { current = x; pending = pendingOf d }
+-- each of the first c times is n less
+abbrev pub Nearer : List ℕ → ℕ → ℕ → List ℕ → Type 0
+Nearer old c n new = (j : ℕ) → j < c → n + getD new j 0 ≡ getD old j 0
 
--- a schedule of the value v at the time at: whatever the current value is, the driver is what the rules make of it
-pub record ScheduledTo (d : Driver) (at v : ℕ) (r : Scheduled) : Type 0 where
-  pub driver : (x : ℕ) → driving x (r .driver) ≡ driverAfter at v (driving x d)
-  pub full : r .full ≡ overflows (scheduled (pendingOf d) at v)
+-- a driver with the current value x, at the time t
+abbrev pub driving : ℕ → ℕ → Driver → DriverState
+driving t x d = record { current = x; pending = pendingOf t d }
+
+-- a schedule of the value v in some units: whatever the time and the current value are, the driver is what the rules make of it
+pub record ScheduledTo (d : Driver) (delay v : ℕ) (r : Scheduled) : Type 0 where
+  pub driver : (t x : ℕ) → driving t x (r .driver) ≡ driverAfter (t + delay) v (driving t x d)
+  pub full : (t : ℕ) → r .full ≡ overflows (scheduled (pendingOf t d) (t + delay) v)
   pub few : r .driver .count ≤ 8
+
+-- at most eight are pending, each in n units or later
+pub record Ahead (n : ℕ) (d : Driver) : Type 0 where
+  pub few : d .count ≤ 8
+  pub far : NoneBefore n (d .times) (d .count)
+
+-- n units after any time t, r has pending what d has at t
+abbrev pub Elapsed : ℕ → Driver → Driver → Type 0
+Elapsed n d r = (t : ℕ) → pendingOf (t + n) r ≡ pendingOf t d

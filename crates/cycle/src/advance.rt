@@ -44,7 +44,7 @@ impl Config {
                     let d = self.drivers[k];
                     let e = d.without_first();
                     self.currents[k] = d.values[0];
-                    self.due[k] = e.first_time();
+                    self.due[k] = e.first_time(time);
                     self.drivers[k] = e;
                     k += 1;
                     continue;
@@ -90,10 +90,18 @@ impl Config {
                 config: self,
             };
         }
-        // The step to the earliest due time: the past of each signal shifts by the units passed.
+        // The step to the earliest due time: the past of each signal shifts and pending times come nearer by the units passed.
         let count = 32 * self.ns;
         let passed = t - self.time;
         shift(&mut self.signals, count, passed);
+        let nd = self.nd;
+        let mut k = 0;
+        while k < nd {
+            let d = self.drivers[k];
+            let e = d.elapsed(passed);
+            self.drivers[k] = e;
+            k += 1;
+        }
         self.time = t;
         self.deltas = 0;
         Answered {

@@ -17,7 +17,8 @@ use model::index::signal_at;
 use model::index::variable_at;
 
 // Signal s of k units ago stands at 32 * s + k. Driver k: its current value, its waveform, and the time of its first pending
-// transaction (due), the largest number where it has none. Process p: a deadline is the largest number where it has none.
+// transaction (due), the largest number where it has none. A waveform's times are held as units from now: 32 bits, since a delay
+// has 31. Process p: a deadline is the largest number where it has none.
 // `room` holds nothing: it makes the size a multiple of 64 bytes, so that copies between two configurations run at equal offsets in
 // their cache lines (bench/README.md).
 pub struct Config {
@@ -36,7 +37,7 @@ pub struct Config {
     pub deadlines: [u64; 16],
     pub faults: [u32; 16],
     pub variables: [u32; 64],
-    pub room: [u64; 18],
+    pub room: [u64; 10],
 }
 
 // The resolution v of the values found so far, with x where it drives.
@@ -183,7 +184,7 @@ impl Config {
             deadlines: [18446744073709551615; 16],
             faults: [0; 16],
             variables: [0; 64],
-            room: [0; 18],
+            room: [0; 10],
         }
     }
 
@@ -214,7 +215,7 @@ impl Config {
             deadlines: [18446744073709551615; 16],
             faults: [0; 16],
             variables,
-            room: [0; 18],
+            room: [0; 10],
         }
     }
 }

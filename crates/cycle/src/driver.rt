@@ -1,13 +1,15 @@
-// A driver's waveform: at most eight pending transactions, rising in time.
+// A driver's waveform: at most eight pending transactions, rising in time. times[j] is in how many units transaction j is due.
 ghost use mathlib.Core.Path.{_≡_};
 ghost use mathlib.Core.List.{[], _∷_, _++_};
-ghost use Prim.Native.Nat.{_≤_};
+ghost use Prim.Native.Nat.{ℕ, _≤_};
 ghost use lib.ListN.{drop};
+ghost use Rattle.cycle.specs.Invariant.{lastTime};
 ghost use Rattle.cycle.specs.View.{pendingOf, firstTime};
-ghost use Rattle.cycle.specs.Waveform.{Waveform, Kept, ScheduledTo};
+ghost use Rattle.cycle.specs.Due.{NoneBefore};
+ghost use Rattle.cycle.specs.Waveform.{Waveform, Kept, Nearer, ScheduledTo, Ahead, Elapsed};
 
 pub struct Driver {
-    pub times: [u64; 8],
+    pub times: [u32; 8],
     pub values: [u32; 8],
     pub count: usize,
 }
@@ -19,7 +21,7 @@ pub struct Scheduled {
 }
 
 // How many of the first count times lie before the time at: the place of the first that does not.
-fn kept(times: [u64; 8], count: usize, at: u64) -> usize
+fn kept(times: [u32; 8], count: usize, at: u32) -> usize
     requires { ⌜ count ≤ 8 ⌝ }
     ensures { λ r. ⌜ Kept times count at r ⌝ }
 {
@@ -33,13 +35,21 @@ fn kept(times: [u64; 8], count: usize, at: u64) -> usize
     n
 }
 
-fn shift_times(a: [u64; 8]) -> [u64; 8]
-    ensures { λ r. ⌜ r ≡ drop 1 a ++ 0 ∷ [] ⌝ }
+// The first count times, n units later.
+fn nearer(mut times: [u32; 8], count: usize, n: u64) -> [u32; 8]
+    requires { ⌜ count ≤ 8 ⌝ }
+    requires { ⌜ NoneBefore n times count ⌝ }
+    ensures { λ r. ⌜ Nearer times count n r ⌝ }
 {
-    [a[1], a[2], a[3], a[4], a[5], a[6], a[7], 0]
+    let mut i = 0;
+    while i < count {
+        times[i] = times[i] - n as u32;
+        i += 1;
+    }
+    times
 }
 
-fn shift_values(a: [u32; 8]) -> [u32; 8]
+fn drop_first(a: [u32; 8]) -> [u32; 8]
     ensures { λ r. ⌜ r ≡ drop 1 a ++ 0 ∷ [] ⌝ }
 {
     [a[1], a[2], a[3], a[4], a[5], a[6], a[7], 0]
@@ -48,7 +58,7 @@ fn shift_values(a: [u32; 8]) -> [u32; 8]
 impl Driver {
     // No pending transaction.
     pub fn none() -> Driver
-        ensures { λ r. ⌜ pendingOf r ≡ [] ⌝ }
+        ensures { λ r. ⌜ ((t : ℕ) → pendingOf t r ≡ []) ⌝ }
     {
         Driver {
             times: [0; 8],
@@ -57,15 +67,15 @@ impl Driver {
         }
     }
 
-    // Removes the pending transactions at the time at or later, and adds one there. A ninth is refused: the driver stays.
-    pub fn schedule(mut self, at: u64, value: u32) -> Scheduled
+    // Removes the pending transactions in delay units or later, and adds one there. A ninth is refused: the driver stays.
+    pub fn schedule(mut self, delay: u32, value: u32) -> Scheduled
         requires { ⌜ Waveform self ⌝ }
-        ensures { λ r. ⌜ ScheduledTo self at value r ⌝ }
+        ensures { λ r. ⌜ ScheduledTo self delay value r ⌝ }
     {
         let ts = self.times;
-        let n = kept(ts, self.count, at);
+        let n = kept(ts, self.count, delay);
         if n < 8 {
-            self.times[n] = at;
+            self.times[n] = delay;
             self.values[n] = value;
             self.count = n + 1;
             Scheduled {
@@ -84,13 +94,13 @@ impl Driver {
     pub fn without_first(self) -> Driver
         requires { ⌜ 1 ≤ self .count ⌝ }
         requires { ⌜ self .count ≤ 8 ⌝ }
-        ensures { λ r. ⌜ pendingOf r ≡ drop 1 (pendingOf self) ⌝ }
+        ensures { λ r. ⌜ ((t : ℕ) → pendingOf t r ≡ drop 1 (pendingOf t self)) ⌝ }
     {
         let n = self.count;
         let ts = self.times;
-        let us = shift_times(ts);
+        let us = drop_first(ts);
         let vs = self.values;
-        let ws = shift_values(vs);
+        let ws = drop_first(vs);
         Driver {
             times: us,
             values: ws,
@@ -99,13 +109,30 @@ impl Driver {
     }
 
     // The time of the first transaction, or the largest number where there is none.
-    pub fn first_time(self) -> u64
-        ensures { λ r. ⌜ r ≡ firstTime (pendingOf self) ⌝ }
+    pub fn first_time(self, now: u64) -> u64
+        requires { ⌜ now ≤ lastTime ⌝ }
+        ensures { λ r. ⌜ r ≡ firstTime (pendingOf now self) ⌝ }
     {
         let n = self.count;
         if n == 0 {
             return 18446744073709551615;
         }
-        self.times[0]
+        now + self.times[0] as u64
+    }
+
+    // The same transactions, n units later.
+    pub fn elapsed(self, n: u64) -> Driver
+        requires { ⌜ Ahead n self ⌝ }
+        ensures { λ r. ⌜ Elapsed n self r ⌝ }
+    {
+        let count = self.count;
+        let ts = self.times;
+        let times = nearer(ts, count, n);
+        let values = self.values;
+        Driver {
+            times,
+            values,
+            count,
+        }
     }
 }

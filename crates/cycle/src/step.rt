@@ -52,14 +52,14 @@ impl Config {
             }
             Effect::Schedule(k, d, v) => {
                 let e = self.drivers[k];
-                let r = e.schedule(now + d as u64, v);
+                let r = e.schedule(d, v);
                 if r.full {
                     self.standings[p] = 2;
                     self.faults[p] = 3;
                     return self;
                 }
                 let f = r.driver;
-                self.due[k] = f.first_time();
+                self.due[k] = f.first_time(now);
                 self.drivers[k] = f;
                 self.places[p] = next;
                 self

@@ -13,11 +13,17 @@ use Rattle.base.specs.Cases.{pick}
 use Rattle.base.proofs.Below.{list-length, list-at, NoneOf, none-of}
 use Rattle.base.proofs.Cases.{either}
 use Rattle.cycle.specs.Configuration.{Transaction, Configuration, driverIn, pastOf}
+use Rattle.cycle.specs.Invariant.{lastTime}
 use Rattle.cycle.specs.View.{never, pendingOf, noDriver, driverView, processView, viewOf}
 use Rattle.cycle.specs.declared.config.Config.{Config}
 use Rattle.cycle.specs.declared.driver.Driver.{Driver}
 use Rattle.cycle.proofs.ViewLaws.{signals-long, drivers-long, processes-long, variables-long, driver-in}
 use Rattle.exports.specs.Dump.{noProcess, noTransaction, totalWord, driverWord, processWord, wordOf}
+
+-- the time, where the view's is known
+pub in-time : (c : Config) (v : Configuration) → viewOf c ≡ v → v .time ≤ lastTime → c .time ≤ lastTime
+unfolding viewOf
+in-time c v e h = rw (← e) at h
 
 -- the totals
 pub last-total : (C : Configuration) (j : ℕ) → NoneOf j 0 5 → length (C .processes) ≡ totalWord C j
@@ -59,32 +65,32 @@ process-none c p j h =
     rw (List·getD-eq-default (viewOf c .processes) noProcess l) (process-zeros j)
 
 -- a driver's words
-pub driver-some : (c : Config) (k j w : ℕ) → k < c .nd → w ≡ driverWord (record { current = getD (c .currents) k 0; pending = pendingOf (getD (c .drivers) k noDriver) }) j → w ≡ driverWord (driverIn (viewOf c .drivers) k) j
+pub driver-some : (c : Config) (k j w : ℕ) → k < c .nd → w ≡ driverWord (record { current = getD (c .currents) k 0; pending = pendingOf (c .time) (getD (c .drivers) k noDriver) }) j → w ≡ driverWord (driverIn (viewOf c .drivers) k) j
 unfolding driverView
 driver-some c k j w h e = rw (driver-in c k h) e
 
-module _ (d : Driver) (current j : ℕ) where
+module _ (d : Driver) (current t j : ℕ) where
   abbrev at : ℕ → Transaction
-  at k = record { time = getD (d .times) k 0; value = getD (d .values) k 0 }
+  at k = record { time = t + getD (d .times) k 0; value = getD (d .values) k 0 }
 
-  pub count-word : (j ≡ 0 → ⊥) → j ≡ 1 → d .count ≡ driverWord (record { current = current; pending = pendingOf d }) j
+  pub count-word : (j ≡ 0 → ⊥) → j ≡ 1 → d .count ≡ driverWord (record { current = current; pending = pendingOf t d }) j
   unfolding driverWord pendingOf
   count-word h e = rw (e, list-length)
 
   module _ (h : j ≡ 0 → ⊥) (l : j ≡ 1 → ⊥) where
-    pub time-word : j < 10 → j - 2 < d .count → getD (d .times) (j - 2) 0 ≡ driverWord (record { current = current; pending = pendingOf d }) j
+    pub time-word : j < 10 → j - 2 < d .count → t + getD (d .times) (j - 2) 0 ≡ driverWord (record { current = current; pending = pendingOf t d }) j
     unfolding driverWord pendingOf
     time-word m n = rw (ne-eqb j 0 h, ne-eqb j 1 l, lt-ltb j 10 m, list-at _ noTransaction (d .count) (j - 2) n)
 
-    pub time-none : j < 10 → d .count ≤ j - 2 → 0 ≡ driverWord (record { current = current; pending = pendingOf d }) j
+    pub time-none : j < 10 → d .count ≤ j - 2 → 0 ≡ driverWord (record { current = current; pending = pendingOf t d }) j
     unfolding driverWord pendingOf
     time-none m n = rw (ne-eqb j 0 h, ne-eqb j 1 l, lt-ltb j 10 m, List·getD-eq-default (listBelow at (d .count)) noTransaction {n = j - 2} (rw list-length n))
 
-    pub value-word : 10 ≤ j → j - 10 < d .count → getD (d .values) (j - 10) 0 ≡ driverWord (record { current = current; pending = pendingOf d }) j
+    pub value-word : 10 ≤ j → j - 10 < d .count → getD (d .values) (j - 10) 0 ≡ driverWord (record { current = current; pending = pendingOf t d }) j
     unfolding driverWord pendingOf
     value-word m n = rw (ne-eqb j 0 h, ne-eqb j 1 l, le-ltb j 10 m, list-at _ noTransaction (d .count) (j - 10) n)
 
-    pub value-none : 10 ≤ j → d .count ≤ j - 10 → 0 ≡ driverWord (record { current = current; pending = pendingOf d }) j
+    pub value-none : 10 ≤ j → d .count ≤ j - 10 → 0 ≡ driverWord (record { current = current; pending = pendingOf t d }) j
     unfolding driverWord pendingOf
     value-none m n = rw (ne-eqb j 0 h, ne-eqb j 1 l, le-ltb j 10 m, List·getD-eq-default (listBelow at (d .count)) noTransaction {n = j - 10} (rw list-length n))
 

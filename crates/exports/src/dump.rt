@@ -1,9 +1,10 @@
 // A configuration written out as numbers.
 ghost use mathlib.Core.Path.{_≡_};
-ghost use Prim.Native.Nat.{_<_};
+ghost use Prim.Native.Nat.{_≤_, _<_};
 ghost use lib.ListN.{length, getD};
 ghost use Rattle.base.specs.Below.{listBelow};
 ghost use Rattle.cycle.specs.Configuration.{driverIn, pastOf};
+ghost use Rattle.cycle.specs.Invariant.{lastTime};
 ghost use Rattle.cycle.specs.View.{pendingOf, viewOf};
 ghost use Rattle.exports.specs.Dump.{noProcess, totalWord, driverWord, processWord, wordOf};
 use cycle::config::Config;
@@ -45,10 +46,11 @@ fn variable_word(c: Config, a: usize) -> u64
     0
 }
 
-// Word j of a driver with that current value.
-fn waveform_word(d: Driver, current: u32, j: usize) -> u64
+// Word j of a driver with that current value, at that time.
+fn waveform_word(d: Driver, current: u32, time: u64, j: usize) -> u64
+    requires { ⌜ time ≤ lastTime ⌝ }
     requires { ⌜ j < 18 ⌝ }
-    ensures { λ r. ⌜ r ≡ driverWord (record { current = current; pending = pendingOf d }) j ⌝ }
+    ensures { λ r. ⌜ r ≡ driverWord (record { current = current; pending = pendingOf time d }) j ⌝ }
 {
     if j == 0 {
         return current as u64;
@@ -60,7 +62,7 @@ fn waveform_word(d: Driver, current: u32, j: usize) -> u64
     if j < 10 {
         let k = j - 2;
         if k < n {
-            return d.times[k];
+            return time + d.times[k] as u64;
         }
         return 0;
     }
@@ -72,13 +74,14 @@ fn waveform_word(d: Driver, current: u32, j: usize) -> u64
 }
 
 fn driver_word(c: Config, k: usize, j: usize) -> u64
+    requires { ⌜ c .time ≤ lastTime ⌝ }
     requires { ⌜ k < 64 ⌝ }
     requires { ⌜ j < 18 ⌝ }
     ensures { λ r. ⌜ r ≡ driverWord (driverIn (viewOf c .drivers) k) j ⌝ }
 {
     let n = c.nd;
     if k < n {
-        return waveform_word(c.drivers[k], c.currents[k], j);
+        return waveform_word(c.drivers[k], c.currents[k], c.time, j);
     }
     0
 }
@@ -112,6 +115,7 @@ fn process_word(c: Config, p: usize, j: usize) -> u64
 
 // Word i of the configuration.
 fn word(c: Config, i: usize) -> u64
+    requires { ⌜ c .time ≤ lastTime ⌝ }
     ensures { λ r. ⌜ r ≡ wordOf (viewOf c) i ⌝ }
 {
     if i < 6 {
@@ -134,6 +138,7 @@ fn word(c: Config, i: usize) -> u64
 
 // Writes the words of the configuration over the whole buffer.
 pub fn dump(c: Config, words: &mut [u64])
+    requires { ⌜ c .time ≤ lastTime ⌝ }
     ensures { λ _. ⌜ now (words .exit) ≡ listBelow (wordOf (viewOf c)) (length (now (words .entry))) ⌝ }
 {
     let n = words.len();

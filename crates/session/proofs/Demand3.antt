@@ -90,7 +90,7 @@ module _ (M : Model) (facts : Facts M) where
       by-runs (kernelOf M) laws (tallyOf M) (first M) (first-reachable M facts) (λ xs. played-run M _ (orders-small xs) (first M))
 
 -- rules 4 to 8 hold of an accepted model
-accepted : (m : List ℕ) → refusalOf m ≡ 0 → Accepted (modelOf m)
+pub accepted : (m : List ℕ) → refusalOf m ≡ 0 → Accepted (modelOf m)
 unfolding refusalOf rulesOf
 accepted m h =
     record {

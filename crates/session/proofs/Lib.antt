@@ -4,5 +4,6 @@ pub mod Demand3
 pub mod Runs
 pub mod PlayLaws
 pub mod SessionLaws
+pub mod InTime
 pub mod ListLaws
 pub mod TextLaws

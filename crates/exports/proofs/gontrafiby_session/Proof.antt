@@ -1,5 +1,7 @@
 -- The session's contract, and its end configuration written out. Assumes nothing.
 use borrow.Author.Needs.{needs}
+use Rattle.session.proofs.InTime.{ended-in-time}
+use Rattle.exports.proofs.Words.{in-time}
 use Rattle.exports.proofs.gontrafiby_session.Statement.{statement}
 use Rattle.exports.proofs.gontrafiby_session.Tie as tie
 
@@ -7,7 +9,7 @@ session-requires : tie.Need-session-requires
 session-requires c κs = search needs
 
 dump-requires : tie.Need-dump-requires
-dump-requires c κs = search needs
+dump-requires c κs = in-time _ _ (c .before .before .before .session .ensures .0 .end) (ended-in-time _ _ _)
 
 same-length : tie.Need-same-length
 same-length c = search needs

@@ -1,6 +1,11 @@
 -- Each test decides a line of the definition. Assumes nothing.
 use Rattle.exports.proofs.Words.{count-word, time-word, time-none, value-word, value-none}
 use Rattle.exports.specs.Dump.{driverWord}
+use Prim.Native.Nat.{_-_}
+use native.Mathlib.Omega.{arith}
+use lib.ListN.{getD}
+use mir.Syntax.{w32}
+use mir.Val.{Fits}
 use borrow.Author.Needs.{needs}
 use Rattle.exports.proofs.dump.waveform_word.Statement.{statement}
 use Rattle.exports.proofs.dump.waveform_word.Tie as tie
@@ -21,6 +26,15 @@ mul-result c = search needs
 element-copy-out-result : tie.Need-element-copy-out-result
 element-copy-out-result c = search needs
 
+cast-result : tie.Need-cast-result
+cast-result c = search needs
+
+add-result : tie.Need-add-result
+add-result c =
+    let start = c .before .before .before .before .before in
+    let small : Fits w32 (getD (start .args .t1 .times) (start .args .j - 2) 0) = search needs in
+    omega (arith, small .fits, start .pre .0)
+
 returns-3 : tie.Need-returns-3
 returns-3 c = search (needs, time-word)
 
@@ -33,8 +47,8 @@ mul-result-2 c = search needs
 element-copy-out-result-2 : tie.Need-element-copy-out-result-2
 element-copy-out-result-2 c = search needs
 
-cast-result : tie.Need-cast-result
-cast-result c = search needs
+cast-result-2 : tie.Need-cast-result-2
+cast-result-2 c = search needs
 
 returns-5 : tie.Need-returns-5
 returns-5 c = search (needs, value-word)
@@ -51,10 +65,12 @@ waveform-word-spec =
     sub-k
     mul-result
     element-copy-out-result
+    cast-result
+    add-result
     returns-3
     returns-4
     mul-result-2
     element-copy-out-result-2
-    cast-result
+    cast-result-2
     returns-5
     returns-6)

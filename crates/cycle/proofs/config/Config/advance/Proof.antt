@@ -1,5 +1,6 @@
 -- `advance`: what `next_due` finds decides the step. In a delta step the loop takes the due transactions of the drivers passed, and
--- `delta-answers` puts the parts together; a time step is `time-stepped`. Assumes nothing.
+-- `delta-answers` puts the parts together; in a time step the units passed elapse for the drivers passed, and `time-stepped` puts
+-- the parts together. Assumes nothing.
 use Prim.Native.Nat.{_≤_, _-_}
 use denote.Ref.{now}
 use borrow.Author.Needs.{needs}
@@ -11,8 +12,8 @@ use Rattle.cycle.proofs.Advances.{few-signals, few-drivers, few-process
 use Rattle.cycle.proofs.DeltaDrivers.{slotOf, some-pending, slot-taken, slot-kept, Taking, taking-none, taking-more, taking-same, time-most, next-timed, next-few, deltas-kept}
 use Rattle.cycle.proofs.DeltaView.{delta-answers, processes-kept}
 use Rattle.cycle.proofs.Lists.{length-mapped}
-use Rattle.cycle.proofs.Shifts.{time-stepped}
 use Rattle.cycle.proofs.Soonest.{no-first-before, no-deadline-before}
+use Rattle.cycle.proofs.TimeView.{Elapsing, elapsing-none, elapsing-more, next-ahead, each-ahead, time-stepped}
 use Rattle.cycle.proofs.ViewLaws.{nd-is, np-is}
 use Rattle.cycle.proofs.config.Config.advance.Statement.{statement}
 use Rattle.cycle.proofs.config.Config.advance.Tie as tie
@@ -23,19 +24,25 @@ Inv-loop m index self₀ refusal t ns nd np time active k₀ self k = (k ≤ nd)
 abbrev μ-loop : tie.MeasureT-loop
 μ-loop m index self₀ refusal t ns nd np time active k₀ self k = nd - k
 
+abbrev Inv-loop2 : tie.InvT-loop2
+Inv-loop2 m index self₀ refusal t count passed nd k₀ self k = (k ≤ nd) × (nd ≤ 64) × Elapsing self₀ passed k self
+
+abbrev μ-loop2 : tie.MeasureT-loop2
+μ-loop2 m index self₀ refusal t count passed nd k₀ self k = nd - k
+
 -- the way back: to the start, and to what is due
-abbrev entry : tie.After-next-due Inv-loop μ-loop → tie.Start Inv-loop μ-loop
+abbrev entry : tie.After-next-due Inv-loop μ-loop Inv-loop2 μ-loop2 → tie.Start Inv-loop μ-loop Inv-loop2 μ-loop2
 entry e = e .before .before .before .before .before .before
 
-abbrev looked : tie.At-loop Inv-loop μ-loop → tie.After-next-due Inv-loop μ-loop
+abbrev looked : tie.At-loop Inv-loop μ-loop Inv-loop2 μ-loop2 → tie.After-next-due Inv-loop μ-loop Inv-loop2 μ-loop2
 looked h = h .before .before .before .before .before .before
 
 -- before the loop no transaction is taken
-none-taken : (st : tie.Start Inv-loop μ-loop) → Taking (st .args .t1) 0 (st .args .t1)
+none-taken : (st : tie.Start Inv-loop μ-loop Inv-loop2 μ-loop2) → Taking (st .args .t1) 0 (st .args .t1)
 none-taken st = taking-none _ (search needs) (search needs) (search needs) (search (needs, length-mapped))
 
 -- what holds once it is known what is due
-module _ (e : tie.After-next-due Inv-loop μ-loop) where
+module _ (e : tie.After-next-due Inv-loop μ-loop Inv-loop2 μ-loop2) where
   abbrev model : Model
   model = modelOf (now (entry e .args .m))
 
@@ -48,12 +55,12 @@ module _ (e : tie.After-next-due Inv-loop μ-loop) where
   fine : Fine model config
   fine = entry e .pre .1
 
-delta : (at : tie.At-loop Inv-loop μ-loop) → DeltaDue (model (looked at)) (config (looked at)) (fine (looked at))
+delta : (at : tie.At-loop Inv-loop μ-loop Inv-loop2 μ-loop2) → DeltaDue (model (looked at)) (config (looked at)) (fine (looked at))
 delta at =
     let e = looked at in
     delta-due-now _ _ (fine e) _ (e .next-due .ensures) (at .before .before .before .before .before .if1 .left) (at .before .before .before .before .if2 .taken)
 
-later : (c : tie.Else2 Inv-loop μ-loop) → TimeDue (model (c .before .before)) (config (c .before .before)) (fine (c .before .before)) (c .before .before .next-due .result .time)
+later : (c : tie.Else2 Inv-loop μ-loop Inv-loop2 μ-loop2) → TimeDue (model (c .before .before)) (config (c .before .before)) (fine (c .before .before)) (c .before .before .next-due .result .time)
 later c =
     let e = c .before .before in
     time-due-later _ _ (fine e) _ (e .next-due .ensures) (c .before .if1 .left) (c .if2 .left)
@@ -64,6 +71,8 @@ advance-spec =
     (tie.spec
     Inv-loop
     μ-loop
+    Inv-loop2
+    μ-loop2
     -- next-due-requires
     (λ c κs.
     let st = c .before .before .before .before .before in
@@ -107,7 +116,7 @@ advance-spec =
     -- element-write-self
     (λ c. search needs)
     -- first-time-requires
-    (λ c κs. search needs)
+    (λ c κs. time-most _ _ (fine (looked (c .before .before .before .before .before .before))))
     -- mul-self-2
     (λ c. search needs)
     -- element-write-self-2
@@ -172,8 +181,36 @@ advance-spec =
     (λ c κs.
     let e = c .before .before .before in
     (search (needs, few-signals (facts e) (fine e)), none-taken (entry e) .signals))
+    -- loop2-holds
+    (λ c.
+    let e = c .before .before .before .before in
+    (search needs, few-drivers (facts e) (fine e), elapsing-none _ _ (none-taken (entry e) .drivers)))
+    -- mul-d-2
+    (λ c. search needs)
+    -- element-copy-out-d-2
+    (λ c. search needs)
+    -- elapsed-requires
+    (λ c κs.
+    let head = c .before .before .loop2 in
+    let l = c .before .before .before .before .before in
+    let d = later l in
+    next-ahead _ _ _ _ (head .inv .2) (each-ahead _ _ (fine (l .before .before)) _ (d .earliest-at) (d .in-time) _ (c .before .loop2-test .taken)))
+    -- mul-e-2
+    (λ c. search needs)
+    -- element-set-from-e-2
+    (λ c. search needs)
+    -- add-k-3
+    (λ c. search needs)
+    -- loop2-less
+    (λ c. search needs)
+    -- loop2-again
+    (λ c.
+    let head = c .before .before .before .loop2 in
+    (search needs, search needs, elapsing-more _ _ _ _ (head .inv .2) (search needs) _ (c .elapsed .ensures)))
     -- returns-3
     (λ c.
-    let d = later (c .before .before) in
-    let e = c .before .before .before .before in
-    rw (d .is) (time-stepped _ _ _ (c .shift .ensures) (model e) (fine e) (d .earliest-at) (d .in-time))))
+    let head = c .before .loop2 in
+    let past = c .before .before .shift in
+    let l = c .before .before .before .before in
+    let d = later l in
+    rw (d .is) (time-stepped _ _ (fine (l .before .before)) _ (d .earliest-at) (d .in-time) _ (past .ensures) _ (head .self) (c .loop2-test .left) (head .inv .2))))

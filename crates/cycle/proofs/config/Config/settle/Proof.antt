@@ -11,7 +11,7 @@ use Rattle.cycle.specs.View.{Runs}
 use Rattle.cycle.specs.declared.config.Config.{Config}
 use Rattle.cycle.proofs.Lists.{length-mapped}
 use Rattle.cycle.proofs.Changes.{Sized}
-use Rattle.cycle.proofs.Turning.{Turning, Turn, Stepped, statement-there, is-ready, turning-next, goes-on, turning-none, turning-past, settle-end, early, in-16, process-in-model, place-spans, in-variables, wait-small, skip-turn, store-turn, jump-turn, wait-turn, wait-for-turn, stop-turn, in-drivers, delay-small, waveform, full-turn, schedule-turn}
+use Rattle.cycle.proofs.Turning.{Turning, Turn, Stepped, statement-there, is-ready, turning-next, goes-on, turning-none, turning-past, settle-end, early, in-16, process-in-model, place-spans, in-variables, wait-small, skip-turn, store-turn, jump-turn, wait-turn, wait-for-turn, stop-turn, in-drivers, waveform, full-turn, schedule-turn}
 use Rattle.cycle.proofs.config.Config.settle.Statement.{statement}
 use Rattle.cycle.proofs.config.Config.settle.Tie as tie
 
@@ -153,12 +153,6 @@ mul-e c = omega (arith, in-drivers (turn (c .before .before .before .before)) _ 
 element-copy-out-e : tie.Need-element-copy-out-e Inv-loop μ-loop
 element-copy-out-e c = in-drivers (turn (c .before .before .before .before)) _ _ _ (c .before .effect2 .given .1)
 
-cast-schedule : tie.Need-cast-schedule Inv-loop μ-loop
-cast-schedule c = search needs
-
-add-schedule : tie.Need-add-schedule Inv-loop μ-loop
-add-schedule c = omega (arith, early (turn (c .before .before .before .before .before)), delay-small (turn (c .before .before .before .before .before)) _ _ _ (c .before .before .effect2 .given .1))
-
 schedule-requires : tie.Need-schedule-requires Inv-loop μ-loop
 schedule-requires c κs = waveform (turn (c .before .before .before .before .before)) _ _ _ (c .before .before .effect2 .given .1)
 
@@ -181,7 +175,7 @@ loop-again-4 : tie.Need-loop-again-4 Inv-loop μ-loop
 loop-again-4 c = next (c .before .before .before .before .before .before .before) _ (full-turn (turn (c .before .before .before .before .before .before .before)) _ _ _ (c .before .before .before .before .effect2 .given .1) _ (c .before .schedule .ensures) (c .if2 .taken))
 
 first-time-requires : tie.Need-first-time-requires Inv-loop μ-loop
-first-time-requires c κs = search needs
+first-time-requires c κs = early (turn (c .before .before .before .before .before .before .before .before))
 
 mul-self-6 : tie.Need-mul-self-6 Inv-loop μ-loop
 mul-self-6 c = omega (arith, in-drivers (turn (c .before .before .before .before .before .before .before .before .before)) _ _ _ (c .before .before .before .before .before .before .effect2 .given .1))
@@ -326,8 +320,6 @@ settle-spec =
     enum-known-effect-2
     mul-e
     element-copy-out-e
-    cast-schedule
-    add-schedule
     schedule-requires
     mul-self-4
     element-write-self-4

@@ -10,7 +10,7 @@ use Rattle.cycle.specs.View.{Runs}
 use Rattle.cycle.proofs.Lists.{length-mapped}
 use Rattle.cycle.proofs.Advances.{few-processes}
 use Rattle.cycle.proofs.Changes.{Sized}
-use Rattle.cycle.proofs.Turning.{Turn, statement-there, early, in-16, process-in-model, place-spans, in-variables, wait-small, skip-turn, store-turn, jump-turn, wait-turn, wait-for-turn, stop-turn, in-drivers, delay-small, waveform, full-turn, schedule-turn}
+use Rattle.cycle.proofs.Turning.{Turn, statement-there, early, in-16, process-in-model, place-spans, in-variables, wait-small, skip-turn, store-turn, jump-turn, wait-turn, wait-for-turn, stop-turn, in-drivers, waveform, full-turn, schedule-turn}
 use Rattle.cycle.proofs.config.Config.step.Statement.{statement}
 use Rattle.cycle.proofs.config.Config.step.Tie as tie
 
@@ -96,12 +96,6 @@ mul-e c = omega (arith, in-drivers (turn (c .before .before .before .before)) _ 
 element-copy-out-e : tie.Need-element-copy-out-e
 element-copy-out-e c = in-drivers (turn (c .before .before .before .before)) _ _ _ (c .before .effect2 .given .1)
 
-cast-schedule : tie.Need-cast-schedule
-cast-schedule c = search needs
-
-add-schedule : tie.Need-add-schedule
-add-schedule c = omega (arith, early (turn (c .before .before .before .before .before)), delay-small (turn (c .before .before .before .before .before)) _ _ _ (c .before .before .effect2 .given .1))
-
 schedule-requires : tie.Need-schedule-requires
 schedule-requires c κs = waveform (turn (c .before .before .before .before .before)) _ _ _ (c .before .before .effect2 .given .1)
 
@@ -121,7 +115,7 @@ returns : tie.Need-returns
 returns c = (full-turn (turn (c .before .before .before .before .before .before .before)) _ _ _ (c .before .before .before .before .effect2 .given .1) _ (c .before .schedule .ensures) (c .if1 .taken)) .to
 
 first-time-requires : tie.Need-first-time-requires
-first-time-requires c κs = search needs
+first-time-requires c κs = early (turn (c .before .before .before .before .before .before .before .before))
 
 mul-self-6 : tie.Need-mul-self-6
 mul-self-6 c = omega (arith, in-drivers (turn (c .before .before .before .before .before .before .before .before .before)) _ _ _ (c .before .before .before .before .before .before .effect2 .given .1))
@@ -235,8 +229,6 @@ step-spec =
     enum-known-effect-2
     mul-e
     element-copy-out-e
-    cast-schedule
-    add-schedule
     schedule-requires
     mul-self-4
     element-write-self-4

@@ -3,11 +3,11 @@ use borrow.Author.Needs.{needs}
 use Rattle.cycle.proofs.driver.Driver.without_first.Statement.{statement}
 use Rattle.cycle.proofs.driver.Driver.without_first.Tie as tie
 
-shift-times-requires : tie.Need-shift-times-requires
-shift-times-requires c κs = search needs
+drop-first-requires : tie.Need-drop-first-requires
+drop-first-requires c κs = search needs
 
-shift-values-requires : tie.Need-shift-values-requires
-shift-values-requires c κs = search needs
+drop-first-requires-2 : tie.Need-drop-first-requires-2
+drop-first-requires-2 c κs = search needs
 
 sub-t7 : tie.Need-sub-t7
 sub-t7 c = search needs
@@ -16,4 +16,4 @@ returns : tie.Need-returns
 returns c = search (needs, shifted-pending)
 
 pub without-first-spec : {M : Type 1} → statement M
-without-first-spec = tie.close (tie.spec shift-times-requires shift-values-requires sub-t7 returns)
+without-first-spec = tie.close (tie.spec drop-first-requires drop-first-requires-2 sub-t7 returns)

@@ -1,7 +1,7 @@
 use Rattle.cycle.proofs.Drivers.{shifted}
 use borrow.Author.Needs.{needs}
-use Rattle.cycle.proofs.driver.shift_times.Statement.{statement}
-use Rattle.cycle.proofs.driver.shift_times.Tie as tie
+use Rattle.cycle.proofs.driver.drop_first.Statement.{statement}
+use Rattle.cycle.proofs.driver.drop_first.Tie as tie
 
 array-read-t5 : tie.Need-array-read-t5
 array-read-t5 c = search needs
@@ -27,8 +27,8 @@ array-read-t23 c = search needs
 returns : tie.Need-returns
 returns c = search (needs, shifted)
 
-pub shift-times-spec : {M : Type 1} → statement M
-shift-times-spec =
+pub drop-first-spec : {M : Type 1} → statement M
+drop-first-spec =
     tie.close
     (tie.spec
     array-read-t5
