@@ -2,6 +2,7 @@
 use mathlib.Core.Path.{_≡_, refl, sym, ap, _∙_}
 use mathlib.Core.List.{List, [], _++_, map}
 use Prim.Native.Nat.{ℕ, _+_, _-_, _*_, _%_, _≤_, _<_, min}
+use native.Mathlib.Nat.{le-antisymm}
 use native.Mathlib.Decide.{decLt, ℕ-discrete}
 use native.Mathlib.Omega.{arith}
 use lib.ListN.{length, getD, set, length-set, replicate, length-replicate, length-map, getD-replicate, List·getD-append}
@@ -12,6 +13,7 @@ use Rattle.cycle.specs.Steps.{shifted}
 use Rattle.cycle.specs.View.{historyOf}
 use Rattle.cycle.specs.Shift.{Between, MovedBy, FilledTo, ShiftedBy}
 use Rattle.cycle.proofs.AdvanceReachable.{shifted-length}
+use Rattle.cycle.proofs.ViewLaws.{history-at}
 
 -- entries written from the one before hi down
 module _ (f : ℕ → ℕ) (old : List ℕ) (hi : ℕ) where
@@ -34,46 +36,40 @@ module _ (f : ℕ → ℕ) (old : List ℕ) (hi : ℕ) where
   pub between-all : (new : List ℕ) (j lo : ℕ) → lo ≤ j → j ≤ lo → Between f old j hi new → Between f old lo hi new
   between-all new j lo l m h = record { long = h .long; done = λ x a b. h .done x (omega arith) b; before = λ x a. h .before x (omega arith); after = h .after }
 
--- the entries before i, whole histories, are shifted and the others stand
-pub record Shifting (old : List ℕ) (n i : ℕ) (new : List ℕ) : Type 0 where
-  pub whole : i % 32 ≡ 0
-  pub done : (j : ℕ) → j < i → getD new j 0 ≡ getD old (j - min (j % 32) n) 0
-  pub left : (j : ℕ) → i ≤ j → getD new j 0 ≡ getD old j 0
-
+-- history after history
 module _ (old : List ℕ) (n : ℕ) where
-  pub shift-none : Shifting old n 0 old
-  shift-none = record { whole = refl; done = λ j l. absurd (omega arith); left = λ j l. refl }
+  pub shift-none : ShiftedBy old n 0 old
+  shift-none = record { done = λ j l. absurd (omega arith); left = λ j l. refl }
 
   -- one history more
-  pub shift-turn : (a b c : List ℕ) (i k : ℕ) → k ≡ min 31 n → MovedBy a i k b → FilledTo b i k c → Shifting old n i a → Shifting old n (i + 32) c
-  shift-turn a b c i k e m f h =
+  pub shift-turn : (a b c : List ℕ) (s k : ℕ) → k ≡ min 31 n → MovedBy a (32 * s) k b → FilledTo b (32 * s) k c → ShiftedBy old n s a → ShiftedBy old n (s + 1) c
+  shift-turn a b c s k e m f h =
       record {
-        whole = omega arith;
-        done = λ j l. elim (decLt i j) [
-          | yes p ↦ elim (decLt (i + k) j) [ yes q ↦ past j p q l | no q ↦ recent j p (omega (arith, q)) ]
+        done = λ j l. elim (decLt (32 * s) j) [
+          | yes p ↦ elim (decLt (32 * s + k) j) [ yes q ↦ past j p q (omega arith) | no q ↦ recent j p (omega (arith, q)) ]
           | no p ↦ first j (omega (arith, p))
         ];
-        left = λ j l. f .after j (omega arith) ∙ m .after j l ∙ h .left j (omega arith);
+        left = λ j l. f .after j (omega arith) ∙ m .after j (omega arith) ∙ h .left j (omega arith);
       }
     where
-      first : (j : ℕ) → j ≤ i → getD c j 0 ≡ getD old (j - min (j % 32) n) 0
-      first j l = f .before j l ∙ m .before j (omega arith) ∙ elim (decLt j i) [
+      first : (j : ℕ) → j ≤ 32 * s → getD c j 0 ≡ getD old (j - min (j % 32) n) 0
+      first j l = f .before j l ∙ m .before j (omega arith) ∙ elim (decLt j (32 * s)) [
         | yes p ↦ h .done j p
         | no p ↦ let z : j - min (j % 32) n ≡ j = omega (arith, p) in rw z (h .left j (omega (arith, p)))
       ]
 
-      recent : (j : ℕ) → i < j → j ≤ i + k → getD c j 0 ≡ getD old (j - min (j % 32) n) 0
+      recent : (j : ℕ) → 32 * s < j → j ≤ 32 * s + k → getD c j 0 ≡ getD old (j - min (j % 32) n) 0
       recent j p q =
-          let z : j - min (j % 32) n ≡ i = omega arith in
-          f .done j p (omega arith) ∙ m .before i (omega arith) ∙ h .left i (omega arith) ∙ rw z
+          let z : j - min (j % 32) n ≡ 32 * s = omega arith in
+          f .done j p (omega arith) ∙ m .before (32 * s) (omega arith) ∙ h .left (32 * s) (omega arith) ∙ rw z
 
-      past : (j : ℕ) → i < j → i + k < j → j < i + 32 → getD c j 0 ≡ getD old (j - min (j % 32) n) 0
+      past : (j : ℕ) → 32 * s < j → 32 * s + k < j → j < 32 * s + 32 → getD c j 0 ≡ getD old (j - min (j % 32) n) 0
       past j p q l =
           let z : j - min (j % 32) n ≡ j - k = omega arith in
           f .after j (omega arith) ∙ m .done j q l ∙ h .left (j - k) (omega arith) ∙ rw z
 
-  pub shift-all : (new : List ℕ) (i count : ℕ) → count ≤ i → Shifting old n i new → ShiftedBy old n count new
-  shift-all new i count z h j l = h .done j (omega arith)
+  pub shift-all : (new : List ℕ) (s ns : ℕ) → s ≤ ns → ns ≤ s → ShiftedBy old n s new → ShiftedBy old n ns new
+  shift-all new s ns a b h = rw (le-antisymm a b) at h
 
 -- the value of k units ago, after n units
 shifted-at : (n : ℕ) (h : List ℕ) (k : ℕ) → k < 32 → getD (shifted n h) k 0 ≡ getD h (k - min k n) 0
@@ -98,11 +94,7 @@ history-length : (a : List ℕ) (s : ℕ) → length (historyOf a s) ≡ 32
 unfolding historyOf
 history-length a s = list-length (λ k. getD a (32 * s + k) 0) 32
 
-history-at : (a : List ℕ) (s k : ℕ) → k < 32 → getD (historyOf a s) k 0 ≡ getD a (32 * s + k) 0
-unfolding historyOf
-history-at a s k l = list-at (λ k. getD a (32 * s + k) 0) 0 32 k l
-
-history-shifted : (old new : List ℕ) (n ns s : ℕ) → ShiftedBy old n (32 * ns) new → s < ns → historyOf new s ≡ shifted n (historyOf old s)
+history-shifted : (old new : List ℕ) (n ns s : ℕ) → ShiftedBy old n ns new → s < ns → historyOf new s ≡ shifted n (historyOf old s)
 history-shifted old new n ns s h l =
     ext-getD 0 (historyOf new s) (shifted n (historyOf old s)) (history-length new s ∙ sym (shifted-length n (historyOf old s) (history-length old s)))
     (λ k m. each k (rw (history-length new s) at m))
@@ -112,12 +104,12 @@ history-shifted old new n ns s h l =
         let r : (32 * s + k) % 32 ≡ k = omega arith in
         let p : 32 * s + k - min k n ≡ 32 * s + (k - min k n) = omega arith in
         history-at new s k m
-        ∙ h (32 * s + k) (omega arith)
+        ∙ h .done (32 * s + k) (omega arith)
         ∙ rw (r, p)
         (sym (shifted-at n (historyOf old s) k m ∙ history-at old s (k - min k n) (omega arith)))
 
 -- all histories are shifted
-pub all-shifted : (old new : List ℕ) (n ns : ℕ) → ShiftedBy old n (32 * ns) new → listBelow (historyOf new) ns ≡ map (shifted n) (listBelow (historyOf old) ns)
+pub all-shifted : (old new : List ℕ) (n ns : ℕ) → ShiftedBy old n ns new → listBelow (historyOf new) ns ≡ map (shifted n) (listBelow (historyOf old) ns)
 all-shifted old new n ns h =
     ext-getD [] (listBelow (historyOf new) ns) (map (shifted n) (listBelow (historyOf old) ns))
     (list-length (historyOf new) ns ∙ sym (length-map (listBelow (historyOf old) ns) (shifted n) ∙ list-length (historyOf old) ns))

@@ -125,7 +125,7 @@ module _ (M : Model) (c : Config) (f : Fine M c) (t : ℕ) (e : earliest (dueTim
       ahead-of (c .time) (driverAt c k) t (rw (pending-in c k h) at (g .rising))
       (omega (arith, pending-length (c .time) (driverAt c k), rw (pending-in c k h) at (g .few)))
 
-  module _ (new : List ℕ) (s : ShiftedBy (c .signals) (t - c .time) (32 * c .ns) new) where
+  module _ (new : List ℕ) (s : ShiftedBy (c .signals) (t - c .time) (c .ns) new) where
     module _ (ds : List Driver) (p : (k : ℕ) → k < c .nd → Elapsed (t - c .time) (driverAt c k) (getD ds k noDriver)) where
       pending-same : (k : ℕ) → k < c .nd → pendingOf t (getD ds k noDriver) ≡ pendingOf (c .time) (driverAt c k)
       unfolding viewOf

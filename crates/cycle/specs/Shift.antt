@@ -1,7 +1,7 @@
 -- What the loops of a time step leave: the entries of the signals' histories, shifted.
 use mathlib.Core.Path.{_≡_}
 use mathlib.Core.List.{List}
-use Prim.Native.Nat.{ℕ, _+_, _-_, _%_, _≤_, _<_, min}
+use Prim.Native.Nat.{ℕ, _+_, _-_, _*_, _%_, _≤_, _<_, min}
 use lib.ListN.{length, getD}
 
 -- the entries between lo and hi are those of f, all others stand
@@ -19,6 +19,8 @@ MovedBy old base n new = Between (λ j. getD old (j - n) 0) old (base + n) (base
 abbrev pub FilledTo : List ℕ → ℕ → ℕ → List ℕ → Type 0
 FilledTo old base n new = Between (λ j. getD old base 0) old base (base + n + 1) new
 
--- of the first count entries, each has the value that stood n entries before it in the same history, or the history's first
-abbrev pub ShiftedBy : List ℕ → ℕ → ℕ → List ℕ → Type 0
-ShiftedBy old n count new = (j : ℕ) → j < count → getD new j 0 ≡ getD old (j - min (j % 32) n) 0
+-- in the histories of the first ns signals each entry has the value that stood n entries before it in the same history, or the
+-- history's first; all other entries stand
+pub record ShiftedBy (old : List ℕ) (n ns : ℕ) (new : List ℕ) : Type 0 where
+  pub done : (j : ℕ) → j < 32 * ns → getD new j 0 ≡ getD old (j - min (j % 32) n) 0
+  pub left : (j : ℕ) → 32 * ns ≤ j → getD new j 0 ≡ getD old j 0

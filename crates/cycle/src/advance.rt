@@ -91,9 +91,9 @@ impl Config {
             };
         }
         // The step to the earliest due time: the past of each signal shifts and pending times come nearer by the units passed.
-        let count = 32 * self.ns;
+        let ns = self.ns;
         let passed = t - self.time;
-        shift(&mut self.signals, count, passed);
+        shift(&mut self.signals, ns, passed);
         let nd = self.nd;
         let mut k = 0;
         while k < nd {

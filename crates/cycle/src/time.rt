@@ -41,17 +41,18 @@ fn fill_recent(signals: &mut [u32; 1024], base: usize, n: usize)
     }
 }
 
-// The histories in the first count entries, after n units.
-pub fn shift(signals: &mut [u32; 1024], count: usize, n: u64)
-    requires { ⌜ count ≤ 1024 ⌝ }
+// The histories of ns signals, after n units.
+pub fn shift(signals: &mut [u32; 1024], ns: usize, n: u64)
+    requires { ⌜ ns ≤ 32 ⌝ }
     requires { ⌜ length (now signals) ≡ 1024 ⌝ }
-    ensures { λ r. ⌜ ShiftedBy (now (signals .entry)) n count (now (signals .exit)) ⌝ }
+    ensures { λ r. ⌜ ShiftedBy (now (signals .entry)) n ns (now (signals .exit)) ⌝ }
 {
     let k = lesser(31, n);
-    let mut i = 0;
-    while i < count {
-        move_past(&mut *signals, i, k);
-        fill_recent(&mut *signals, i, k);
-        i += 32;
+    let mut s = 0;
+    while s < ns {
+        let base = 32 * s;
+        move_past(&mut *signals, base, k);
+        fill_recent(&mut *signals, base, k);
+        s += 1;
     }
 }

@@ -1,17 +1,18 @@
 -- `shift`: the histories passed are shifted, those after them stand. Assumes nothing.
 use mathlib.Core.Path.{_≡_}
-use Prim.Native.Nat.{_-_}
+use Prim.Native.Nat.{_-_, _≤_}
 use lib.ListN.{length}
 use borrow.Author.Needs.{needs}
-use Rattle.cycle.proofs.Shifts.{Shifting, shift-none, shift-turn, shift-all}
+use Rattle.cycle.specs.Shift.{ShiftedBy}
+use Rattle.cycle.proofs.Shifts.{shift-none, shift-turn, shift-all}
 use Rattle.cycle.proofs.time.shift.Statement.{statement}
 use Rattle.cycle.proofs.time.shift.Tie as tie
 
 abbrev Inv-loop : tie.InvT-loop
-Inv-loop signals₀ count n k i₀ signals i = (length signals ≡ 1024) × Shifting signals₀ n i signals
+Inv-loop signals₀ ns n k s₀ signals s = (s ≤ ns) × (length signals ≡ 1024) × ShiftedBy signals₀ n s signals
 
 abbrev μ-loop : tie.MeasureT-loop
-μ-loop signals₀ count n k i₀ signals i = count - i
+μ-loop signals₀ ns n k s₀ signals s = ns - s
 
 pub shift-spec : {M : Type 1} → statement M
 shift-spec =
@@ -22,20 +23,22 @@ shift-spec =
     -- lesser-requires
     (λ c κs. search needs)
     -- loop-holds
-    (λ c. (search needs, shift-none _ _))
+    (λ c. (search needs, search needs, shift-none _ _))
+    -- mul-base
+    (λ c. search needs)
     -- move-past-requires
     (λ c κs. search needs)
     -- fill-recent-requires
     (λ c κs. search needs)
-    -- add-i
+    -- add-s
     (λ c. search needs)
     -- loop-less
     (λ c. search needs)
     -- loop-again
     (λ c.
     let head = c .before .before .before .before .before in
-    (search needs, shift-turn _ _ _ _ _ _ _ (head .before .lesser .ensures) (c .before .before .move-past .ensures) (c .fill-recent .ensures) (head .loop .inv .1)))
+    (search needs, search needs, shift-turn _ _ _ _ _ _ _ (head .before .lesser .ensures) (c .before .before .move-past .ensures) (c .fill-recent .ensures) (head .loop .inv .2)))
     -- returns
     (λ c.
     let head = c .before .loop in
-    shift-all _ _ _ _ _ (search needs) (head .inv .1)))
+    shift-all _ _ _ _ _ (head .inv .0) (c .loop-test .left) (head .inv .2)))

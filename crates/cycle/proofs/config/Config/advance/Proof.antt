@@ -25,10 +25,10 @@ abbrev μ-loop : tie.MeasureT-loop
 μ-loop m index self₀ refusal t ns nd np time active k₀ self k = nd - k
 
 abbrev Inv-loop2 : tie.InvT-loop2
-Inv-loop2 m index self₀ refusal t count passed nd k₀ self k = (k ≤ nd) × (nd ≤ 64) × Elapsing self₀ passed k self
+Inv-loop2 m index self₀ refusal t ns passed nd k₀ self k = (k ≤ nd) × (nd ≤ 64) × Elapsing self₀ passed k self
 
 abbrev μ-loop2 : tie.MeasureT-loop2
-μ-loop2 m index self₀ refusal t count passed nd k₀ self k = nd - k
+μ-loop2 m index self₀ refusal t ns passed nd k₀ self k = nd - k
 
 -- the way back: to the start, and to what is due
 abbrev entry : tie.After-next-due Inv-loop μ-loop Inv-loop2 μ-loop2 → tie.Start Inv-loop μ-loop Inv-loop2 μ-loop2
@@ -171,16 +171,12 @@ advance-spec =
     let e = looked at in
     rw (delta at .is)
     (delta-answers _ (facts e) _ (fine e) _ (at .before .actives .ensures) _ (at .loop .self) _ _ _ (passed .left) (at .loop .inv .2) (record { resolved = signals .ensures; woken = processes .ensures }) (delta at .few)))
-    -- mul-count
-    (λ c.
-    let e = c .before .before in
-    search (needs, few-signals (facts e) (fine e)))
     -- sub-passed
     (λ c. search (needs, later c .from-now))
     -- shift-requires
     (λ c κs.
     let e = c .before .before .before in
-    (search (needs, few-signals (facts e) (fine e)), none-taken (entry e) .signals))
+    (few-signals (facts e) (fine e), none-taken (entry e) .signals))
     -- loop2-holds
     (λ c.
     let e = c .before .before .before .before in
