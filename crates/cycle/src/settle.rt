@@ -41,12 +41,10 @@ impl Config {
             match effect {
                 Effect::Skip => {
                     self.places[p] = next;
-                    continue;
                 }
                 Effect::Store(a, v) => {
                     self.variables[a] = v;
                     self.places[p] = next;
-                    continue;
                 }
                 Effect::Schedule(k, d, v) => {
                     let e = self.drivers[k];
@@ -54,31 +52,26 @@ impl Config {
                     if r.full {
                         self.standings[p] = 2;
                         self.faults[p] = 3;
-                        continue;
+                    } else {
+                        let f = r.driver;
+                        self.due[k] = f.first_time(now);
+                        self.drivers[k] = f;
+                        self.places[p] = next;
                     }
-                    let f = r.driver;
-                    self.due[k] = f.first_time(now);
-                    self.drivers[k] = f;
-                    self.places[p] = next;
-                    continue;
                 }
                 Effect::Jump(a) => {
                     self.places[p] = a;
-                    continue;
                 }
                 Effect::Wait => {
                     self.standings[p] = 1;
-                    continue;
                 }
                 Effect::WaitFor(d) => {
                     self.standings[p] = 1;
                     self.deadlines[p] = now + d as u64;
-                    continue;
                 }
                 Effect::Stop(f) => {
                     self.standings[p] = 2;
                     self.faults[p] = f;
-                    continue;
                 }
             }
         }

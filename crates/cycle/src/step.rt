@@ -43,12 +43,10 @@ impl Config {
         match effect {
             Effect::Skip => {
                 self.places[p] = next;
-                self
             }
             Effect::Store(a, v) => {
                 self.variables[a] = v;
                 self.places[p] = next;
-                self
             }
             Effect::Schedule(k, d, v) => {
                 let e = self.drivers[k];
@@ -56,32 +54,28 @@ impl Config {
                 if r.full {
                     self.standings[p] = 2;
                     self.faults[p] = 3;
-                    return self;
+                } else {
+                    let f = r.driver;
+                    self.due[k] = f.first_time(now);
+                    self.drivers[k] = f;
+                    self.places[p] = next;
                 }
-                let f = r.driver;
-                self.due[k] = f.first_time(now);
-                self.drivers[k] = f;
-                self.places[p] = next;
-                self
             }
             Effect::Jump(a) => {
                 self.places[p] = a;
-                self
             }
             Effect::Wait => {
                 self.standings[p] = 1;
-                self
             }
             Effect::WaitFor(d) => {
                 self.standings[p] = 1;
                 self.deadlines[p] = now + d as u64;
-                self
             }
             Effect::Stop(f) => {
                 self.standings[p] = 2;
                 self.faults[p] = f;
-                self
             }
         }
+        self
     }
 }

@@ -111,9 +111,6 @@ mul-self-5 c = omega (arith, in-16 (turn (c .before .before .before .before .bef
 element-write-self-5 : tie.Need-element-write-self-5
 element-write-self-5 c = in-16 (turn (c .before .before .before .before .before .before .before))
 
-returns : tie.Need-returns
-returns c = (full-turn (turn (c .before .before .before .before .before .before .before)) _ _ _ (c .before .before .before .before .effect2 .given .1) _ (c .before .schedule .ensures) (c .if1 .taken)) .to
-
 first-time-requires : tie.Need-first-time-requires
 first-time-requires c κs = early (turn (c .before .before .before .before .before .before .before .before))
 
@@ -189,11 +186,14 @@ mul-self-13 c = omega (arith, in-16 (turn (c .before .before .before .before)))
 element-write-self-13 : tie.Need-element-write-self-13
 element-write-self-13 c = in-16 (turn (c .before .before .before .before))
 
+returns : tie.Need-returns
+returns c = (skip-turn (turn (c .before .before .before)) (c .enum-told .given .1) _ (c .before .before .next-place .ensures)) .to
+
 returns-2 : tie.Need-returns-2
-returns-2 c = (skip-turn (turn (c .before .before .before)) (c .enum-told .given .1) _ (c .before .before .next-place .ensures)) .to
+returns-2 c = (store-turn (turn (c .before .before .before .before)) _ _ (c .before .effect .given .1) _ (c .before .before .before .next-place .ensures)) .to
 
 returns-3 : tie.Need-returns-3
-returns-3 c = (store-turn (turn (c .before .before .before .before)) _ _ (c .before .effect .given .1) _ (c .before .before .before .next-place .ensures)) .to
+returns-3 c = (full-turn (turn (c .before .before .before .before .before .before .before)) _ _ _ (c .before .before .before .before .effect2 .given .1) _ (c .before .schedule .ensures) (c .if1 .taken)) .to
 
 returns-4 : tie.Need-returns-4
 returns-4 c = (schedule-turn (turn (c .before .before .before .before .before .before .before .before .before)) _ _ _ (c .before .before .before .before .before .before .effect2 .given .1) _ (c .before .before .before .schedule .ensures) (c .before .before .if1 .left) _ _ (c .first-time .ensures) (c .before .before .before .before .before .before .before .before .next-place .ensures)) .to
@@ -234,7 +234,6 @@ step-spec =
     element-write-self-4
     mul-self-5
     element-write-self-5
-    returns
     first-time-requires
     mul-self-6
     element-write-self-6
@@ -260,6 +259,7 @@ step-spec =
     element-write-self-12
     mul-self-13
     element-write-self-13
+    returns
     returns-2
     returns-3
     returns-4
