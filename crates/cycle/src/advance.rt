@@ -46,8 +46,6 @@ impl Config {
                     self.currents[k] = d.values[0];
                     self.due[k] = e.first_time(time);
                     self.drivers[k] = e;
-                    k += 1;
-                    continue;
                 }
                 k += 1;
             }

@@ -37,8 +37,6 @@ pub fn actives<'a>(
         if due[k] == time {
             let d = driver_at(m, index, k);
             active = with(active, d.signal, true);
-            k += 1;
-            continue;
         }
         k += 1;
     }
@@ -69,8 +67,6 @@ pub fn resolve<'a>(
             let v = resolved(m, index, currents, nd, s, old);
             signals[32 * s] = v;
             changed = with(changed, s, old != v);
-            s += 1;
-            continue;
         }
         s += 1;
     }
@@ -214,8 +210,6 @@ pub fn wake<'a>(
             ps.standings[p] = r.standing;
             ps.deadlines[p] = r.deadline;
             ps.faults[p] = r.fault;
-            p += 1;
-            continue;
         }
         p += 1;
     }

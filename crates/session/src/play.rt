@@ -63,7 +63,6 @@ pub fn play<'a>(
                     picked.value,
                     at.time,
                 );
-                continue;
             }
             2 => {
                 let advanced = at.advance(m, index);
@@ -76,7 +75,6 @@ pub fn play<'a>(
                     advanced.value,
                     at.time,
                 );
-                continue;
             }
             3 => {
                 let settled = at.settle(m, index, count);
@@ -89,7 +87,6 @@ pub fn play<'a>(
                     settled.value,
                     at.time,
                 );
-                continue;
             }
             _ => {
                 let read = at.read(argument);
@@ -102,7 +99,6 @@ pub fn play<'a>(
                     read.value,
                     at.time,
                 );
-                continue;
             }
         }
     }

@@ -1,4 +1,5 @@
 -- `actives`: the set has a signal where a driver of it, of those passed, has a transaction due. Assumes nothing.
+use mathlib.Core.Logic.{⊎-elim}
 use Prim.Native.Nat.{_≤_, _-_}
 use mathlib.Core.Path.{ap}
 use borrow.Author.Needs.{needs}
@@ -41,18 +42,13 @@ actives-spec =
     (λ c. search needs)
     -- loop-again
     (λ c.
-    let driver = c .before .driver-at in
-    let due = c .before .before .if1 in
-    let head = c .before .before .before .before .before .loop in
-    (search needs, active-more _ _ _ _ _ _ _ (ap (λ (d : DriverRecord). d .signal) (driver .ensures)) (due .taken) (c .with .ensures) (head .inv .1)))
-    -- add-k-2
-    (λ c. search needs)
-    -- loop-less-2
-    (λ c. search needs)
-    -- loop-again-2
-    (λ c.
-    let head = c .before .before .before .loop in
-    (search needs, active-same _ _ _ _ _ (c .if1 .left) (head .inv .1)))
+    let head = c .before .before .before .loop in (
+      search needs,
+      ⊎-elim
+          (λ w. rw (w .3) (active-more _ _ _ _ _ _ _ (ap (λ (d : DriverRecord). d .signal) (w .1 .ensures)) (w .0 .taken) (w .2 .ensures) (head .inv .1)))
+          (λ w. rw (w .1) (active-same _ _ _ _ _ (w .0 .left) (head .inv .1)))
+          (c .if1 .came),
+    ))
     -- returns
     (λ c.
     let head = c .before .loop in

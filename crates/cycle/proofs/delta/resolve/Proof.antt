@@ -1,7 +1,8 @@
 -- `resolve`: the signals passed have their new values. Assumes nothing.
+use mathlib.Core.Logic.{⊎-elim}
 use Prim.Native.Nat.{_≤_, _-_}
 use mathlib.Core.Path.{_≡_, refl, sym, _∙_}
-use lib.ListN.{length}
+use lib.ListN.{length, length-set}
 use borrow.Author.Needs.{needs}
 use Rattle.model.specs.Records.{modelOf}
 use Rattle.cycle.specs.Delta.{ResolvedTo}
@@ -49,20 +50,15 @@ resolve-spec =
     (λ c. search needs)
     -- loop-again
     (λ c.
-    let value = c .before .resolved in
-    let active = c .before .before .before .if1 in
-    let has = c .before .before .before .before .has in
-    let head = c .before .before .before .before .before .before .loop in
-    (search needs, search needs, resolved-more _ _ _ _ _ _ _ _ (head .inv .2) _ _ _ (sym (has .ensures) ∙ active .taken) (search needs) refl (value .ensures) (c .with .ensures)))
-    -- add-s-2
-    (λ c. search needs)
-    -- loop-less-2
-    (λ c. search needs)
-    -- loop-again-2
-    (λ c.
     let has = c .before .has in
-    let head = c .before .before .before .loop in
-    (search needs, search needs, resolved-same _ _ _ _ _ _ _ _ (head .inv .2) (sym (has .ensures) ∙ c .if1 .left)))
+    let head = c .before .before .before .loop in (
+      search needs,
+      ⊎-elim (λ w. rw (w .4, length-set) (head .inv .1)) (λ w. rw (w .1) (head .inv .1)) (c .if1 .came),
+      ⊎-elim
+          (λ w. rw (w .4, w .5) (resolved-more _ _ _ _ _ _ _ _ (head .inv .2) _ _ _ (sym (has .ensures) ∙ w .0 .taken) (search needs) refl (w .2 .ensures) (w .3 .ensures)))
+          (λ w. rw (w .1, w .2) (resolved-same _ _ _ _ _ _ _ _ (head .inv .2) (sym (has .ensures) ∙ w .0 .left)))
+          (c .if1 .came),
+    ))
     -- returns
     (λ c.
     let head = c .before .loop in

@@ -1,4 +1,5 @@
 -- `wake`: the processes passed are those after the step, the others as they were. Assumes nothing.
+use mathlib.Core.Logic.{⊎-elim}
 use Prim.Native.Nat.{_+_, _*_, _-_, _≤_, _<_, zero-le}
 use borrow.Author.Count.{falls}
 use borrow.Author.Needs.{length-unmapped}
@@ -89,15 +90,13 @@ wake-spec =
     -- loop-again
     (λ c.
     let turn = c .before .before .before .before .before .before .before .before in
-    (turn-most _ _ (turn .loop-test .taken), waking-more _ _ _ _ _ _ _ _ (small turn) (c .before .before .before .after-delta .ensures) (turn .before .loop .inv .1)))
-    -- add-p-2
-    (λ c. next (c .before .before .before .before .before .before .before .before))
-    -- loop-less-2
-    (λ c. falls _ _ (c .before .before .before .before .before .before .before .before .loop-test .taken))
-    -- loop-again-2
-    (λ c.
-    let turn = c .before .before .before .before .before .before .before .before in
-    (turn-most _ _ (turn .loop-test .taken), waking-same _ _ _ _ _ _ _ (c .before .before .before .after-delta .result) (c .before .before .before .after-delta .ensures) (c .if1 .left) (turn .before .loop .inv .1)))
+    let after = c .before .before .before .after-delta in (
+      turn-most _ _ (turn .loop-test .taken),
+      ⊎-elim
+          (λ w. rw (w .1) (waking-more _ _ _ _ _ _ _ _ (small turn) (after .ensures) (turn .before .loop .inv .1)))
+          (λ w. rw (w .1) (waking-same _ _ _ _ _ _ _ (after .result) (after .ensures) (w .0 .left) (turn .before .loop .inv .1)))
+          (c .if1 .came),
+    ))
     -- returns
     (λ c.
     let head = c .before .loop in

@@ -1,6 +1,7 @@
 -- `advance`: what `next_due` finds decides the step. In a delta step the loop takes the due transactions of the drivers passed, and
 -- `delta-answers` puts the parts together; in a time step the units passed elapse for the drivers passed, and `time-stepped` puts
 -- the parts together. Assumes nothing.
+use mathlib.Core.Logic.{⊎-elim}
 use Prim.Native.Nat.{_≤_, _-_}
 use denote.Ref.{now}
 use borrow.Author.Needs.{needs}
@@ -131,23 +132,18 @@ advance-spec =
     (λ c. search needs)
     -- loop-again
     (λ c.
-    let rest = c .before .before .without-first in
-    let due = c .before .before .before .before .if3 in
-    let test = c .before .before .before .before .before .before .loop-test in
-    let at = c .before .before .before .before .before .before .before in
-    let head = at .loop in
-    let f = fine (looked at) in
-    (search needs, search needs, taking-more _ _ _ (head .inv .2) (search needs) _ (slot-taken _ (slotOf (head .self) (head .k)) (next-timed _ _ f _ (test .taken) _ (head .inv .2)) (time-most _ _ f) (due .taken) _ _ (rest .ensures) (c .first-time .ensures))))
-    -- add-k-2
-    (λ c. search needs)
-    -- loop-less-2
-    (λ c. search needs)
-    -- loop-again-2
-    (λ c.
     let test = c .before .before .loop-test in
     let at = c .before .before .before in
     let head = at .loop in
-    (search needs, search needs, taking-same _ _ _ (head .inv .2) (slot-kept _ (slotOf (head .self) (head .k)) (next-timed _ _ (fine (looked at)) _ (test .taken) _ (head .inv .2)) (c .if3 .left))))
+    let f = fine (looked at) in
+    let timed = next-timed _ _ f _ (test .taken) _ (head .inv .2) in (
+      search needs,
+      search needs,
+      ⊎-elim
+          (λ w. rw (w .5) (taking-more _ _ _ (head .inv .2) (search needs) _ (slot-taken _ (slotOf (head .self) (head .k)) timed (time-most _ _ f) (w .0 .taken) _ _ (w .2 .ensures) (w .4 .ensures))))
+          (λ w. rw (w .1) (taking-same _ _ _ (head .inv .2) (slot-kept _ (slotOf (head .self) (head .k)) timed (w .0 .left))))
+          (c .if3 .came),
+    ))
     -- resolve-requires
     (λ c κs.
     let at = c .before .before .before .before in
