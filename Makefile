@@ -1,5 +1,5 @@
 # make run: plays the bundled example. make test: every test. Both install what is missing (Debian packages).
-.PHONY: run test bench tools setup clean
+.PHONY: run test peers proved bench tools setup clean
 
 LIB := $(CURDIR)/target/staticlib
 CARGO := cargo --quiet
@@ -10,9 +10,15 @@ run: setup
 	rt check playbench
 	cd examples/inverter && $(CURDIR)/target/bin/playbench
 
-test: setup tools
+test: peers proved
+
+# What needs no proof.
+peers: setup tools
 	rt fmt --check
 	$(CARGO) test $(PEER)
+
+# What runs the proved kernel.
+proved: setup tools
 	rt check playbench
 	rt staticlib exports
 	sh tests/examples.sh
