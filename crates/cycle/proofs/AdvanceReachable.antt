@@ -21,14 +21,14 @@ use Rattle.cycle.specs.Configuration.{ProcessState, Configuration, drive
 use Rattle.cycle.specs.Evaluation.{Environment, environmentOf, evalOf}
 use Rattle.cycle.specs.Steps.{taken, deadlineDue, active, withCurrent, signalAfter, signalsAfter, changedIn, wakes, wokenBy, wokenIf, wokenAt, processAfterDelta, deltaStep, shifted, timeStep}
 use Rattle.cycle.specs.Orders.{optional, earliest, dueTimes}
-use Rattle.cycle.specs.Invariant.{ValueOf, lastTime, DriverFine, DeadlineFine, ProcessFine, Reachable}
+use Rattle.cycle.specs.Invariant.{ValueOf, lastTime, DriverValid, DeadlineValid, ProcessValid, Reachable}
 use Rattle.cycle.proofs.Lists.{All}
 use Rattle.cycle.proofs.Evaluation.{Typed, EnvironmentFits, value-typed}
 use Rattle.cycle.proofs.Waves.{driver-taken, driver-later}
 use Rattle.cycle.proofs.Driving.{resolved-typed}
 use Rattle.cycle.proofs.Earliest.{transactions-later, deadlines-later}
 use Rattle.cycle.proofs.Effects.{own-statement, placed}
-use Rattle.cycle.proofs.StepReachable.{next-place, stopped-fine}
+use Rattle.cycle.proofs.StepReachable.{next-place, stopped-valid}
 
 -- a history of 32 values with another current value
 current-length : (v : ℕ) (h : List ℕ) → length h ≡ 32 → length (withCurrent v h) ≡ 32
@@ -43,8 +43,8 @@ current-each P v (x ∷ h) a b (suc k) l = b (suc k) l
 
 module _ (M : Model) (fs : Facts M) (c : Configuration) (r : Reachable M c) where
   -- the drivers after their due transactions
-  pub taken-fine : (k : ℕ) → k < length (M .drivers) → DriverFine (signalAt M (driverAt M k .signal) .ty) (c .time) (driverIn (map (taken (c .time)) (c .drivers)) k)
-  taken-fine k h =
+  pub taken-valid : (k : ℕ) → k < length (M .drivers) → DriverValid (signalAt M (driverAt M k .signal) .ty) (c .time) (driverIn (map (taken (c .time)) (c .drivers)) k)
+  taken-valid k h =
       let l : k < length (c .drivers) = omega (arith, r .drivers) in
       let e : driverIn (map (taken (c .time)) (c .drivers)) k ≡ taken (c .time) (driverIn (c .drivers) k) = map-at (taken (c .time)) (c .drivers) k _ _ l in
       rw e (driver-taken _ (c .time) (driverIn (c .drivers) k) (r .each-driver k h))
@@ -56,8 +56,8 @@ module _ (M : Model) (fs : Facts M) (c : Configuration) (r : Reachable M c) wher
     abbrev resolved : ℕ
     resolved = resolvedOr (currentOf (c .signals) s) (drivingOf M (map (taken (c .time)) (c .drivers)) s)
 
-    value-fine : ValueOf (signalAt M s .ty) resolved
-    value-fine = resolved-typed M fs _ s _ h (λ k l e. rw e at (taken-fine k l .current)) (r .signal-values s 0 h (omega arith))
+    value-valid : ValueOf (signalAt M s .ty) resolved
+    value-valid = resolved-typed M fs _ s _ h (λ k l e. rw e at (taken-valid k l .current)) (r .signal-values s 0 h (omega arith))
 
     history-length : length (signalAfter M c s) ≡ 32
     unfolding signalAfter
@@ -69,7 +69,7 @@ module _ (M : Model) (fs : Facts M) (c : Configuration) (r : Reachable M c) wher
     unfolding signalAfter
     history-typed k l =
         by-test (λ (l : List ℕ). ValueOf (signalAt M s .ty) (getD l k 0)) (active M (c .time) (c .drivers) s) _ _
-        (λ e. current-each (ValueOf (signalAt M s .ty)) resolved past value-fine (λ k l. r .signal-values s k h l) k l)
+        (λ e. current-each (ValueOf (signalAt M s .ty)) resolved past value-valid (λ k l. r .signal-values s k h l) k l)
         (λ e. r .signal-values s k h l)
 
   history-at : (s : ℕ) → s < length (M .signals) → getD (signalsAfter M c) s [] ≡ signalAfter M c s
@@ -93,11 +93,11 @@ module _ (M : Model) (fs : Facts M) (c : Configuration) (r : Reachable M c) wher
     abbrev s : StatementRecord
     s = statementAt M (q .place)
 
-    abbrev Fine : ProcessState → Type 0
-    Fine = ProcessFine M p (c .time)
+    abbrev Valid : ProcessState → Type 0
+    Valid = ProcessValid M p (c .time)
 
-    wakes-fine : Fine (wakes M p q)
-    wakes-fine =
+    wakes-valid : Valid (wakes M p q)
+    wakes-valid =
         let n = next-place M fs p h (q .place) (placed M c r p h) in
         record {
           from = n .from;
@@ -109,31 +109,31 @@ module _ (M : Model) (fs : Facts M) (c : Configuration) (r : Reachable M c) wher
           deadline = tt;
         }
 
-    woken-by : (v : Value) → Typed boolean v → Fine (wokenBy M p q v)
-    woken-by (Fault f) t = stopped-fine M p (c .time) q (r .each-process p h) f (omega arith)
-    woken-by (Of x) t = by-test Fine (eqb x 1) _ _ (λ e. wakes-fine) (λ e. r .each-process p h)
+    woken-by : (v : Value) → Typed boolean v → Valid (wokenBy M p q v)
+    woken-by (Fault f) t = stopped-valid M p (c .time) q (r .each-process p h) f (omega arith)
+    woken-by (Of x) t = by-test Valid (eqb x 1) _ _ (λ e. wakes-valid) (λ e. r .each-process p h)
 
-    woken-if : s .kind ≡ 5 → Fine (wokenIf M p now s q)
+    woken-if : s .kind ≡ 5 → Valid (wokenIf M p now s q)
     unfolding wokenIf
     woken-if k =
-        by-test Fine (eqb (s .b) absent) _ _ (λ e. wakes-fine)
+        by-test Valid (eqb (s .b) absent) _ _ (λ e. wakes-valid)
         (λ e.
         let x = own-statement M fs p h (q .place) (placed M c r p h) .wait k .condition (eqb-false (s .b) absent e) in
         woken-by (evalOf M now (s .b)) (rw (x .type) at (value-typed M fs now new-environment (s .b) (x .node))))
 
-    woken-at : s .kind ≡ 5 → Fine (wokenAt M p c (signalsAfter M c) s q)
+    woken-at : s .kind ≡ 5 → Valid (wokenAt M p c (signalsAfter M c) s q)
     unfolding wokenAt
     woken-at k =
-        by-test Fine (deadlineDue (c .time) q) _ _ (λ e. wakes-fine)
-        (λ e. by-test Fine (changedIn M (s .set) (c .signals) (signalsAfter M c)) _ _ (λ f. woken-if k) (λ f. r .each-process p h))
+        by-test Valid (deadlineDue (c .time) q) _ _ (λ e. wakes-valid)
+        (λ e. by-test Valid (changedIn M (s .set) (c .signals) (signalsAfter M c)) _ _ (λ f. woken-if k) (λ f. r .each-process p h))
 
-    process-delta : Fine (processAfterDelta M c (signalsAfter M c) p)
+    process-delta : Valid (processAfterDelta M c (signalsAfter M c) p)
     unfolding processAfterDelta
     process-delta =
-        by-test Fine (eqb (q .standing) waiting) _ _
+        by-test Valid (eqb (q .standing) waiting) _ _
         (λ e. woken-at (r .each-process p h .at-wait (eqb-true (q .standing) waiting e))) (λ e. r .each-process p h)
 
-  processes-delta : (p : ℕ) → p < length (M .processes) → ProcessFine M p (c .time) (processIn (deltaStep M c .processes) p)
+  processes-delta : (p : ℕ) → p < length (M .processes) → ProcessValid M p (c .time) (processIn (deltaStep M c .processes) p)
   unfolding deltaStep
   processes-delta p h =
       rw (list-at (processAfterDelta M c (signalsAfter M c)) _ (length (M .processes)) p h) (process-delta p h)
@@ -148,7 +148,7 @@ module _ (M : Model) (fs : Facts M) (c : Configuration) (r : Reachable M c) wher
         histories = λ s h. rw (history-at s h) (history-length s h);
         signal-values = signals-typed;
         drivers = length-map (c .drivers) _ ∙ r .drivers;
-        each-driver = taken-fine;
+        each-driver = taken-valid;
         processes = list-length _ (length (M .processes));
         each-process = processes-delta;
         variables = r .variables;
@@ -168,12 +168,12 @@ shifted-each P n h e p k l =
     (λ m. rw (getD-replicate (min n 32) k (getD h 0 0) 0 (rw length-replicate at m)) (p 0 (omega arith)))
     (λ j q. p j (omega arith)))
 
-deadline-later : (t s : ℕ) (o : Option ℕ) → All (λ u. s ≤ u) (optional o) → DeadlineFine t o → DeadlineFine s o
+deadline-later : (t s : ℕ) (o : Option ℕ) → All (λ u. s ≤ u) (optional o) → DeadlineValid t o → DeadlineValid s o
 deadline-later t s none a d = tt
 deadline-later t s (some u) a d = (a .0, d .1)
 
 module _ (M : Model) (c : Configuration) (r : Reachable M c) (t : ℕ) (e : earliest (dueTimes M c) ≡ some t) where
-  process-later : (p : ℕ) → p < length (M .processes) → ProcessFine M p t (processIn (c .processes) p)
+  process-later : (p : ℕ) → p < length (M .processes) → ProcessValid M p t (processIn (c .processes) p)
   process-later p h =
       let f = r .each-process p h in
       record {

@@ -12,32 +12,32 @@ use Rattle.model.specs.Records.{Model}
 use Rattle.cycle.specs.Steps.{deltaStep, timeStep}
 use Rattle.cycle.specs.Orders.{refused, earliest, dueTimes, advanceDone, timeOrder, isReady, isStopped, advanced}
 use Rattle.cycle.specs.Invariant.{lastTime}
-use Rattle.cycle.specs.View.{never, viewOf, Fine}
+use Rattle.cycle.specs.View.{never, viewOf, Valid}
 use Rattle.cycle.specs.Due.{soonestIn, someIs, refusalIn, DueIn}
 use Rattle.cycle.specs.declared.config.Config.{Config}
 use Rattle.cycle.specs.declared.due.Due.{Due}
 use Rattle.model.specs.Facts.{Facts}
-use Rattle.cycle.proofs.ViewLaws.{ns-is, nd-is, np-is}
+use Rattle.cycle.proofs.ViewLaws.{nsignals-is, ndrivers-is, nprocesses-is}
 use Rattle.cycle.proofs.DueTimes.{due-within}
 use Rattle.cycle.proofs.Soonest.{orNever, soonest, due-now, standing-is}
 
 -- the totals of the struct are within the limits
-module _ {M : Model} {c : Config} (k : Facts M) (f : Fine M c) where
-  pub few-signals : c .ns ≤ 32
-  few-signals = rw (ns-is M c (f .reachable)) (k .totals .signals)
+module _ {M : Model} {c : Config} (k : Facts M) (f : Valid M c) where
+  pub few-signals : c .nsignals ≤ 32
+  few-signals = rw (nsignals-is M c (f .reachable)) (k .totals .signals)
 
-  pub few-drivers : c .nd ≤ 64
-  few-drivers = rw (nd-is M c (f .reachable)) (k .totals .drivers)
+  pub few-drivers : c .ndrivers ≤ 64
+  few-drivers = rw (ndrivers-is M c (f .reachable)) (k .totals .drivers)
 
-  pub few-processes : c .np ≤ 16
-  few-processes = rw (np-is M c (f .reachable)) (k .totals .processes)
+  pub few-processes : c .nprocesses ≤ 16
+  few-processes = rw (nprocesses-is M c (f .reachable)) (k .totals .processes)
 
-module _ (M : Model) (c : Config) (f : Fine M c) where
+module _ (M : Model) (c : Config) (f : Valid M c) where
   abbrev some-is : ℕ → Bool
-  some-is = someIs (c .standings) (c .np)
+  some-is = someIs (c .standings) (c .nprocesses)
 
   abbrev t : ℕ
-  t = soonestIn (c .due) (c .nd) (c .deadlines) (c .np)
+  t = soonestIn (c .due) (c .ndrivers) (c .deadlines) (c .nprocesses)
 
   -- a delta step is due, and a time step
   pub record DeltaDue : Type 0 where
@@ -111,7 +111,7 @@ module _ (M : Model) (c : Config) (f : Fine M c) where
                 is = by-time ∙ rw (earliest-is, h);
               })
 
-  decided : Case (refusalIn (c .standings) (c .np) t (c .time) (c .deltas))
+  decided : Case (refusalIn (c .standings) (c .nprocesses) t (c .time) (c .deltas))
   unfolding refusalIn
   decided =
       by-test Case (some-is 0) _ _ one-ready
@@ -137,7 +137,7 @@ module _ (M : Model) (c : Config) (f : Fine M c) where
   time-case (timed e d) h w = d
 
   -- what an advance is, by what `next_due` found
-  module _ (r : Due) (d : DueIn (c .standings) (c .due) (c .deadlines) (c .np) (c .nd) (c .time) (c .deltas) r) where
+  module _ (r : Due) (d : DueIn (c .standings) (c .due) (c .deadlines) (c .nprocesses) (c .ndrivers) (c .time) (c .deltas) r) where
     found : Case (r .refusal)
     found = rw (d .refusal, d .earliest) decided
 

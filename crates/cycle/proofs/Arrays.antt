@@ -6,12 +6,12 @@ use native.Mathlib.Omega.{arith}
 use borrow.Author.Count.{below-none, below-more}
 use lib.ListN.{length, getD, set, length-set}
 use lib.Seq.{getD-set-same, getD-set-other}
-use Rattle.cycle.specs.Arrays.{Has}
+use Rattle.cycle.specs.Arrays.{EntriesAre}
 
 -- the first i entries are filled, of an array of k
 pub record Filled (f : ℕ → ℕ) (k i : ℕ) (xs : List ℕ) : Type 0 where
   pub long : length xs ≡ k
-  pub has : Has f i xs
+  pub has : EntriesAre f i xs
 
 module _ (f : ℕ → ℕ) (k : ℕ) where
   pub filled-none : (xs : List ℕ) → length xs ≡ k → Filled f k 0 xs
@@ -30,5 +30,5 @@ module _ (f : ℕ → ℕ) (k : ℕ) where
       }
 
   -- all turns are done
-  pub filled-all : (xs : List ℕ) (i n : ℕ) → n ≤ i → Filled f k i xs → Has f n xs
+  pub filled-all : (xs : List ℕ) (i n : ℕ) → n ≤ i → Filled f k i xs → EntriesAre f n xs
   filled-all xs i n h l = record { at = λ j m. l .has .at j (omega arith) }

@@ -17,28 +17,28 @@ use Rattle.cycle.specs.View.{historyOf, viewOf, arrays}
 use Rattle.cycle.specs.declared.config.Config.{Config}
 use Rattle.cycle.proofs.Evaluation.{agree-all}
 use Rattle.cycle.proofs.Picks.{effect-same}
-use Rattle.cycle.proofs.ViewLaws.{history-at, ns-is, nv-is}
+use Rattle.cycle.proofs.ViewLaws.{history-at, nsignals-is, nvariables-is}
 
 -- what is read from the lists that arrays of variables and signals hold
 abbrev pub listed : List ℕ → List ℕ → ℕ → ℕ → Environment
-listed vs ss nv ns = environmentOf (listBelow (λ a. getD vs a 0) nv) (listBelow (historyOf ss) ns)
+listed vs ss nvariables nsignals = environmentOf (listBelow (λ a. getD vs a 0) nvariables) (listBelow (historyOf ss) nsignals)
 
 -- lists as long as the model says
-module _ (M : Model) (fs : Facts M) (vs ss : List ℕ) (nv ns : ℕ) (some : nv ≡ length (M .variables)) (many : ns ≡ length (M .signals)) where
-  signal-listed : (s k : ℕ) → s < length (M .signals) → k ≤ 31 → getD ss (32 * s + k) 0 ≡ pastOf (listBelow (historyOf ss) ns) s k
-  signal-listed s k h l = rw (list-at (historyOf ss) [] ns s (omega arith)) (sym (history-at ss s k (omega arith)))
+module _ (M : Model) (fs : Facts M) (vs ss : List ℕ) (nvariables nsignals : ℕ) (some : nvariables ≡ length (M .variables)) (many : nsignals ≡ length (M .signals)) where
+  signal-listed : (s k : ℕ) → s < length (M .signals) → k ≤ 31 → getD ss (32 * s + k) 0 ≡ pastOf (listBelow (historyOf ss) nsignals) s k
+  signal-listed s k h l = rw (list-at (historyOf ss) [] nsignals s (omega arith)) (sym (history-at ss s k (omega arith)))
 
-  variable-listed : (a : ℕ) → a < length (M .variables) → getD vs a 0 ≡ getD (listBelow (λ a. getD vs a 0) nv) a 0
-  variable-listed a h = sym (list-at (λ a. getD vs a 0) 0 nv a (omega arith))
+  variable-listed : (a : ℕ) → a < length (M .variables) → getD vs a 0 ≡ getD (listBelow (λ a. getD vs a 0) nvariables) a 0
+  variable-listed a h = sym (list-at (λ a. getD vs a 0) 0 nvariables a (omega arith))
 
-  pub value-listed : (n : ℕ) → n < length (M .nodes) → evalOf M (arrays vs ss) n ≡ evalOf M (listed vs ss nv ns) n
-  value-listed = agree-all M fs (arrays vs ss) (listed vs ss nv ns) signal-listed variable-listed
+  pub value-listed : (n : ℕ) → n < length (M .nodes) → evalOf M (arrays vs ss) n ≡ evalOf M (listed vs ss nvariables nsignals) n
+  value-listed = agree-all M fs (arrays vs ss) (listed vs ss nvariables nsignals) signal-listed variable-listed
 
-  pub effect-listed : (p : ℕ) (s : StatementRecord) → StatementFits M p s → effectBy M (arrays vs ss) p s ≡ effectBy M (listed vs ss nv ns) p s
-  effect-listed p = effect-same M p (arrays vs ss) (listed vs ss nv ns) (λ n h own. value-listed n h)
+  pub effect-listed : (p : ℕ) (s : StatementRecord) → StatementFits M p s → effectBy M (arrays vs ss) p s ≡ effectBy M (listed vs ss nvariables nsignals) p s
+  effect-listed p = effect-same M p (arrays vs ss) (listed vs ss nvariables nsignals) (λ n h own. value-listed n h)
 
 -- the same of a struct and its view
 module _ (M : Model) (fs : Facts M) (c : Config) (r : Reachable M (viewOf c)) where
   pub effect-viewed : (p : ℕ) (s : StatementRecord) → StatementFits M p s → effectBy M (arrays (c .variables) (c .signals)) p s ≡ effectBy M (environmentOf (viewOf c .variables) (viewOf c .signals)) p s
   unfolding viewOf
-  effect-viewed = effect-listed M fs (c .variables) (c .signals) (c .nv) (c .ns) (nv-is M c r) (ns-is M c r)
+  effect-viewed = effect-listed M fs (c .variables) (c .signals) (c .nvariables) (c .nsignals) (nvariables-is M c r) (nsignals-is M c r)

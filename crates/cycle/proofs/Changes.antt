@@ -38,10 +38,10 @@ module _ (c : Config) (due : List ℕ) (drivers : List Driver) (places standings
       record {
         time = c .time;
         deltas = c .deltas;
-        ns = c .ns;
-        nv = c .nv;
-        nd = c .nd;
-        np = c .np;
+        nsignals = c .nsignals;
+        nvariables = c .nvariables;
+        ndrivers = c .ndrivers;
+        nprocesses = c .nprocesses;
         signals = c .signals;
         currents = c .currents;
         due = due;
@@ -101,7 +101,7 @@ same-configuration : {t t' u u' : ℕ} {ss ss' : List (List ℕ)} {ds ds' : List
     → _≡_ {A = Configuration} (record { time = t; deltas = u; signals = ss; drivers = ds; processes = ps; variables = vs }) (record { time = t'; deltas = u'; signals = ss'; drivers = ds'; processes = ps'; variables = vs' })
 same-configuration t u s d r v = rw (t, u, s, d, r, v)
 
-module _ (M : Model) (c : Config) (p : ℕ) (h : p < c .np) where
+module _ (M : Model) (c : Config) (p : ℕ) (h : p < c .nprocesses) where
   abbrev q : ProcessState
   q = rowOf (c .places) (c .standings) (c .deadlines) (c .faults) p
 
@@ -124,11 +124,11 @@ module _ (M : Model) (c : Config) (p : ℕ) (h : p < c .np) where
 
     moved-is : (i : ℕ) (vs : List ℕ) → viewOf (movedTo c p i vs) .processes ≡ set (viewOf c .processes) p (moved q i)
     unfolding viewOf processView
-    moved-is i vs = place-set (c .places) (c .standings) (c .deadlines) (c .faults) (c .np) p i (omega (arith, s .places))
+    moved-is i vs = place-set (c .places) (c .standings) (c .deadlines) (c .faults) (c .nprocesses) p i (omega (arith, s .places))
 
     stopped-is : (f : ℕ) → viewOf (stopsBy c p f) .processes ≡ set (viewOf c .processes) p (stops q f)
     unfolding viewOf processView
-    stopped-is f = stops-set (c .places) (c .standings) (c .deadlines) (c .faults) (c .np) p f at-standing (omega (arith, s .faults))
+    stopped-is f = stops-set (c .places) (c .standings) (c .deadlines) (c .faults) (c .nprocesses) p f at-standing (omega (arith, s .faults))
 
     pub skip-view : (i : ℕ) → i ≡ next → viewOf (movedTo c p i (c .variables)) ≡ applied M p Skip (viewOf c)
     unfolding viewOf driverView
@@ -138,7 +138,7 @@ module _ (M : Model) (c : Config) (p : ℕ) (h : p < c .np) where
     unfolding viewOf driverView
     store-view a v i b e =
         change-is (Store a v) (movedTo c p i (set (c .variables) a v)) refl refl refl refl (moved-is i (set (c .variables) a v) ∙ rw e)
-        (variables-set (c .variables) (c .nv) a v (omega (arith, s .variables)))
+        (variables-set (c .variables) (c .nvariables) a v (omega (arith, s .variables)))
 
     pub jump-view : (a : ℕ) → viewOf (movedTo c p a (c .variables)) ≡ applied M p (Jump a) (viewOf c)
     unfolding viewOf driverView
@@ -148,19 +148,19 @@ module _ (M : Model) (c : Config) (p : ℕ) (h : p < c .np) where
     unfolding viewOf driverView processView
     wait-view e =
         change-is Wait (waitsUntil c p (c .deadlines)) refl refl refl refl
-        (waits-set (c .places) (c .standings) (c .deadlines) (c .faults) (c .np) p at-standing ∙ rw e) refl
+        (waits-set (c .places) (c .standings) (c .deadlines) (c .faults) (c .nprocesses) p at-standing ∙ rw e) refl
 
     pub wait-for-view : (d t : ℕ) → t ≡ c .time + d → deadlineOf t ≡ some t → viewOf (waitsUntil c p (set (c .deadlines) p t)) ≡ applied M p (WaitFor d) (viewOf c)
     unfolding viewOf driverView processView
     wait-for-view d t e f =
         change-is (WaitFor d) (waitsUntil c p (set (c .deadlines) p t)) refl refl refl refl
-        (waits-for-set (c .places) (c .standings) (c .deadlines) (c .faults) (c .np) p t at-standing (omega (arith, s .deadlines)) ∙ rw (f, e)) refl
+        (waits-for-set (c .places) (c .standings) (c .deadlines) (c .faults) (c .nprocesses) p t at-standing (omega (arith, s .deadlines)) ∙ rw (f, e)) refl
 
     pub stop-view : (f : ℕ) → viewOf (stopsBy c p f) ≡ applied M p (Stop f) (viewOf c)
     unfolding viewOf driverView
     stop-view f = change-is (Stop f) (stopsBy c p f) refl refl refl refl (stopped-is f) refl
 
-    module _ (k d v : ℕ) (kd : k < c .nd) (k64 : k < 64) (r : Scheduled) (to : ScheduledTo (getD (c .drivers) k noDriver) d v r) where
+    module _ (k d v : ℕ) (kd : k < c .ndrivers) (k64 : k < 64) (r : Scheduled) (to : ScheduledTo (getD (c .drivers) k noDriver) d v r) where
       full-is : r .full ≡ fullAfter (Schedule k d v) (c .time) (viewOf c .drivers)
       full-is = to .full (c .time) ∙ rw (pending-in c k kd)
 
@@ -172,7 +172,7 @@ module _ (M : Model) (c : Config) (p : ℕ) (h : p < c .np) where
       unfolding viewOf driverView processView
       schedule-view t i e f =
           change-is (Schedule k d v) (scheduledTo c p k (r .driver) t i) refl refl refl
-          (driver-set (c .time) (c .currents) (c .drivers) (c .nd) k (r .driver) (omega (arith, s .drivers)) ∙ rw driver-is)
+          (driver-set (c .time) (c .currents) (c .drivers) (c .ndrivers) k (r .driver) (omega (arith, s .drivers)) ∙ rw driver-is)
           (moved-is i (c .variables) ∙ rw (← full-is, f, e)) refl
 
       stays : r .full ≡ true → viewOf c .drivers ≡ set (viewOf c .drivers) k (driverAfter (c .time + d) v (driverIn (viewOf c .drivers) k))

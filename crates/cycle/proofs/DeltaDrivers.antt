@@ -14,11 +14,11 @@ use Rattle.model.specs.Records.{Model}
 use Rattle.cycle.specs.Configuration.{Transaction, DriverState}
 use Rattle.cycle.specs.Steps.{dueIn, takenIn, taken}
 use Rattle.cycle.specs.Invariant.{lastTime}
-use Rattle.cycle.specs.View.{never, pendingOf, noDriver, firstTime, viewOf, Fine}
+use Rattle.cycle.specs.View.{never, pendingOf, noDriver, firstTime, viewOf, Valid}
 use Rattle.cycle.specs.declared.config.Config.{Config}
 use Rattle.cycle.specs.declared.driver.Driver.{Driver}
 use Rattle.cycle.proofs.Drivers.{pending-length, pending-first, first-none, first-some}
-use Rattle.cycle.proofs.ViewLaws.{pending-in, nd-is}
+use Rattle.cycle.proofs.ViewLaws.{pending-in, ndrivers-is}
 
 -- what the arrays hold of one driver
 pub record Slot : Type 0 where
@@ -76,10 +76,10 @@ withDrivers c currents due drivers =
     record {
       time = c .time;
       deltas = c .deltas;
-      ns = c .ns;
-      nv = c .nv;
-      nd = c .nd;
-      np = c .np;
+      nsignals = c .nsignals;
+      nvariables = c .nvariables;
+      ndrivers = c .ndrivers;
+      nprocesses = c .nprocesses;
       signals = c .signals;
       currents = currents;
       due = due;
@@ -161,16 +161,16 @@ module _ (c : Config) where
 pub deltas-kept : (c : Config) (k : ℕ) (r : Config) → Taking c k r → r .deltas ≡ c .deltas
 deltas-kept c k r t = ap (λ (x : Config). x .deltas) (t .rest)
 
--- the next driver of a fine configuration
-module _ (M : Model) (c : Config) (f : Fine M c) where
+-- the next driver of a valid configuration
+module _ (M : Model) (c : Config) (f : Valid M c) where
   pub time-most : c .time ≤ lastTime
   unfolding viewOf
   time-most = f .reachable .time
 
-  module _ (k : ℕ) (h : k < c .nd) where
+  module _ (k : ℕ) (h : k < c .ndrivers) where
     pub few-pending : getD (c .drivers) k noDriver .count ≤ 8
     few-pending =
-        let l : k < length (M .drivers) = omega (arith, nd-is M c (f .reachable)) in
+        let l : k < length (M .drivers) = omega (arith, ndrivers-is M c (f .reachable)) in
         let e : length (pendingOf (c .time) (getD (c .drivers) k noDriver)) ≤ 8 = rw (pending-in c k h) at (f .reachable .each-driver k l .few) in
         omega (arith, pending-length (c .time) (getD (c .drivers) k noDriver))
 

@@ -21,9 +21,9 @@ use Rattle.cycle.specs.Configuration.{ProcessState, ready, waiting}
 use Rattle.cycle.specs.Evaluation.{Environment, evalOf}
 use Rattle.cycle.specs.Statements.{nextPlace, stops}
 use Rattle.cycle.specs.Steps.{inSet, deadlineAt, deadlineDue, wakes, wokenBy}
-use Rattle.cycle.specs.Invariant.{lastTime, ProcessFine}
+use Rattle.cycle.specs.Invariant.{lastTime, ProcessValid}
 use Rattle.cycle.specs.View.{never, deadlineOf}
-use Rattle.cycle.specs.Delta.{stateOf, entryOf, wokenFor, wokenIn, afterDelta, ProcessesFine, WokenTo}
+use Rattle.cycle.specs.Delta.{stateOf, entryOf, wokenFor, wokenIn, afterDelta, ProcessesValid, WokenTo}
 use Rattle.cycle.specs.declared.delta.Process.{Process}
 use Rattle.cycle.specs.declared.delta.Processes.{Processes}
 use Rattle.cycle.proofs.Effects.{own-statement}
@@ -61,7 +61,7 @@ module _ (M : Model) (p : ℕ) (e : Environment) (b : ℕ) (q : ProcessState) wh
   for-value v r h n is = rw (ne-eqb b absent h, ← n) is
 
 -- a process that waits is at a wait of its own
-module _ (M : Model) (fs : Facts M) (p t : ℕ) (h : p < length (M .processes)) (q : Process) (f : ProcessFine M p t (stateOf q)) where
+module _ (M : Model) (fs : Facts M) (p t : ℕ) (h : p < length (M .processes)) (q : Process) (f : ProcessValid M p t (stateOf q)) where
   pub at-place : Spans M p (q .place)
   at-place = record { from = f .from; below = f .within }
 
@@ -183,8 +183,8 @@ module _ (M : Model) (t changed : ℕ) (e : Environment) (ps : Processes) where
   waking-none l = record { long = l; done = record { at = λ i h. absurd (omega arith); left = λ i h. refl } }
 
   -- the next process is one as it was
-  pub waking-fine : (p n : ℕ) (r : Processes) → p < n → ProcessesFine M t n ps → Waking M t changed e ps p r → ProcessFine M p t (stateOf (entryOf r p))
-  waking-fine p n r h f w = subst (λ (x : Process). ProcessFine M p t (stateOf x)) (sym (w .done .left p (omega arith))) (f .at p h)
+  pub waking-valid : (p n : ℕ) (r : Processes) → p < n → ProcessesValid M t n ps → Waking M t changed e ps p r → ProcessValid M p t (stateOf (entryOf r p))
+  waking-valid p n r h f w = subst (λ (x : Process). ProcessValid M p t (stateOf x)) (sym (w .done .left p (omega arith))) (f .at p h)
 
   pub waking-more : (p : ℕ) (r : Processes) (q : Process) → p < 16 → stateOf q ≡ afterDelta M p t changed e (stateOf (entryOf r p)) → Waking M t changed e ps p r → Waking M t changed e ps (p + 1) (withEntry r p q)
   waking-more p r q h is w =

@@ -44,8 +44,8 @@ pub signal-below : (M : Model) → Facts M → (k : ℕ) (d : DriverRecord) → 
 signal-below M fs k d h e = rw e (omega (arith, fs .driver k h .signal, fs .totals .signals))
 
 -- one signal after the other
-module _ (M : Model) (currents : List ℕ) (nd active : ℕ) (old : List ℕ) where
-  pub resolved-none : ResolvedTo M currents nd active old 0 old 0
+module _ (M : Model) (currents : List ℕ) (ndrivers active : ℕ) (old : List ℕ) where
+  pub resolved-none : ResolvedTo M currents ndrivers active old 0 old 0
   resolved-none =
       record {
         current = below-none _;
@@ -53,13 +53,13 @@ module _ (M : Model) (currents : List ℕ) (nd active : ℕ) (old : List ℕ) wh
         changed = record { at = λ s h. in-none s ∙ rw (eq-eqb (getD old (32 * s) 0) (getD old (32 * s) 0) refl) };
       }
 
-  module _ (j : ℕ) (new : List ℕ) (changes : ℕ) (r : ResolvedTo M currents nd active old j new changes) where
+  module _ (j : ℕ) (new : List ℕ) (changes : ℕ) (r : ResolvedTo M currents ndrivers active old j new changes) where
     -- signal j has its old value before its turn
     before-turn : getD new (32 * j) 0 ≡ getD old (32 * j) 0
     before-turn = simp add-zero at (r .other j 0 (omega arith) (λ e. omega arith))
 
     -- it is not active
-    pub resolved-same : inSet active j ≡ false → ResolvedTo M currents nd active old (j + 1) new changes
+    pub resolved-same : inSet active j ≡ false → ResolvedTo M currents ndrivers active old (j + 1) new changes
     unfolding currentAfter
     resolved-same e =
         record {
@@ -70,7 +70,7 @@ module _ (M : Model) (currents : List ℕ) (nd active : ℕ) (old : List ℕ) wh
 
     -- it is active, and v the resolution of its drivers' values, o being its old value
     module _ (o v changes' : ℕ) (a : inSet active j ≡ true) (l : 32 * j < length new) (e : o ≡ getD new (32 * j) 0)
-        (is : v ≡ resolvedOr o (drivingIn M currents j nd)) (w : SetOf (λ s. inSet changes s || (eqb j s && not (eqb o v))) changes')
+        (is : v ≡ resolvedOr o (drivingIn M currents j ndrivers)) (w : SetOf (λ s. inSet changes s || (eqb j s && not (eqb o v))) changes')
       where
         abbrev new' : List ℕ
         new' = set new (32 * j) v
@@ -81,7 +81,7 @@ module _ (M : Model) (currents : List ℕ) (nd active : ℕ) (old : List ℕ) wh
         elsewhere : (i : ℕ) → (i ≡ 32 * j → ⊥) → getD new' i 0 ≡ getD new i 0
         elsewhere i q = getD-set-other new (32 * j) i v 0 q
 
-        current' : (s : ℕ) → s < j + 1 → getD new' (32 * s) 0 ≡ currentAfter M currents nd active old s
+        current' : (s : ℕ) → s < j + 1 → getD new' (32 * s) 0 ≡ currentAfter M currents ndrivers active old s
         unfolding currentAfter
         current' = below-more _ _ (λ s h. elsewhere (32 * s) (λ p. omega arith) ∙ r .current s h) (rw (a, here, ← before-turn, ← e) is)
 
@@ -97,8 +97,8 @@ module _ (M : Model) (currents : List ℕ) (nd active : ℕ) (old : List ℕ) wh
               | no q ↦ rw (ne-eqb j s q, r .changed .at s h, elsewhere (32 * s) (λ p. q (omega arith)), or-false)
             ]
 
-        pub resolved-more : ResolvedTo M currents nd active old (j + 1) new' changes'
+        pub resolved-more : ResolvedTo M currents ndrivers active old (j + 1) new' changes'
         resolved-more = record { current = current'; other = other'; changed = record { at = changed' } }
 
-  pub resolved-all : (j n : ℕ) (new : List ℕ) (changes : ℕ) → j ≤ n → n ≤ j → ResolvedTo M currents nd active old j new changes → ResolvedTo M currents nd active old n new changes
+  pub resolved-all : (j n : ℕ) (new : List ℕ) (changes : ℕ) → j ≤ n → n ≤ j → ResolvedTo M currents ndrivers active old j new changes → ResolvedTo M currents ndrivers active old n new changes
   resolved-all j n new changes h g r = rw (le-antisymm h g) at r

@@ -11,7 +11,7 @@ use lib.ListN.{length, getD}
 use borrow.Author.Tests.{eqb-true, eqb-false, eq-eqb}
 use Rattle.base.specs.Below.{anyBelow, listBelow}
 use Rattle.base.proofs.Below.{map-at, any-same, list-first, list-same, list-length, list-at}
-use Rattle.base.proofs.Cases.{by-test, picks-same}
+use Rattle.base.proofs.Cases.{by-test, choices-same}
 use Rattle.model.specs.Records.{Model, statementAt}
 use Rattle.model.specs.Fields.{absent}
 use Rattle.model.specs.Facts.{Facts}
@@ -20,15 +20,15 @@ use Rattle.cycle.specs.Configuration.{DriverState, ProcessState, Configu
 use Rattle.cycle.specs.Evaluation.{Environment, environmentOf, evalOf}
 use Rattle.cycle.specs.Steps.{transactionDue, taken, active, withCurrent, signalAfter, signalsAfter, inSet, changedIn, wokenBy, wokenIf, wokenAt, processAfterDelta, deltaStep}
 use Rattle.cycle.specs.Orders.{advanceDone}
-use Rattle.cycle.specs.Invariant.{ProcessFine}
-use Rattle.cycle.specs.View.{pendingOf, noDriver, historyOf, driverView, processView, viewOf, arrays, Fine, outcomeOf, Answers}
+use Rattle.cycle.specs.Invariant.{ProcessValid}
+use Rattle.cycle.specs.View.{pendingOf, noDriver, historyOf, driverView, processView, viewOf, arrays, Valid, outcomeOf, Answers}
 use Rattle.cycle.specs.Arrays.{drivingIn}
-use Rattle.cycle.specs.Delta.{SetOf, activeIn, currentAfter, ResolvedTo, stateOf, entryOf, wokenFor, wokenIn, afterDelta, ProcessesFine, WokenTo}
+use Rattle.cycle.specs.Delta.{SetOf, activeIn, currentAfter, ResolvedTo, stateOf, entryOf, wokenFor, wokenIn, afterDelta, ProcessesValid, WokenTo}
 use Rattle.cycle.specs.declared.config.Config.{Config}
 use Rattle.cycle.specs.declared.driver.Driver.{Driver}
 use Rattle.cycle.specs.declared.orders.Answered.{Answered}
 use Rattle.cycle.specs.declared.delta.Processes.{Processes}
-use Rattle.cycle.proofs.ViewLaws.{history-at, history-in, driver-in, process-in, ns-is, nd-is, np-is, nv-is}
+use Rattle.cycle.proofs.ViewLaws.{history-at, history-in, driver-in, process-in, nsignals-is, ndrivers-is, nprocesses-is, nvariables-is}
 use Rattle.cycle.proofs.Advances.{few-signals}
 use Rattle.cycle.proofs.AdvanceReachable.{delta-reachable}
 use Rattle.cycle.proofs.ArraysAgree.{value-listed}
@@ -82,10 +82,10 @@ steppedTo r new ps =
     record {
       time = r .time;
       deltas = r .deltas + 1;
-      ns = r .ns;
-      nv = r .nv;
-      nd = r .nd;
-      np = r .np;
+      nsignals = r .nsignals;
+      nvariables = r .nvariables;
+      ndrivers = r .ndrivers;
+      nprocesses = r .nprocesses;
       signals = new;
       currents = r .currents;
       due = r .due;
@@ -103,23 +103,23 @@ answeredBy r = record { refusal = 0; byte = 1; picks = 0; value = 0; config = r 
 
 -- what the parts of the step say of r and of the new signals and processes
 pub record Parts (M : Model) (c : Config) (active : ℕ) (new : List ℕ) (changed : ℕ) (ps : Processes) (r : Config) : Type 0 where
-  pub resolved : ResolvedTo M (r .currents) (c .nd) active (r .signals) (c .ns) new changed
-  pub woken : WokenTo M (c .time) changed (arrays (r .variables) new) (c .np) (processesOf r) ps
+  pub resolved : ResolvedTo M (r .currents) (c .ndrivers) active (r .signals) (c .nsignals) new changed
+  pub woken : WokenTo M (c .time) changed (arrays (r .variables) new) (c .nprocesses) (processesOf r) ps
 
--- the processes of a fine configuration are fine, as the arrays hold them
-module _ (M : Model) (c : Config) (f : Fine M c) where
-  pub processes-fine : ProcessesFine M (c .time) (c .np) (processesOf c)
+-- the processes of a valid configuration are valid, as the arrays hold them
+module _ (M : Model) (c : Config) (f : Valid M c) where
+  pub processes-valid : ProcessesValid M (c .time) (c .nprocesses) (processesOf c)
   unfolding viewOf processView
-  processes-fine =
+  processes-valid =
       record {
         at = λ p h.
-            let l : p < length (M .processes) = omega (arith, np-is M c (f .reachable)) in
+            let l : p < length (M .processes) = omega (arith, nprocesses-is M c (f .reachable)) in
             rw (process-in c p h) at (f .reachable .each-process p l);
       }
 
-module _ (M : Model) (fs : Facts M) (c : Config) (f : Fine M c) (set : ℕ) (a : SetOf (activeIn M (c .due) (c .time) (c .nd)) set)
+module _ (M : Model) (fs : Facts M) (c : Config) (f : Valid M c) (set : ℕ) (a : SetOf (activeIn M (c .due) (c .time) (c .ndrivers)) set)
     (currents dues : List ℕ) (ds : List Driver) (new : List ℕ) (changed : ℕ) (ps : Processes)
-    (done : (j : ℕ) → j < c .nd → TakenSlot (c .time) (slotOf c j) (slotOf (withDrivers c currents dues ds) j))
+    (done : (j : ℕ) → j < c .ndrivers → TakenSlot (c .time) (slotOf c j) (slotOf (withDrivers c currents dues ds) j))
     (parts : Parts M c set new changed ps (withDrivers c currents dues ds))
   where
     abbrev v : Configuration
@@ -132,14 +132,14 @@ module _ (M : Model) (fs : Facts M) (c : Config) (f : Fine M c) (set : ℕ) (a :
     drivers-now = map (taken (c .time)) (viewOf c .drivers)
 
     -- the drivers
-    drivers-are : listBelow (driverView end) (c .nd) ≡ map (taken (c .time)) (listBelow (driverView c) (c .nd))
+    drivers-are : listBelow (driverView end) (c .ndrivers) ≡ map (taken (c .time)) (listBelow (driverView c) (c .ndrivers))
     unfolding driverView
-    drivers-are = list-same _ _ (c .nd) (λ j h. done j h .state) ∙ sym (map-below (taken (c .time)) (driverView c) (c .nd))
+    drivers-are = list-same _ _ (c .ndrivers) (λ j h. done j h .state) ∙ sym (map-below (taken (c .time)) (driverView c) (c .ndrivers))
 
-    current-is : (k : ℕ) → k < c .nd → getD currents k 0 ≡ driverIn drivers-now k .current
+    current-is : (k : ℕ) → k < c .ndrivers → getD currents k 0 ≡ driverIn drivers-now k .current
     unfolding driverView viewOf
     current-is k h =
-        let l : k < length (listBelow (driverView c) (c .nd)) = omega (arith, list-length (driverView c) (c .nd)) in
+        let l : k < length (listBelow (driverView c) (c .ndrivers)) = omega (arith, list-length (driverView c) (c .ndrivers)) in
         let e : driverIn drivers-now k ≡ taken (c .time) (heldBy (c .time) (slotOf c k)) = map-at (taken (c .time)) (viewOf c .drivers) k _ _ l ∙ ap (taken (c .time)) (driver-in c k h) in
         ap (λ (x : DriverState). x .current) (done k h .state ∙ sym e)
 
@@ -147,15 +147,15 @@ module _ (M : Model) (fs : Facts M) (c : Config) (f : Fine M c) (set : ℕ) (a :
     active-is : (s : ℕ) → s < 32 → active M (c .time) (v .drivers) s ≡ inSet set s
     unfolding active activeIn transactionDue driverView
     active-is s h =
-        rw (← nd-is M c (f .reachable))
-        (any-same _ _ (c .nd)
+        rw (← ndrivers-is M c (f .reachable))
+        (any-same _ _ (c .ndrivers)
         (λ k l. rw (driver-in c k l, first-due (c .time) (pendingOf (c .time) (getD (c .drivers) k noDriver)) (time-most M c f), ← f .due k l)))
         ∙ sym (a .at s h)
 
     past : (s k : ℕ) → k < 32 → (k ≡ 0 → ⊥) → getD new (32 * s + k) 0 ≡ getD (c .signals) (32 * s + k) 0
     past s k h n = parts .resolved .other s k h (λ e. absurd (n e))
 
-    history-is : (s : ℕ) → s < c .ns → historyOf new s ≡ signalAfter M v s
+    history-is : (s : ℕ) → s < c .nsignals → historyOf new s ≡ signalAfter M v s
     unfolding signalAfter currentAfter viewOf
     history-is s h =
         rw (active-is s (omega (arith, few-signals fs f)), history-in c s h)
@@ -163,21 +163,21 @@ module _ (M : Model) (fs : Facts M) (c : Config) (f : Fine M c) (set : ℕ) (a :
         (λ e. history-changed (c .signals) new s (past s) _ (parts .resolved .current s h ∙ rw (e, value)))
         (λ e. history-kept (c .signals) new s (past s) (parts .resolved .current s h ∙ rw e)))
       where
-        value : resolvedOr (getD (c .signals) (32 * s) 0) (drivingIn M currents s (c .nd)) ≡ resolvedOr (getD (historyOf (c .signals) s) 0 0) (drivingOf M drivers-now s)
-        value = rw (current-in (c .signals) s, driving-is M currents drivers-now (c .nd) s (nd-is M c (f .reachable)) current-is)
+        value : resolvedOr (getD (c .signals) (32 * s) 0) (drivingIn M currents s (c .ndrivers)) ≡ resolvedOr (getD (historyOf (c .signals) s) 0 0) (drivingOf M drivers-now s)
+        value = rw (current-in (c .signals) s, driving-is M currents drivers-now (c .ndrivers) s (ndrivers-is M c (f .reachable)) current-is)
 
-    signals-are : listBelow (historyOf new) (c .ns) ≡ signalsAfter M v
+    signals-are : listBelow (historyOf new) (c .nsignals) ≡ signalsAfter M v
     unfolding signalsAfter
-    signals-are = list-same _ _ (c .ns) history-is ∙ ap (listBelow (signalAfter M v)) (ns-is M c (f .reachable))
+    signals-are = list-same _ _ (c .nsignals) history-is ∙ ap (listBelow (signalAfter M v)) (nsignals-is M c (f .reachable))
 
     -- the changes of the signals
-    current-of : (l : List ℕ) (s : ℕ) → s < c .ns → currentOf (listBelow (historyOf l) (c .ns)) s ≡ getD l (32 * s) 0
-    current-of l s h = rw (list-at (historyOf l) [] (c .ns) s h) (current-in l s)
+    current-of : (l : List ℕ) (s : ℕ) → s < c .nsignals → currentOf (listBelow (historyOf l) (c .nsignals)) s ≡ getD l (32 * s) 0
+    current-of l s h = rw (list-at (historyOf l) [] (c .nsignals) s h) (current-in l s)
 
     abbrev differs : ℕ → Bool
     differs n = not (eqb (getD (c .signals) (32 * n) 0) (getD new (32 * n) 0))
 
-    differs-not : (n : ℕ) → c .ns ≤ n → differs n ≡ false
+    differs-not : (n : ℕ) → c .nsignals ≤ n → differs n ≡ false
     differs-not n h =
         let e : getD new (32 * n) 0 ≡ getD (c .signals) (32 * n) 0 = simp add-zero at (parts .resolved .other n 0 (omega arith) (λ q. h)) in
         rw (eq-eqb (getD (c .signals) (32 * n) 0) (getD new (32 * n) 0) (sym e))
@@ -186,15 +186,15 @@ module _ (M : Model) (fs : Facts M) (c : Config) (f : Fine M c) (set : ℕ) (a :
     unfolding changedIn viewOf
     changed-is bits =
         any-same _ (λ n. inSet bits n && differs n) 32 (λ n h. rw (parts .resolved .changed .at n h))
-        ∙ any-fewer _ (c .ns) 32 (few-signals fs f) (λ n h l. rw (differs-not n h) (and-false (inSet bits n)))
-        ∙ rw (← signals-are, ← ns-is M c (f .reachable)) (any-same _ _ (c .ns) (λ n h. rw (current-of (c .signals) n h, current-of new n h)))
+        ∙ any-fewer _ (c .nsignals) 32 (few-signals fs f) (λ n h l. rw (differs-not n h) (and-false (inSet bits n)))
+        ∙ rw (← signals-are, ← nsignals-is M c (f .reachable)) (any-same _ _ (c .nsignals) (λ n h. rw (current-of (c .signals) n h, current-of new n h)))
 
     -- the processes
     value-is : (n : ℕ) → n < length (M .nodes) → evalOf M (arrays (c .variables) new) n ≡ evalOf M (environmentOf (v .variables) (signalsAfter M v)) n
     unfolding viewOf
-    value-is n h = rw (← signals-are) (value-listed M fs (c .variables) new (c .nv) (c .ns) (nv-is M c (f .reachable)) (ns-is M c (f .reachable)) n h)
+    value-is n h = rw (← signals-are) (value-listed M fs (c .variables) new (c .nvariables) (c .nsignals) (nvariables-is M c (f .reachable)) (nsignals-is M c (f .reachable)) n h)
 
-    module _ (p : ℕ) (h : p < c .np) where
+    module _ (p : ℕ) (h : p < c .nprocesses) where
       abbrev q : ProcessState
       q = stateOf (entryOf (processesOf c) p)
 
@@ -205,16 +205,16 @@ module _ (M : Model) (fs : Facts M) (c : Config) (f : Fine M c) (set : ℕ) (a :
       now = environmentOf (v .variables) (signalsAfter M v)
 
       here : p < length (M .processes)
-      here = omega (arith, np-is M c (f .reachable))
+      here = omega (arith, nprocesses-is M c (f .reachable))
 
-      fine : ProcessFine M p (c .time) q
-      fine = processes-fine M c f .at p h
+      valid : ProcessValid M p (c .time) q
+      valid = processes-valid M c f .at p h
 
       condition-is : q .standing ≡ waiting → wokenFor M p (arrays (c .variables) new) (w .b) q ≡ wokenIf M p now w q
       unfolding wokenFor wokenIf
       condition-is e =
-          picks-same (eqb (w .b) absent) _ _ _ _ (λ z. refl)
-          (λ z. ap (wokenBy M p q) (value-is (w .b) (condition-there M fs p (c .time) here (entryOf (processesOf c) p) fine w refl e (eqb-false (w .b) absent z))))
+          choices-same (eqb (w .b) absent) _ _ _ _ (λ z. refl)
+          (λ z. ap (wokenBy M p q) (value-is (w .b) (condition-there M fs p (c .time) here (entryOf (processesOf c) p) valid w refl e (eqb-false (w .b) absent z))))
 
       waiting-is : q .standing ≡ waiting → wokenIn M p (c .time) changed (arrays (c .variables) new) w q ≡ wokenAt M p v (signalsAfter M v) w q
       unfolding wokenIn wokenAt viewOf
@@ -225,11 +225,11 @@ module _ (M : Model) (fs : Facts M) (c : Config) (f : Fine M c) (set : ℕ) (a :
       process-is =
           parts .woken .at p h
           ∙ rw (process-in c p h)
-          (picks-same (eqb (q .standing) waiting) _ _ _ _ (λ z. waiting-is (eqb-true (q .standing) waiting z)) (λ z. refl))
+          (choices-same (eqb (q .standing) waiting) _ _ _ _ (λ z. waiting-is (eqb-true (q .standing) waiting z)) (λ z. refl))
 
-    processes-are : listBelow (processView end) (c .np) ≡ listBelow (processAfterDelta M v (signalsAfter M v)) (length (M .processes))
+    processes-are : listBelow (processView end) (c .nprocesses) ≡ listBelow (processAfterDelta M v (signalsAfter M v)) (length (M .processes))
     unfolding processView
-    processes-are = list-same _ _ (c .np) process-is ∙ ap (listBelow (processAfterDelta M v (signalsAfter M v))) (np-is M c (f .reachable))
+    processes-are = list-same _ _ (c .nprocesses) process-is ∙ ap (listBelow (processAfterDelta M v (signalsAfter M v))) (nprocesses-is M c (f .reachable))
 
     -- the whole
     view-is : viewOf end ≡ deltaStep M v
@@ -241,12 +241,12 @@ module _ (M : Model) (fs : Facts M) (c : Config) (f : Fine M c) (set : ℕ) (a :
     stepped-answers d =
         record {
           is = ap (advanceDone 1) view-is;
-          fine = record { reachable = rw view-is (delta-reachable M fs v (f .reachable) d); due = λ k h. done k h .due };
+          valid = record { reachable = rw view-is (delta-reachable M fs v (f .reachable) d); due = λ k h. done k h .due };
         }
 
-module _ (M : Model) (fs : Facts M) (c : Config) (f : Fine M c) (set : ℕ) (a : SetOf (activeIn M (c .due) (c .time) (c .nd)) set) where
+module _ (M : Model) (fs : Facts M) (c : Config) (f : Valid M c) (set : ℕ) (a : SetOf (activeIn M (c .due) (c .time) (c .ndrivers)) set) where
   -- the step, from what each of its parts says
-  pub delta-answers : (k : ℕ) (r : Config) (new : List ℕ) (changed : ℕ) (ps : Processes) → c .nd ≤ k → Taking c k r → Parts M c set new changed ps r → c .deltas < 1000 → Answers M (answeredBy (steppedTo r new ps)) (advanceDone 1 (deltaStep M (viewOf c)))
+  pub delta-answers : (k : ℕ) (r : Config) (new : List ℕ) (changed : ℕ) (ps : Processes) → c .ndrivers ≤ k → Taking c k r → Parts M c set new changed ps r → c .deltas < 1000 → Answers M (answeredBy (steppedTo r new ps)) (advanceDone 1 (deltaStep M (viewOf c)))
   delta-answers k r new changed ps h t parts d =
       subst
       (λ (x : Config). Parts M c set new changed ps x → Answers M (answeredBy (steppedTo x new ps)) (advanceDone 1 (deltaStep M (viewOf c))))
@@ -255,5 +255,5 @@ module _ (M : Model) (fs : Facts M) (c : Config) (f : Fine M c) (set : ℕ) (a :
       parts
 
   -- what the loop over the drivers keeps of the processes
-  pub processes-kept : (k : ℕ) (r : Config) → Taking c k r → ProcessesFine M (c .time) (c .np) (processesOf r)
-  processes-kept k r t = subst (λ (x : Config). ProcessesFine M (c .time) (c .np) (processesOf x)) (sym (t .rest)) (processes-fine M c f)
+  pub processes-kept : (k : ℕ) (r : Config) → Taking c k r → ProcessesValid M (c .time) (c .nprocesses) (processesOf r)
+  processes-kept k r t = subst (λ (x : Config). ProcessesValid M (c .time) (c .nprocesses) (processesOf x)) (sym (t .rest)) (processes-valid M c f)

@@ -13,7 +13,7 @@ use lib.Dec.{ltb}
 use lib.ListN.{length, getD, drop, set, length-set, length-drop, drop-of-length-le, List·getD-append}
 use lib.Seq.{drop-cons, getD-drop, getD-set-same, getD-set-other}
 use borrow.Author.Tests.{lt-ltb, le-ltb}
-use Rattle.base.specs.Cases.{pick}
+use Rattle.base.specs.Cases.{_∣_, _⇒_}
 use Rattle.base.specs.Below.{listBelow}
 use Rattle.base.proofs.Below.{list-none, list-more, list-first, list-length, list-at, list-same}
 use Rattle.cycle.specs.Configuration.{Transaction}
@@ -48,7 +48,7 @@ module _ (at : ℕ) where
   unfolding before
   before-append [] u = refl
   before-append (x ∷ w) u =
-      elim (ltb (x .time) at) as (λ b. pick b (x ∷ before at (w ++ u)) (before at (w ++ u)) ≡ pick b (x ∷ before at w) (before at w) ++ before at u) [
+      elim (ltb (x .time) at) as (λ b. (b ⇒ (x ∷ before at (w ++ u)) ∣ before at (w ++ u)) ≡ (b ⇒ (x ∷ before at w) ∣ before at w) ++ before at u) [
         | true ↦ rw (before-append w u)
         | false ↦ before-append w u
       ]

@@ -14,7 +14,7 @@ use Rattle.model.specs.Records.{Model}
 use Rattle.cycle.specs.Configuration.{Transaction, Configuration, driverIn, processIn}
 use Rattle.cycle.specs.Steps.{dueIn, transactionDue, deadlineAt, deadlineDue}
 use Rattle.cycle.specs.Orders.{timesIn, optional, earliest, dueTimes, dueNow}
-use Rattle.cycle.specs.Invariant.{lastDue, Rising, DeadlineFine, Reachable}
+use Rattle.cycle.specs.Invariant.{lastDue, Rising, DeadlineValid, Reachable}
 use Rattle.cycle.proofs.Lists.{All}
 use Rattle.cycle.proofs.Earliest.{earliest-is, due-each}
 
@@ -26,7 +26,7 @@ transaction-within : (t : ℕ) (w : List Transaction) → Rising t w → All (Wi
 transaction-within t [] r = tt
 transaction-within t (x ∷ w) r = (record { from = r .0; most = r .1 }, tt)
 
-deadline-within : (t : ℕ) (o : Option ℕ) → DeadlineFine t o → All (Within t) (optional o)
+deadline-within : (t : ℕ) (o : Option ℕ) → DeadlineValid t o → All (Within t) (optional o)
 deadline-within t none d = tt
 deadline-within t (some u) d = (record { from = d .0; most = d .1 }, tt)
 
@@ -34,7 +34,7 @@ transaction-after : (t : ℕ) (w : List Transaction) → dueIn t w ≡ false →
 transaction-after t [] n r = tt
 transaction-after t (x ∷ w) n r = (omega (arith, r .0, eqb-false (x .time) t n), tt)
 
-deadline-after : (t : ℕ) (o : Option ℕ) → deadlineAt t o ≡ false → DeadlineFine t o → All (λ u. t < u) (optional o)
+deadline-after : (t : ℕ) (o : Option ℕ) → deadlineAt t o ≡ false → DeadlineValid t o → All (λ u. t < u) (optional o)
 deadline-after t none n d = tt
 deadline-after t (some u) n d = (omega (arith, d .0, eqb-false u t n), tt)
 

@@ -8,7 +8,7 @@ use lib.ListN.{length}
 use lib.IntN.{pos, natAbs}
 use lib.Signed.{ltZ}
 use borrow.Author.Tests.{eqb-false}
-use Rattle.base.specs.Cases.{pick}
+use Rattle.base.specs.Cases.{_∣_, _⇒_}
 use Rattle.base.proofs.Below.{_and_, among}
 use Rattle.base.proofs.Cases.{by-test}
 use Rattle.model.specs.Records.{Model, signalAt, statementAt}
@@ -57,7 +57,7 @@ module _ (M : Model) (fs : Facts M) (p : ℕ) where
           let r = fs .drives p (s .a) (g .driver) in
           record { driver = g .driver; own = r .process; delay = l; value = rw (r .signal) h }
 
-      waits : Facts.Wait M p s → EffectFits M p 5 (pick (eqb (s .c) absent) Wait (withDelay (evalOf M e (s .c)) WaitFor))
+      waits : Facts.Wait M p s → EffectFits M p 5 (eqb (s .c) absent ⇒ Wait ∣ withDelay (evalOf M e (s .c)) WaitFor)
       waits g =
           by-test (EffectFits M p 5) (eqb (s .c) absent) _ _ (λ t. refl)
           (λ t. delay (EffectFits M p 5) (s .c) WaitFor (g .delay (eqb-false (s .c) absent t)) (omega arith) (omega arith) (λ d l. (refl, l)))

@@ -11,13 +11,13 @@ use Rattle.model.specs.Records.{Model}
 use Rattle.model.specs.Facts.{Facts}
 use Rattle.cycle.specs.Configuration.{DriverState, driverIn, processIn, firstDrivers, firstSignal, first, empty}
 use Rattle.cycle.specs.View.{never, pendingOf, noDriver, firstTime, historyOf, driverView, processView, viewOf}
-use Rattle.cycle.specs.Arrays.{Has, variableStart, processFirst, driverStart, firstValue, valueAt, FirstOf}
+use Rattle.cycle.specs.Arrays.{EntriesAre, variableStart, processFirst, driverStart, firstValue, valueAt, FirstOf}
 use Rattle.cycle.specs.declared.driver.Driver.{Driver}
 use Rattle.cycle.specs.declared.config.Config.{Config}
 use Rattle.cycle.proofs.Resolving.{driving-is}
 use Rattle.cycle.proofs.FirstReachable.{first-reachable, driver-at, process-at, variable-at}
 
-pub view-empty : (c : Config) → c .time ≡ 0 → c .deltas ≡ 0 → c .ns ≡ 0 → c .nv ≡ 0 → c .nd ≡ 0 → c .np ≡ 0 → viewOf c ≡ empty
+pub view-empty : (c : Config) → c .time ≡ 0 → c .deltas ≡ 0 → c .nsignals ≡ 0 → c .nvariables ≡ 0 → c .ndrivers ≡ 0 → c .nprocesses ≡ 0 → viewOf c ≡ empty
 unfolding viewOf listBelow
 view-empty c t d s v k p = rw (t, d, s, v, k, p)
 
@@ -25,15 +25,15 @@ view-empty c t d s v k p = rw (t, d, s, v, k, p)
 pub record Begins (M : Model) (c : Config) (d : Driver) (vs : List ℕ) : Type 0 where
   pub time : c .time ≡ 0
   pub deltas : c .deltas ≡ 0
-  pub ns : c .ns ≡ length (M .signals)
-  pub nv : c .nv ≡ length (M .variables)
-  pub nd : c .nd ≡ length (M .drivers)
-  pub np : c .np ≡ length (M .processes)
-  pub variables : Has (variableStart M) (c .nv) (c .variables)
-  pub places : Has (processFirst M) (c .np) (c .places)
-  pub currents : Has (driverStart M) (c .nd) (c .currents)
-  pub values : Has (firstValue M (c .currents) (c .nd)) (c .ns) vs
-  pub signals : Has (valueAt vs) (32 * c .ns) (c .signals)
+  pub nsignals : c .nsignals ≡ length (M .signals)
+  pub nvariables : c .nvariables ≡ length (M .variables)
+  pub ndrivers : c .ndrivers ≡ length (M .drivers)
+  pub nprocesses : c .nprocesses ≡ length (M .processes)
+  pub variables : EntriesAre (variableStart M) (c .nvariables) (c .variables)
+  pub places : EntriesAre (processFirst M) (c .nprocesses) (c .places)
+  pub currents : EntriesAre (driverStart M) (c .ndrivers) (c .currents)
+  pub values : EntriesAre (firstValue M (c .currents) (c .ndrivers)) (c .nsignals) vs
+  pub signals : EntriesAre (valueAt vs) (32 * c .nsignals) (c .signals)
   pub none : (t : ℕ) → pendingOf t d ≡ []
   pub drivers : c .drivers ≡ replicate 64 d
   pub due : c .due ≡ replicate 64 never
@@ -42,18 +42,18 @@ pub record Begins (M : Model) (c : Config) (d : Driver) (vs : List ℕ) : Type 0
   pub faults : c .faults ≡ replicate 16 0
 
 module _ (M : Model) (fs : Facts M) (c : Config) (d : Driver) (vs : List ℕ) (b : Begins M c d vs) where
-  variables-are : listBelow (λ a. getD (c .variables) a 0) (c .nv) ≡ first M .variables
+  variables-are : listBelow (λ a. getD (c .variables) a 0) (c .nvariables) ≡ first M .variables
   unfolding first
   variables-are =
-      list-is _ _ 0 (c .nv) (length-map (M .variables) _ ∙ sym (b .nv))
-      (λ a h. b .variables .at a h ∙ sym (variable-at M fs a (omega (arith, b .nv))))
+      list-is _ _ 0 (c .nvariables) (length-map (M .variables) _ ∙ sym (b .nvariables))
+      (λ a h. b .variables .at a h ∙ sym (variable-at M fs a (omega (arith, b .nvariables))))
 
-  processes-are : listBelow (processView c) (c .np) ≡ first M .processes
+  processes-are : listBelow (processView c) (c .nprocesses) ≡ first M .processes
   unfolding first processView
   processes-are =
-      list-is (processView c) _ (processIn [] 0) (c .np) (length-map (M .processes) _ ∙ sym (b .np))
+      list-is (processView c) _ (processIn [] 0) (c .nprocesses) (length-map (M .processes) _ ∙ sym (b .nprocesses))
       (λ p h.
-      let l : p < 16 = omega (arith, b .np, fs .totals .processes) in
+      let l : p < 16 = omega (arith, b .nprocesses, fs .totals .processes) in
       rw (
         b .standings,
         b .deadlines,
@@ -61,46 +61,46 @@ module _ (M : Model) (fs : Facts M) (c : Config) (d : Driver) (vs : List ℕ) (b
         getD-replicate {A = ℕ} 16 p 0 0 l,
         getD-replicate 16 p never 0 l,
         b .places .at p h,
-        process-at M fs p (omega (arith, b .np)),
+        process-at M fs p (omega (arith, b .nprocesses)),
       ))
 
-  driver-is : (k : ℕ) → k < c .nd → driverView c k ≡ driverIn (firstDrivers M) k
+  driver-is : (k : ℕ) → k < c .ndrivers → driverView c k ≡ driverIn (firstDrivers M) k
   unfolding driverView
   driver-is k h =
-      let l : k < 64 = omega (arith, b .nd, fs .totals .drivers) in
-      rw (b .drivers, getD-replicate 64 k d noDriver l, b .none (c .time), b .currents .at k h, driver-at M fs k (omega (arith, b .nd)))
+      let l : k < 64 = omega (arith, b .ndrivers, fs .totals .drivers) in
+      rw (b .drivers, getD-replicate 64 k d noDriver l, b .none (c .time), b .currents .at k h, driver-at M fs k (omega (arith, b .ndrivers)))
 
-  drivers-are : listBelow (driverView c) (c .nd) ≡ firstDrivers M
+  drivers-are : listBelow (driverView c) (c .ndrivers) ≡ firstDrivers M
   unfolding firstDrivers
-  drivers-are = list-is (driverView c) _ (driverIn [] 0) (c .nd) (length-map (M .drivers) _ ∙ sym (b .nd)) driver-is
+  drivers-are = list-is (driverView c) _ (driverIn [] 0) (c .ndrivers) (length-map (M .drivers) _ ∙ sym (b .ndrivers)) driver-is
 
-  value-is : (s : ℕ) → firstValue M (c .currents) (c .nd) s ≡ firstSignal M s
+  value-is : (s : ℕ) → firstValue M (c .currents) (c .ndrivers) s ≡ firstSignal M s
   unfolding firstSignal
-  value-is s = rw (driving-is M (c .currents) (firstDrivers M) (c .nd) s (b .nd) (λ k h. b .currents .at k h ∙ ap (λ (d : DriverState). d .current) (sym (driver-at M fs k (omega (arith, b .nd))))))
+  value-is s = rw (driving-is M (c .currents) (firstDrivers M) (c .ndrivers) s (b .ndrivers) (λ k h. b .currents .at k h ∙ ap (λ (d : DriverState). d .current) (sym (driver-at M fs k (omega (arith, b .ndrivers))))))
 
-  entry-is : (s k : ℕ) → s < c .ns → k < 32 → getD (c .signals) (32 * s + k) 0 ≡ firstSignal M s
+  entry-is : (s k : ℕ) → s < c .nsignals → k < 32 → getD (c .signals) (32 * s + k) 0 ≡ firstSignal M s
   entry-is s k h l =
       let e : (32 * s + k) / 32 ≡ s = omega arith in
       b .signals .at (32 * s + k) (omega arith) ∙ ap (λ (i : ℕ). getD vs i 0) e ∙ b .values .at s h ∙ value-is s
 
-  history-is : (s : ℕ) → s < c .ns → historyOf (c .signals) s ≡ replicate 32 (firstSignal M s)
+  history-is : (s : ℕ) → s < c .nsignals → historyOf (c .signals) s ≡ replicate 32 (firstSignal M s)
   unfolding historyOf
   history-is s h =
       list-is _ _ 0 32 (length-replicate 32 (firstSignal M s))
       (λ k l. entry-is s k h l ∙ sym (getD-replicate 32 k (firstSignal M s) 0 l))
 
-  signals-are : listBelow (historyOf (c .signals)) (c .ns) ≡ first M .signals
+  signals-are : listBelow (historyOf (c .signals)) (c .nsignals) ≡ first M .signals
   unfolding first
-  signals-are = rw (← b .ns) (list-same _ _ (c .ns) history-is)
+  signals-are = rw (← b .nsignals) (list-same _ _ (c .nsignals) history-is)
 
   view-first : viewOf c ≡ first M
   unfolding viewOf first
   view-first = rw (signals-are, drivers-are, processes-are, variables-are, b .time, b .deltas)
 
-  due-is : (k : ℕ) → k < c .nd → getD (c .due) k 0 ≡ firstTime (pendingOf (c .time) (getD (c .drivers) k noDriver))
+  due-is : (k : ℕ) → k < c .ndrivers → getD (c .due) k 0 ≡ firstTime (pendingOf (c .time) (getD (c .drivers) k noDriver))
   due-is k h =
-      let l : k < 64 = omega (arith, b .nd, fs .totals .drivers) in
+      let l : k < 64 = omega (arith, b .ndrivers, fs .totals .drivers) in
       rw (b .due, b .drivers, getD-replicate 64 k never 0 l, getD-replicate 64 k d noDriver l, b .none (c .time))
 
   pub begins-first : FirstOf M c
-  begins-first = record { is = view-first; fine = record { reachable = rw view-first (first-reachable M fs); due = due-is } }
+  begins-first = record { is = view-first; valid = record { reachable = rw view-first (first-reachable M fs); due = due-is } }

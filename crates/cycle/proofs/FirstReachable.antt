@@ -10,7 +10,7 @@ use Rattle.base.proofs.Below.{map-at, list-length, list-at}
 use Rattle.model.specs.Records.{Model, signalAt, variableAt, driverAt, processAt}
 use Rattle.model.specs.Facts.{Facts}
 use Rattle.cycle.specs.Configuration.{driverIn, processIn, pastOf, firstDrivers, firstSignal, first, ready}
-use Rattle.cycle.specs.Invariant.{ValueOf, DriverFine, ProcessFine, Reachable}
+use Rattle.cycle.specs.Invariant.{ValueOf, DriverValid, ProcessValid, Reachable}
 use Rattle.cycle.proofs.Driving.{resolved-typed}
 
 module _ (M : Model) (fs : Facts M) where
@@ -19,15 +19,15 @@ module _ (M : Model) (fs : Facts M) where
   unfolding firstDrivers
   driver-at k h = map-at _ (M .drivers) k _ _ h
 
-  driver-fine : (k : ℕ) → k < length (M .drivers) → DriverFine (signalAt M (driverAt M k .signal) .ty) 0 (driverIn (firstDrivers M) k)
-  driver-fine k h =
+  driver-valid : (k : ℕ) → k < length (M .drivers) → DriverValid (signalAt M (driverAt M k .signal) .ty) 0 (driverIn (firstDrivers M) k)
+  driver-valid k h =
       rw (driver-at k h)
       (record { current = fs .signal (driverAt M k .signal) (fs .driver k h .signal) .start; few = lit≤ tt; rising = tt; values = tt })
 
   pub first-typed : (s : ℕ) → s < length (M .signals) → ValueOf (signalAt M s .ty) (firstSignal M s)
   unfolding firstSignal
   first-typed s h =
-      resolved-typed M fs (firstDrivers M) s (signalAt M s .start) h (λ k l e. rw e at (driver-fine k l .current)) (fs .signal s h .start)
+      resolved-typed M fs (firstDrivers M) s (signalAt M s .start) h (λ k l e. rw e at (driver-valid k l .current)) (fs .signal s h .start)
 
   signal-at : (s : ℕ) → s < length (M .signals) → getD (first M .signals) s [] ≡ replicate 32 (firstSignal M s)
   unfolding first
@@ -40,8 +40,8 @@ module _ (M : Model) (fs : Facts M) where
   unfolding first
   process-at p h = map-at _ (M .processes) p _ _ h
 
-  process-fine : (p : ℕ) → p < length (M .processes) → ProcessFine M p 0 (processIn (first M .processes) p)
-  process-fine p h =
+  process-valid : (p : ℕ) → p < length (M .processes) → ProcessValid M p 0 (processIn (first M .processes) p)
+  process-valid p h =
       let s = fs .process p h .first in
       rw (process-at p h)
       (record {
@@ -71,9 +71,9 @@ module _ (M : Model) (fs : Facts M) where
         histories = λ s h. rw (signal-at s h) (length-replicate 32 (firstSignal M s));
         signal-values = past-typed;
         drivers = length-map (M .drivers) _;
-        each-driver = driver-fine;
+        each-driver = driver-valid;
         processes = length-map (M .processes) _;
-        each-process = process-fine;
+        each-process = process-valid;
         variables = length-map (M .variables) _;
         variable-values = variable-typed;
       }

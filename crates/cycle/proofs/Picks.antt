@@ -11,7 +11,7 @@ use native.Mathlib.Omega.{arith}
 use lib.Dec.{eqb}
 use lib.ListN.{length, getD}
 use lib.Seq.{getD-set-other, set-comm}
-use Rattle.base.specs.Cases.{pick}
+use Rattle.base.specs.Cases.{_∣_, _⇒_}
 use Rattle.base.proofs.Below.{_and_, among}
 use Rattle.model.specs.Records.{Model, variableAt, driverAt, statementAt}
 use Rattle.model.specs.Fields.{absent}
@@ -146,7 +146,7 @@ module _ (M : Model) (p : ℕ) (e e' : Environment) (same : SameReads M p e e') 
   value-same {n = n} x = same n (x .node) (x .own)
 
   abbrev waitBy : Environment → Effect
-  waitBy e = pick (eqb (s .c) absent) Wait (withDelay (evalOf M e (s .c)) WaitFor)
+  waitBy e = eqb (s .c) absent ⇒ Wait ∣ withDelay (evalOf M e (s .c)) WaitFor
 
   wait-same : s .kind ≡ 5 → waitBy e ≡ waitBy e'
   wait-same k = elim (ℕ-discrete (s .c) absent) [ yes h ↦ rw h | no h ↦ rw (value-same (f .wait k .delay h)) ]

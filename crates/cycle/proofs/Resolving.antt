@@ -6,7 +6,7 @@ use Prim.Native.Nat.{ℕ, _+_, _≤_, _<_}
 use native.Mathlib.Nat.{le-antisymm}
 use lib.Dec.{eqb}
 use lib.ListN.{length, getD}
-use Rattle.base.specs.Cases.{pick}
+use Rattle.base.specs.Cases.{_∣_, _⇒_}
 use Rattle.base.proofs.Below.{join-none, join-more, join-same}
 use Rattle.values.specs.Resolve.{pairOf, resolutionBy, resolutionOf}
 use Rattle.model.specs.Records.{Model, driverAt}
@@ -24,7 +24,7 @@ some [] = false
 some (v ∷ vs) = true
 
 -- one value more
-resolved-more : (other : ℕ) (vs : List ℕ) (x : ℕ) → resolvedOr other (vs ++ (x ∷ [])) ≡ pick (some vs) (pairOf (resolvedOr other vs) x) x
+resolved-more : (other : ℕ) (vs : List ℕ) (x : ℕ) → resolvedOr other (vs ++ (x ∷ [])) ≡ (some vs ⇒ pairOf (resolvedOr other vs) x ∣ x)
 unfolding resolutionOf resolutionBy
 resolved-more other [] x = refl
 resolved-more other (v ∷ vs) x = foldl-append pairOf v vs (x ∷ [])
@@ -44,11 +44,11 @@ module _ (M : Model) (cs : List ℕ) (s other : ℕ) where
   resolving-none = record { value = rw join-none; found = rw join-none }
 
   -- x is the current value of driver k, which drives s or not
-  with : (k : ℕ) (b : Bool) → eqb (driverAt M k .signal) s ≡ b → drivingIn M cs s (k + 1) ≡ drivingIn M cs s k ++ pick b (getD cs k 0 ∷ []) []
+  with : (k : ℕ) (b : Bool) → eqb (driverAt M k .signal) s ≡ b → drivingIn M cs s (k + 1) ≡ drivingIn M cs s k ++ (b ⇒ (getD cs k 0 ∷ []) ∣ [])
   unfolding drivingIn
   with k b e = rw (join-more, e)
 
-  turn : (k : ℕ) (found : Bool) (v : ℕ) (b : Bool) → eqb (driverAt M k .signal) s ≡ b → Resolving M cs s other k found v → Resolving M cs s other (k + 1) (found || b) (pick b (pick found (pairOf v (getD cs k 0)) (getD cs k 0)) v)
+  turn : (k : ℕ) (found : Bool) (v : ℕ) (b : Bool) → eqb (driverAt M k .signal) s ≡ b → Resolving M cs s other k found v → Resolving M cs s other (k + 1) (found || b) (b ⇒ (found ⇒ pairOf v (getD cs k 0) ∣ getD cs k 0) ∣ v)
   turn k found v true e r =
       record {
         value = rw (with k true e, resolved-more, r .found, r .value);
@@ -60,7 +60,7 @@ module _ (M : Model) (cs : List ℕ) (s other : ℕ) where
         found = rw (with k false e, append-nil, or-false) (r .found);
       }
 
-  pub resolving-more : (k d : ℕ) (found : Bool) (v r : ℕ) → d ≡ driverAt M k .signal → r ≡ pick (eqb d s) (pick found (pairOf v (getD cs k 0)) (getD cs k 0)) v → Resolving M cs s other k found v → Resolving M cs s other (k + 1) (found || eqb d s) r
+  pub resolving-more : (k d : ℕ) (found : Bool) (v r : ℕ) → d ≡ driverAt M k .signal → r ≡ (eqb d s ⇒ (found ⇒ pairOf v (getD cs k 0) ∣ getD cs k 0) ∣ v) → Resolving M cs s other k found v → Resolving M cs s other (k + 1) (found || eqb d s) r
   resolving-more k d found v r e q h = rw (q, e) (turn k found v (eqb (driverAt M k .signal) s) refl h)
 
   -- all drivers are done

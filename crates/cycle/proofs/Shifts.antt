@@ -68,8 +68,8 @@ module _ (old : List ℕ) (n : ℕ) where
           let z : j - min (j % 32) n ≡ j - k = omega arith in
           f .after j (omega arith) ∙ m .done j q l ∙ h .left (j - k) (omega arith) ∙ rw z
 
-  pub shift-all : (new : List ℕ) (s ns : ℕ) → s ≤ ns → ns ≤ s → ShiftedBy old n s new → ShiftedBy old n ns new
-  shift-all new s ns a b h = rw (le-antisymm a b) at h
+  pub shift-all : (new : List ℕ) (s nsignals : ℕ) → s ≤ nsignals → nsignals ≤ s → ShiftedBy old n s new → ShiftedBy old n nsignals new
+  shift-all new s nsignals a b h = rw (le-antisymm a b) at h
 
 -- the value of k units ago, after n units
 shifted-at : (n : ℕ) (h : List ℕ) (k : ℕ) → k < 32 → getD (shifted n h) k 0 ≡ getD h (k - min k n) 0
@@ -94,8 +94,8 @@ history-length : (a : List ℕ) (s : ℕ) → length (historyOf a s) ≡ 32
 unfolding historyOf
 history-length a s = list-length (λ k. getD a (32 * s + k) 0) 32
 
-history-shifted : (old new : List ℕ) (n ns s : ℕ) → ShiftedBy old n ns new → s < ns → historyOf new s ≡ shifted n (historyOf old s)
-history-shifted old new n ns s h l =
+history-shifted : (old new : List ℕ) (n nsignals s : ℕ) → ShiftedBy old n nsignals new → s < nsignals → historyOf new s ≡ shifted n (historyOf old s)
+history-shifted old new n nsignals s h l =
     ext-getD 0 (historyOf new s) (shifted n (historyOf old s)) (history-length new s ∙ sym (shifted-length n (historyOf old s) (history-length old s)))
     (λ k m. each k (rw (history-length new s) at m))
   where
@@ -109,14 +109,14 @@ history-shifted old new n ns s h l =
         (sym (shifted-at n (historyOf old s) k m ∙ history-at old s (k - min k n) (omega arith)))
 
 -- all histories are shifted
-pub all-shifted : (old new : List ℕ) (n ns : ℕ) → ShiftedBy old n ns new → listBelow (historyOf new) ns ≡ map (shifted n) (listBelow (historyOf old) ns)
-all-shifted old new n ns h =
-    ext-getD [] (listBelow (historyOf new) ns) (map (shifted n) (listBelow (historyOf old) ns))
-    (list-length (historyOf new) ns ∙ sym (length-map (listBelow (historyOf old) ns) (shifted n) ∙ list-length (historyOf old) ns))
-    (λ s l. each s (rw (list-length (historyOf new) ns) at l))
+pub all-shifted : (old new : List ℕ) (n nsignals : ℕ) → ShiftedBy old n nsignals new → listBelow (historyOf new) nsignals ≡ map (shifted n) (listBelow (historyOf old) nsignals)
+all-shifted old new n nsignals h =
+    ext-getD [] (listBelow (historyOf new) nsignals) (map (shifted n) (listBelow (historyOf old) nsignals))
+    (list-length (historyOf new) nsignals ∙ sym (length-map (listBelow (historyOf old) nsignals) (shifted n) ∙ list-length (historyOf old) nsignals))
+    (λ s l. each s (rw (list-length (historyOf new) nsignals) at l))
   where
-    each : (s : ℕ) → s < ns → getD (listBelow (historyOf new) ns) s [] ≡ getD (map (shifted n) (listBelow (historyOf old) ns)) s []
+    each : (s : ℕ) → s < nsignals → getD (listBelow (historyOf new) nsignals) s [] ≡ getD (map (shifted n) (listBelow (historyOf old) nsignals)) s []
     each s l =
-        list-at (historyOf new) [] ns s l
-        ∙ history-shifted old new n ns s h l
-        ∙ sym (map-at (shifted n) (listBelow (historyOf old) ns) s [] [] (rw list-length l) ∙ ap (shifted n) (list-at (historyOf old) [] ns s l))
+        list-at (historyOf new) [] nsignals s l
+        ∙ history-shifted old new n nsignals s h l
+        ∙ sym (map-at (shifted n) (listBelow (historyOf old) nsignals) s [] [] (rw list-length l) ∙ ap (shifted n) (list-at (historyOf old) [] nsignals s l))

@@ -18,12 +18,12 @@ use Rattle.model.specs.Records.{Model}
 use Rattle.cycle.specs.Configuration.{Transaction, Configuration, driverIn, processIn}
 use Rattle.cycle.specs.Steps.{dueIn, transactionDue, deadlineAt, deadlineDue}
 use Rattle.cycle.specs.Orders.{timesIn, optional, least, earliest, dueTimes, dueNow}
-use Rattle.cycle.specs.View.{never, firstTime, deadlineOf, pendingOf, noDriver, viewOf, Fine}
+use Rattle.cycle.specs.View.{never, firstTime, deadlineOf, pendingOf, noDriver, viewOf, Valid}
 use Rattle.cycle.specs.Due.{soonestOf, NoneBefore, someIs}
 use Rattle.cycle.specs.declared.config.Config.{Config}
 use Rattle.cycle.proofs.Lists.{All, all-left, all-right, all-weaker, all-part}
 use Rattle.cycle.proofs.Earliest.{none-earlier}
-use Rattle.cycle.proofs.ViewLaws.{np-is, nd-is, pending-in, deadline-in, standing-in}
+use Rattle.cycle.proofs.ViewLaws.{nprocesses-is, ndrivers-is, pending-in, deadline-in, standing-in}
 use Rattle.cycle.proofs.DueTimes.{Within, driver-within, process-within, each-within, due-within, due-after}
 
 -- the time, or never
@@ -81,33 +81,33 @@ first-stands (x ∷ w) = refl
 deadline-stands : (t : ℕ) → Stands t (optional (deadlineOf t))
 deadline-stands t = by-test (λ o. Stands t (optional o)) (eqb t never) _ _ (λ e. eqb-true t never e) (λ e. refl)
 
-module _ (M : Model) (c : Config) (f : Fine M c) where
+module _ (M : Model) (c : Config) (f : Valid M c) where
   abbrev v : Configuration
   v = viewOf c
 
-  np : c .np ≡ length (M .processes)
-  np = np-is M c (f .reachable)
+  nprocesses : c .nprocesses ≡ length (M .processes)
+  nprocesses = nprocesses-is M c (f .reachable)
 
-  nd : c .nd ≡ length (M .drivers)
-  nd = nd-is M c (f .reachable)
+  ndrivers : c .ndrivers ≡ length (M .drivers)
+  ndrivers = ndrivers-is M c (f .reachable)
 
   abbrev firsts : ℕ
-  firsts = soonestOf (c .due) (c .nd)
+  firsts = soonestOf (c .due) (c .ndrivers)
 
   abbrev lasts : ℕ
-  lasts = soonestOf (c .deadlines) (c .np)
+  lasts = soonestOf (c .deadlines) (c .nprocesses)
 
   abbrev pendings : List ℕ
-  pendings = joinBelow (λ k. timesIn (driverIn (v .drivers) k .pending)) (c .nd)
+  pendings = joinBelow (λ k. timesIn (driverIn (v .drivers) k .pending)) (c .ndrivers)
 
   abbrev waits : List ℕ
-  waits = joinBelow (λ p. optional (processIn (v .processes) p .deadline)) (c .np)
+  waits = joinBelow (λ p. optional (processIn (v .processes) p .deadline)) (c .nprocesses)
 
   -- each number stands for the times of its driver, or of its process
-  driver-stands : (k : ℕ) → k < c .nd → Stands (getD (c .due) k 0) (timesIn (driverIn (v .drivers) k .pending))
+  driver-stands : (k : ℕ) → k < c .ndrivers → Stands (getD (c .due) k 0) (timesIn (driverIn (v .drivers) k .pending))
   driver-stands k h = rw (f .due k h, pending-in c k h) (first-stands (pendingOf (c .time) (getD (c .drivers) k noDriver)))
 
-  process-stands : (p : ℕ) → p < c .np → Stands (getD (c .deadlines) p 0) (optional (processIn (v .processes) p .deadline))
+  process-stands : (p : ℕ) → p < c .nprocesses → Stands (getD (c .deadlines) p 0) (optional (processIn (v .processes) p .deadline))
   process-stands p h = rw (deadline-in c p h) (deadline-stands (getD (c .deadlines) p 0))
 
   -- none is before now
@@ -117,21 +117,21 @@ module _ (M : Model) (c : Config) (f : Fine M c) where
   from-now t (u ∷ []) e a = omega (arith, a .0 .from)
   from-now t (u ∷ (w ∷ us)) e a = absurd e
 
-  pub no-first-before : NoneBefore (c .time) (c .due) (c .nd)
-  no-first-before k h = from-now _ (timesIn (driverIn (v .drivers) k .pending)) (driver-stands k h) (driver-within M v (f .reachable) k (rw nd at h))
+  pub no-first-before : NoneBefore (c .time) (c .due) (c .ndrivers)
+  no-first-before k h = from-now _ (timesIn (driverIn (v .drivers) k .pending)) (driver-stands k h) (driver-within M v (f .reachable) k (rw ndrivers at h))
 
-  pub no-deadline-before : NoneBefore (c .time) (c .deadlines) (c .np)
-  no-deadline-before p h = from-now _ (optional (processIn (v .processes) p .deadline)) (process-stands p h) (process-within M v (f .reachable) p (rw np at h))
+  pub no-deadline-before : NoneBefore (c .time) (c .deadlines) (c .nprocesses)
+  no-deadline-before p h = from-now _ (optional (processIn (v .processes) p .deadline)) (process-stands p h) (process-within M v (f .reachable) p (rw nprocesses at h))
 
   drivers-least : firsts ≡ least never pendings
-  drivers-least = stand-least _ _ (c .nd) driver-stands
+  drivers-least = stand-least _ _ (c .ndrivers) driver-stands
 
   deadlines-least : lasts ≡ least never waits
-  deadlines-least = stand-least _ _ (c .np) process-stands
+  deadlines-least = stand-least _ _ (c .nprocesses) process-stands
 
   times-are : dueTimes M v ≡ pendings ++ waits
   unfolding dueTimes
-  times-are = rw (np, nd)
+  times-are = rw (nprocesses, ndrivers)
 
   times-least : min firsts lasts ≡ least never (dueTimes M v)
   times-least =
@@ -151,8 +151,8 @@ module _ (M : Model) (c : Config) (f : Fine M c) where
       let both : All (λ u. c .time < u) (pendings ++ waits) = rw times-are at a in
       let left = all-left (λ u. c .time < u) pendings waits both in
       let right = all-right (λ u. c .time < u) pendings waits both in
-      let p = any-fails (λ k. dueIn (c .time) (driverIn (v .drivers) k .pending)) (length (M .drivers)) (λ k h. later (driverIn (v .drivers) k .pending) (all-part (λ u. c .time < u) (λ k. timesIn (driverIn (v .drivers) k .pending)) (c .nd) k (rw nd h) left)) in
-      let q = any-fails (λ p. deadlineAt (c .time) (processIn (v .processes) p .deadline)) (length (M .processes)) (λ p h. after (processIn (v .processes) p .deadline) (all-part (λ u. c .time < u) (λ p. optional (processIn (v .processes) p .deadline)) (c .np) p (rw np h) right)) in
+      let p = any-fails (λ k. dueIn (c .time) (driverIn (v .drivers) k .pending)) (length (M .drivers)) (λ k h. later (driverIn (v .drivers) k .pending) (all-part (λ u. c .time < u) (λ k. timesIn (driverIn (v .drivers) k .pending)) (c .ndrivers) k (rw ndrivers h) left)) in
+      let q = any-fails (λ p. deadlineAt (c .time) (processIn (v .processes) p .deadline)) (length (M .processes)) (λ p h. after (processIn (v .processes) p .deadline) (all-part (λ u. c .time < u) (λ p. optional (processIn (v .processes) p .deadline)) (c .nprocesses) p (rw nprocesses h) right)) in
       rw (p, q)
     where
       later : (w : List Transaction) → All (λ u. c .time < u) (timesIn w) → dueIn (c .time) w ≡ false
@@ -190,8 +190,8 @@ module _ (M : Model) (c : Config) (f : Fine M c) where
   due-now = now-by (earliest (dueTimes M v)) refl ∙ rw soonest
 
 -- a process of some standing, found among the numbers
-pub standing-is : (M : Model) (c : Config) (x : ℕ) → Fine M c
-    → someIs (c .standings) (c .np) x ≡ anyBelow (λ p. eqb (processIn (viewOf c .processes) p .standing) x) (length (M .processes))
+pub standing-is : (M : Model) (c : Config) (x : ℕ) → Valid M c
+    → someIs (c .standings) (c .nprocesses) x ≡ anyBelow (λ p. eqb (processIn (viewOf c .processes) p .standing) x) (length (M .processes))
 standing-is M c x f =
-    rw (← np M c f)
-    (any-same _ _ (c .np) (λ p h. ap (λ (y : ℕ). eqb y x) (sym (standing-in c p h))))
+    rw (← nprocesses M c f)
+    (any-same _ _ (c .nprocesses) (λ p h. ap (λ (y : ℕ). eqb y x) (sym (standing-in c p h))))

@@ -17,7 +17,7 @@ use Rattle.cycle.specs.declared.effect.Effect.the-variants.{Skip, Store,
 use Rattle.cycle.specs.Configuration.{DriverState, ProcessState, Configuration, driverIn, processIn, ready}
 use Rattle.cycle.specs.Statements.{nextPlace, moved, waits, stops, processAfter, variablesAfter, driversAfter, applied, stepped, effectOf}
 use Rattle.cycle.specs.Orders.{isReady}
-use Rattle.cycle.specs.Invariant.{ValueOf, lastTime, DriverFine, DeadlineFine, ProcessFine, EffectFits, Reachable}
+use Rattle.cycle.specs.Invariant.{ValueOf, lastTime, DriverValid, DeadlineValid, ProcessValid, EffectFits, Reachable}
 use Rattle.cycle.proofs.Lists.{set-each}
 use Rattle.cycle.proofs.Waves.{driver-scheduled}
 use Rattle.cycle.proofs.Effects.{effect-fits, placed}
@@ -30,9 +30,9 @@ next-place M fs p h i s =
     (λ e. fs .process p h .next i s (ltb-true (i + 1) (endOf M p) e)) (λ e. fs .process p h .first)
 
 -- a ready process, and what an effect makes of it
-module _ (M : Model) (p t : ℕ) (q : ProcessState) (f : ProcessFine M p t q) where
-  pub stopped-fine : (n : ℕ) → n ≤ 3 → ProcessFine M p t (stops q n)
-  stopped-fine n h =
+module _ (M : Model) (p t : ℕ) (q : ProcessState) (f : ProcessValid M p t q) where
+  pub stopped-valid : (n : ℕ) → n ≤ 3 → ProcessValid M p t (stops q n)
+  stopped-valid n h =
       record {
         from = f .from;
         within = f .within;
@@ -44,8 +44,8 @@ module _ (M : Model) (p t : ℕ) (q : ProcessState) (f : ProcessFine M p t q) wh
       }
 
   module _ (idle : q .standing ≡ ready) where
-    moved-fine : (i : ℕ) → Spans M p i → ProcessFine M p t (moved q i)
-    moved-fine i s =
+    moved-valid : (i : ℕ) → Spans M p i → ProcessValid M p t (moved q i)
+    moved-valid i s =
         record {
           from = s .from;
           within = s .below;
@@ -56,8 +56,8 @@ module _ (M : Model) (p t : ℕ) (q : ProcessState) (f : ProcessFine M p t q) wh
           deadline = f .deadline;
         }
 
-    waits-fine : statementAt M (q .place) .kind ≡ 5 → (o : Option ℕ) → DeadlineFine t o → ProcessFine M p t (waits q o)
-    waits-fine k o d =
+    waits-valid : statementAt M (q .place) .kind ≡ 5 → (o : Option ℕ) → DeadlineValid t o → ProcessValid M p t (waits q o)
+    waits-valid k o d =
         record {
           from = f .from;
           within = f .within;
@@ -68,15 +68,15 @@ module _ (M : Model) (p t : ℕ) (q : ProcessState) (f : ProcessFine M p t q) wh
           deadline = d;
         }
 
-    process-after : (e : Effect) (full : Bool) (next : ℕ) → t ≤ lastTime → Spans M p next → EffectFits M p (statementAt M (q .place) .kind) e → ProcessFine M p t (processAfter e full t next q)
-    process-after Skip full next h s x = moved-fine next s
-    process-after (Store a v) full next h s x = moved-fine next s
-    process-after (Schedule k d v) true next h s x = stopped-fine 3 (lit≤ tt)
-    process-after (Schedule k d v) false next h s x = moved-fine next s
-    process-after (Jump a) full next h s x = moved-fine a x
-    process-after Wait full next h s x = waits-fine x none tt
-    process-after (WaitFor d) full next h s x = waits-fine (x .0) (some (t + d)) (omega arith, omega (arith, x .1))
-    process-after (Stop n) full next h s x = stopped-fine n (omega arith)
+    process-after : (e : Effect) (full : Bool) (next : ℕ) → t ≤ lastTime → Spans M p next → EffectFits M p (statementAt M (q .place) .kind) e → ProcessValid M p t (processAfter e full t next q)
+    process-after Skip full next h s x = moved-valid next s
+    process-after (Store a v) full next h s x = moved-valid next s
+    process-after (Schedule k d v) true next h s x = stopped-valid 3 (lit≤ tt)
+    process-after (Schedule k d v) false next h s x = moved-valid next s
+    process-after (Jump a) full next h s x = moved-valid a x
+    process-after Wait full next h s x = waits-valid x none tt
+    process-after (WaitFor d) full next h s x = waits-valid (x .0) (some (t + d)) (omega arith, omega (arith, x .1))
+    process-after (Stop n) full next h s x = stopped-valid n (omega arith)
 
 -- the variables and the drivers after an effect
 length-variables : (e : Effect) (vs : List ℕ) → length (variablesAfter e vs) ≡ length vs
@@ -108,20 +108,20 @@ module _ (M : Model) (p kind : ℕ) where
     variables-after (WaitFor d) x = typed
     variables-after (Stop n) x = typed
 
-  abbrev FineAt : ℕ → ℕ → DriverState → Type 0
-  FineAt t k d = DriverFine (signalAt M (driverAt M k .signal) .ty) t d
+  abbrev ValidAt : ℕ → ℕ → DriverState → Type 0
+  ValidAt t k d = DriverValid (signalAt M (driverAt M k .signal) .ty) t d
 
-  module _ (t : ℕ) (early : t ≤ lastTime) (ds : List DriverState) (long : length ds ≡ length (M .drivers)) (fine : (k : ℕ) → k < length (M .drivers) → FineAt t k (driverIn ds k)) where
-    drivers-after : (e : Effect) → EffectFits M p kind e → (k : ℕ) → k < length (M .drivers) → FineAt t k (driverIn (driversAfter e t ds) k)
-    drivers-after Skip x = fine
-    drivers-after (Store a v) x = fine
+  module _ (t : ℕ) (early : t ≤ lastTime) (ds : List DriverState) (long : length ds ≡ length (M .drivers)) (valid : (k : ℕ) → k < length (M .drivers) → ValidAt t k (driverIn ds k)) where
+    drivers-after : (e : Effect) → EffectFits M p kind e → (k : ℕ) → k < length (M .drivers) → ValidAt t k (driverIn (driversAfter e t ds) k)
+    drivers-after Skip x = valid
+    drivers-after (Store a v) x = valid
     drivers-after (Schedule k d v) x =
-        set-each (FineAt t) ds (length (M .drivers)) k _ _ long
-        (λ h. driver-scheduled _ t (driverIn ds k) (fine k h) (t + d) v (omega arith) (omega (arith, x .delay)) (x .value)) fine
-    drivers-after (Jump a) x = fine
-    drivers-after Wait x = fine
-    drivers-after (WaitFor d) x = fine
-    drivers-after (Stop n) x = fine
+        set-each (ValidAt t) ds (length (M .drivers)) k _ _ long
+        (λ h. driver-scheduled _ t (driverIn ds k) (valid k h) (t + d) v (omega arith) (omega (arith, x .delay)) (x .value)) valid
+    drivers-after (Jump a) x = valid
+    drivers-after Wait x = valid
+    drivers-after (WaitFor d) x = valid
+    drivers-after (Stop n) x = valid
 
 module _ (M : Model) (fs : Facts M) (c : Configuration) (r : Reachable M c) (p : ℕ) (h : p < length (M .processes)) where
   abbrev q : ProcessState
@@ -143,7 +143,7 @@ module _ (M : Model) (fs : Facts M) (c : Configuration) (r : Reachable M c) (p :
         each-driver = drivers-after M p _ (c .time) (r .time) (c .drivers) (r .drivers) (r .each-driver) e x;
         processes = length-set (c .processes) p _ ∙ r .processes;
         each-process =
-            set-each (λ p q. ProcessFine M p (c .time) q) (c .processes) (length (M .processes)) p _ _ (r .processes)
+            set-each (λ p q. ProcessValid M p (c .time) q) (c .processes) (length (M .processes)) p _ _ (r .processes)
             (λ h. process-after M p (c .time) q (r .each-process p h) i e _ _ (r .time) (next-place M fs p h (q .place) (placed M c r p h)) x)
             (r .each-process);
         variables = length-variables e (c .variables) ∙ r .variables;

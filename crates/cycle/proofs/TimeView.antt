@@ -13,7 +13,7 @@ use Rattle.model.specs.Records.{Model}
 use Rattle.cycle.specs.Steps.{timeStep}
 use Rattle.cycle.specs.Orders.{advanceDone, earliest, dueTimes}
 use Rattle.cycle.specs.Invariant.{lastTime}
-use Rattle.cycle.specs.View.{pendingOf, noDriver, firstTime, driverView, processView, viewOf, Fine, outcomeOf, Answers}
+use Rattle.cycle.specs.View.{pendingOf, noDriver, firstTime, driverView, processView, viewOf, Valid, outcomeOf, Answers}
 use Rattle.cycle.specs.Shift.{ShiftedBy}
 use Rattle.cycle.specs.Waveform.{Ahead, Elapsed}
 use Rattle.cycle.specs.declared.config.Config.{Config}
@@ -23,7 +23,7 @@ use Rattle.cycle.proofs.AdvanceReachable.{time-reachable}
 use Rattle.cycle.proofs.DueTimes.{due-within}
 use Rattle.cycle.proofs.Drivers.{pending-length, ahead-of}
 use Rattle.cycle.proofs.Shifts.{all-shifted}
-use Rattle.cycle.proofs.ViewLaws.{nd-is, pending-in}
+use Rattle.cycle.proofs.ViewLaws.{ndrivers-is, pending-in}
 
 abbrev pub driverAt : Config → ℕ → Driver
 driverAt c k = getD (c .drivers) k noDriver
@@ -34,10 +34,10 @@ withPast c signals drivers =
     record {
       time = c .time;
       deltas = c .deltas;
-      ns = c .ns;
-      nv = c .nv;
-      nd = c .nd;
-      np = c .np;
+      nsignals = c .nsignals;
+      nvariables = c .nvariables;
+      ndrivers = c .ndrivers;
+      nprocesses = c .nprocesses;
       signals = signals;
       currents = c .currents;
       due = c .due;
@@ -55,10 +55,10 @@ later c t =
     record {
       time = t;
       deltas = 0;
-      ns = c .ns;
-      nv = c .nv;
-      nd = c .nd;
-      np = c .np;
+      nsignals = c .nsignals;
+      nvariables = c .nvariables;
+      ndrivers = c .ndrivers;
+      nprocesses = c .nprocesses;
       signals = c .signals;
       currents = c .currents;
       due = c .due;
@@ -115,19 +115,19 @@ abbrev pub answeredBy : Config → Answered
 answeredBy r = record { refusal = 0; byte = 2; picks = 0; value = 0; config = r }
 
 -- to the earliest due time t
-module _ (M : Model) (c : Config) (f : Fine M c) (t : ℕ) (e : earliest (dueTimes M (viewOf c)) ≡ some t) (l : t ≤ lastTime) where
+module _ (M : Model) (c : Config) (f : Valid M c) (t : ℕ) (e : earliest (dueTimes M (viewOf c)) ≡ some t) (l : t ≤ lastTime) where
   -- no pending transaction is nearer than the units passed
-  pub each-ahead : (k : ℕ) → k < c .nd → Ahead (t - c .time) (driverAt c k)
+  pub each-ahead : (k : ℕ) → k < c .ndrivers → Ahead (t - c .time) (driverAt c k)
   unfolding timeStep
   each-ahead k h =
-      let m : k < length (M .drivers) = omega (arith, nd-is M c (f .reachable)) in
+      let m : k < length (M .drivers) = omega (arith, ndrivers-is M c (f .reachable)) in
       let g = time-reachable M (viewOf c) (f .reachable) t e l .each-driver k m in
       ahead-of (c .time) (driverAt c k) t (rw (pending-in c k h) at (g .rising))
       (omega (arith, pending-length (c .time) (driverAt c k), rw (pending-in c k h) at (g .few)))
 
-  module _ (new : List ℕ) (s : ShiftedBy (c .signals) (t - c .time) (c .ns) new) where
-    module _ (ds : List Driver) (p : (k : ℕ) → k < c .nd → Elapsed (t - c .time) (driverAt c k) (getD ds k noDriver)) where
-      pending-same : (k : ℕ) → k < c .nd → pendingOf t (getD ds k noDriver) ≡ pendingOf (c .time) (driverAt c k)
+  module _ (new : List ℕ) (s : ShiftedBy (c .signals) (t - c .time) (c .nsignals) new) where
+    module _ (ds : List Driver) (p : (k : ℕ) → k < c .ndrivers → Elapsed (t - c .time) (driverAt c k) (getD ds k noDriver)) where
+      pending-same : (k : ℕ) → k < c .ndrivers → pendingOf t (getD ds k noDriver) ≡ pendingOf (c .time) (driverAt c k)
       unfolding viewOf
       pending-same k m =
           let z : c .time + (t - c .time) ≡ t = omega (arith, due-within M (viewOf c) (f .reachable) t e .from) in
@@ -137,8 +137,8 @@ module _ (M : Model) (c : Config) (f : Fine M c) (t : ℕ) (e : earliest (dueTim
       unfolding viewOf timeStep driverView processView
       later-view =
           rw (
-            all-shifted (c .signals) new (t - c .time) (c .ns) s,
-            list-same (driverView (later (withPast c new ds) t)) (driverView c) (c .nd) (λ k m. rw (pending-same k m)),
+            all-shifted (c .signals) new (t - c .time) (c .nsignals) s,
+            list-same (driverView (later (withPast c new ds) t)) (driverView c) (c .ndrivers) (λ k m. rw (pending-same k m)),
           )
 
       later-answers : Answers M (answeredBy (later (withPast c new ds) t)) (advanceDone 2 (timeStep t (viewOf c)))
@@ -146,7 +146,7 @@ module _ (M : Model) (c : Config) (f : Fine M c) (t : ℕ) (e : earliest (dueTim
       later-answers =
           record {
             is = rw later-view;
-            fine =
+            valid =
                 record {
                   reachable = rw later-view (time-reachable M (viewOf c) (f .reachable) t e l);
                   due = λ k m. f .due k m ∙ ap firstTime (sym (pending-same k m));
@@ -154,7 +154,7 @@ module _ (M : Model) (c : Config) (f : Fine M c) (t : ℕ) (e : earliest (dueTim
           }
 
     -- the step, from what the loop over the drivers leaves
-    pub time-stepped : (k : ℕ) (r : Config) → c .nd ≤ k → Elapsing (withPast c new (c .drivers)) (t - c .time) k r → Answers M (answeredBy (later r t)) (advanceDone 2 (timeStep t (viewOf c)))
+    pub time-stepped : (k : ℕ) (r : Config) → c .ndrivers ≤ k → Elapsing (withPast c new (c .drivers)) (t - c .time) k r → Answers M (answeredBy (later r t)) (advanceDone 2 (timeStep t (viewOf c)))
     time-stepped k r h g =
         subst
         (λ (x : Config). Answers M (answeredBy (later x t)) (advanceDone 2 (timeStep t (viewOf c))))

@@ -12,7 +12,7 @@ use lib.Seq.{getD-set-same, getD-set-other}
 use borrow.Author.Count.{below-none, below-more}
 use borrow.Author.Tests.{lt-ltb, le-ltb, eq-eqb, ne-eqb, ltb-true, ltb-false}
 use Rattle.base.specs.Below.{anyBelow}
-use Rattle.base.specs.Cases.{pick}
+use Rattle.base.specs.Cases.{_∣_, _⇒_}
 use Rattle.base.proofs.Below.{split, and-left, and-right, any-same}
 use Rattle.base.proofs.Course.{any-first}
 use Rattle.model.specs.Records.{Model, processAt, statementAt}
@@ -22,8 +22,8 @@ use Rattle.model.specs.declared.records.ProcessRecord.{ProcessRecord}
 use Rattle.cycle.specs.Configuration.{driverIn}
 use Rattle.cycle.specs.Statements.{nextPlace, applied, effectBy, effectOf, stepped}
 use Rattle.cycle.specs.Orders.{isReady, lowestReady, settledFrom, settled}
-use Rattle.cycle.specs.Invariant.{lastTime, DriverFine, EffectFits, StoreFits, ScheduleFits}
-use Rattle.cycle.specs.View.{never, pendingOf, firstTime, noDriver, viewOf, arrays, Fine, StepsTo, outcomeOf, Answers}
+use Rattle.cycle.specs.Invariant.{lastTime, DriverValid, EffectFits, StoreFits, ScheduleFits}
+use Rattle.cycle.specs.View.{never, pendingOf, firstTime, noDriver, viewOf, arrays, Valid, StepsTo, outcomeOf, Answers}
 use Rattle.cycle.specs.Waveform.{Waveform, ScheduledTo}
 use Rattle.cycle.specs.declared.config.Config.{Config}
 use Rattle.cycle.specs.declared.driver.Scheduled.{Scheduled}
@@ -35,7 +35,7 @@ use Rattle.cycle.proofs.Effects.{own-statement, placed, effect-fits}
 use Rattle.cycle.proofs.ArraysAgree.{effect-viewed}
 use Rattle.cycle.proofs.Picks.{standing-stays}
 use Rattle.cycle.proofs.StepReachable.{stepped-reachable}
-use Rattle.cycle.proofs.ViewLaws.{pending-in, place-in, standing-in, ready-in, deadline-in, nd-is, np-is}
+use Rattle.cycle.proofs.ViewLaws.{pending-in, place-in, standing-in, ready-in, deadline-in, ndrivers-is, nprocesses-is}
 use Rattle.cycle.proofs.Settling.{Passed, settle-over, settle-none, settle-turn}
 use Rattle.cycle.proofs.Changes.{Sized, movedTo, scheduledTo, waitsUntil, stopsBy, moved-sized, scheduled-sized, waits-sized, stops-sized, skip-view, store-view, jump-view, wait-view, wait-for-view, stop-view, schedule-view, full-view}
 
@@ -53,12 +53,12 @@ pub few-statements : (M : Model) → Facts M → (p : ℕ) → p < length (M .pr
 few-statements M fs p h = omega (arith, fs .process p h .within, fs .totals .statements)
 
 -- process p at its place
-module _ (M : Model) (fs : Facts M) (c : Config) (f : Fine M c) (p : ℕ) (h : p < c .np) where
+module _ (M : Model) (fs : Facts M) (c : Config) (f : Valid M c) (p : ℕ) (h : p < c .nprocesses) where
   abbrev place : ℕ
   place = getD (c .places) p 0
 
   process-there : p < length (M .processes)
-  process-there = omega (arith, np-is M c (f .reachable))
+  process-there = omega (arith, nprocesses-is M c (f .reachable))
 
   spans : Spans M p place
   spans = rw (place-in c p h) at (placed M (viewOf c) (f .reachable) p process-there)
@@ -78,8 +78,8 @@ pub record Turn (M : Model) (now : ℕ) (p : ℕ) (c : Config) (e : Effect) : Ty
   pub facts : Facts M
   pub clock : c .time ≡ now
   pub sized : Sized c
-  pub fine : Fine M c
-  pub here : p < c .np
+  pub valid : Valid M c
+  pub here : p < c .nprocesses
   pub idle : getD (c .standings) p 0 ≡ 0
   pub does : e ≡ effectBy M (arrays (c .variables) (c .signals)) (ownerOf M (getD (c .places) p 0)) (statementAt M (getD (c .places) p 0))
 
@@ -87,37 +87,37 @@ pub record Turn (M : Model) (now : ℕ) (p : ℕ) (c : Config) (e : Effect) : Ty
 pub record Stepped (M : Model) (p : ℕ) (c c' : Config) : Type 0 where
   pub to : StepsTo M p c c'
   pub time : c' .time ≡ c .time
-  pub np : c' .np ≡ c .np
+  pub nprocesses : c' .nprocesses ≡ c .nprocesses
   pub sized : Sized c'
 
 module _ {M : Model} {now p : ℕ} {c : Config} {e : Effect} (t : Turn M now p c e) where
   abbrev fs : Facts M
   fs = t .facts
 
-  abbrev f : Fine M c
-  f = t .fine
+  abbrev f : Valid M c
+  f = t .valid
 
   abbrev s : Sized c
   s = t .sized
 
-  abbrev in-np : p < c .np
-  in-np = t .here
+  abbrev in-nprocesses : p < c .nprocesses
+  in-nprocesses = t .here
 
   pub in-16 : p < 16
-  in-16 = omega (arith, t .here, np-is M c (f .reachable), fs .totals .processes)
+  in-16 = omega (arith, t .here, nprocesses-is M c (f .reachable), fs .totals .processes)
 
   pub process-in-model : p < length (M .processes)
-  process-in-model = process-there M fs c f p in-np
+  process-in-model = process-there M fs c f p in-nprocesses
 
   pub place-spans : Spans M p (getD (c .places) p 0)
-  place-spans = spans M fs c f p in-np
+  place-spans = spans M fs c f p in-nprocesses
 
   pub early : now ≤ lastTime
   early = rw (← t .clock) (time-most M c f)
 
   -- what the effect names is there
   fits : EffectFits M p (statementAt M (getD (c .places) p 0) .kind) e
-  fits = rw (place-in c p in-np, ← effect-is M fs c f p in-np, ← t .does) at (effect-fits M (viewOf c) (f .reachable) fs p process-in-model)
+  fits = rw (place-in c p in-nprocesses, ← effect-is M fs c f p in-nprocesses, ← t .does) at (effect-fits M (viewOf c) (f .reachable) fs p process-in-model)
 
   pub in-variables : (a v : ℕ) → e ≡ Store a v → a < 64
   in-variables a v x = let g : StoreFits M p a v = rw x at fits in omega (arith, g .variable, fs .totals .variables)
@@ -127,27 +127,27 @@ module _ {M : Model} {now p : ℕ} {c : Config} {e : Effect} (t : Turn M now p c
 
   -- the pick is made
   pub is-ready : isReady p (viewOf c) ≡ true
-  is-ready = ready-in c p in-np ∙ eq-eqb _ 0 (t .idle)
+  is-ready = ready-in c p in-nprocesses ∙ eq-eqb _ 0 (t .idle)
 
   step-is : applied M p e (viewOf c) ≡ stepped M p (viewOf c)
   unfolding stepped
-  step-is = rw (t .does, effect-is M fs c f p in-np)
+  step-is = rw (t .does, effect-is M fs c f p in-nprocesses)
 
   abbrev Next : Config → Type 0
   Next c' = Stepped M p c c'
 
-  turned : (c' : Config) → viewOf c' ≡ applied M p e (viewOf c) → c' .time ≡ c .time → c' .np ≡ c .np → Sized c'
-      → ((k : ℕ) → k < c' .nd → getD (c' .due) k 0 ≡ firstTime (pendingOf (c' .time) (getD (c' .drivers) k noDriver)))
+  turned : (c' : Config) → viewOf c' ≡ applied M p e (viewOf c) → c' .time ≡ c .time → c' .nprocesses ≡ c .nprocesses → Sized c'
+      → ((k : ℕ) → k < c' .ndrivers → getD (c' .due) k 0 ≡ firstTime (pendingOf (c' .time) (getD (c' .drivers) k noDriver)))
       → Next c'
   turned c' v ct cn sized due =
       record {
         to =
             record {
               is = v ∙ step-is;
-              fine = record { reachable = rw (v, step-is) (stepped-reachable M fs (viewOf c) (f .reachable) p process-in-model is-ready); due = due };
+              valid = record { reachable = rw (v, step-is) (stepped-reachable M fs (viewOf c) (f .reachable) p process-in-model is-ready); due = due };
             };
         time = ct;
-        np = cn;
+        nprocesses = cn;
         sized = sized;
       }
 
@@ -157,39 +157,39 @@ module _ {M : Model} {now p : ℕ} {c : Config} {e : Effect} (t : Turn M now p c
 
   pub skip-turn : e ≡ Skip → (i : ℕ) → i ≡ following → Next (movedTo c p i (c .variables))
   skip-turn x i g =
-      turned (movedTo c p i (c .variables)) (rw x (skip-view M c p in-np s in-16 i g)) refl refl (moved-sized c p s i (c .variables) refl) (f .due)
+      turned (movedTo c p i (c .variables)) (rw x (skip-view M c p in-nprocesses s in-16 i g)) refl refl (moved-sized c p s i (c .variables) refl) (f .due)
 
   pub store-turn : (a v : ℕ) → e ≡ Store a v → (i : ℕ) → i ≡ following → Next (movedTo c p i (set (c .variables) a v))
   store-turn a v x i g =
-      turned (movedTo c p i (set (c .variables) a v)) (rw x (store-view M c p in-np s in-16 a v i (in-variables a v x) g)) refl refl
+      turned (movedTo c p i (set (c .variables) a v)) (rw x (store-view M c p in-nprocesses s in-16 a v i (in-variables a v x) g)) refl refl
       (moved-sized c p s i (set (c .variables) a v) (length-set (c .variables) a v)) (f .due)
 
   pub jump-turn : (a : ℕ) → e ≡ Jump a → Next (movedTo c p a (c .variables))
   jump-turn a x =
-      turned (movedTo c p a (c .variables)) (rw x (jump-view M c p in-np s in-16 a)) refl refl (moved-sized c p s a (c .variables) refl) (f .due)
+      turned (movedTo c p a (c .variables)) (rw x (jump-view M c p in-nprocesses s in-16 a)) refl refl (moved-sized c p s a (c .variables) refl) (f .due)
 
   pub wait-turn : e ≡ Wait → Next (waitsUntil c p (c .deadlines))
   wait-turn x =
-      let g = f .reachable .each-process p process-in-model .no-deadline (standing-in c p in-np ∙ t .idle) in
-      turned (waitsUntil c p (c .deadlines)) (rw x (wait-view M c p in-np s in-16 (sym (deadline-in c p in-np) ∙ g))) refl refl
+      let g = f .reachable .each-process p process-in-model .no-deadline (standing-in c p in-nprocesses ∙ t .idle) in
+      turned (waitsUntil c p (c .deadlines)) (rw x (wait-view M c p in-nprocesses s in-16 (sym (deadline-in c p in-nprocesses) ∙ g))) refl refl
       (waits-sized c p s (c .deadlines) refl) (f .due)
 
   pub wait-for-turn : (d : ℕ) → e ≡ WaitFor d → (u : ℕ) → u ≡ now + d → Next (waitsUntil c p (set (c .deadlines) p u))
   wait-for-turn d x u g =
       let o : u ≡ never → ⊥ = λ q. omega (arith, early, wait-small d x) in
       let k : u ≡ c .time + d = rw (t .clock) g in
-      turned (waitsUntil c p (set (c .deadlines) p u)) (rw x (wait-for-view M c p in-np s in-16 d u k (rw (ne-eqb u never o)))) refl refl
+      turned (waitsUntil c p (set (c .deadlines) p u)) (rw x (wait-for-view M c p in-nprocesses s in-16 d u k (rw (ne-eqb u never o)))) refl refl
       (waits-sized c p s (set (c .deadlines) p u) (length-set (c .deadlines) p u)) (f .due)
 
   pub stop-turn : (i : ℕ) → e ≡ Stop i → Next (stopsBy c p i)
-  stop-turn i x = turned (stopsBy c p i) (rw x (stop-view M c p in-np s in-16 i)) refl refl (stops-sized c p s i) (f .due)
+  stop-turn i x = turned (stopsBy c p i) (rw x (stop-view M c p in-nprocesses s in-16 i)) refl refl (stops-sized c p s i) (f .due)
 
   module _ (k d v : ℕ) (x : e ≡ Schedule k d v) where
     schedule-fits : ScheduleFits M p k d v
     schedule-fits = rw x at fits
 
-    in-nd : k < c .nd
-    in-nd = omega (arith, schedule-fits .driver, nd-is M c (f .reachable))
+    in-ndrivers : k < c .ndrivers
+    in-ndrivers = omega (arith, schedule-fits .driver, ndrivers-is M c (f .reachable))
 
     pub in-drivers : k < 64
     in-drivers = omega (arith, schedule-fits .driver, fs .totals .drivers)
@@ -197,19 +197,19 @@ module _ {M : Model} {now p : ℕ} {c : Config} {e : Effect} (t : Turn M now p c
     -- the driver has a waveform
     pub waveform : Waveform (getD (c .drivers) k noDriver)
     waveform =
-        let g : DriverFine _ (viewOf c .time) (driverIn (viewOf c .drivers) k) = f .reachable .each-driver k (schedule-fits .driver) in
-        waveform-of (c .time) (getD (c .drivers) k noDriver) (viewOf c .time) (rw (pending-in c k in-nd) at (g .rising)) (few-pending M c f k in-nd)
+        let g : DriverValid _ (viewOf c .time) (driverIn (viewOf c .drivers) k) = f .reachable .each-driver k (schedule-fits .driver) in
+        waveform-of (c .time) (getD (c .drivers) k noDriver) (viewOf c .time) (rw (pending-in c k in-ndrivers) at (g .rising)) (few-pending M c f k in-ndrivers)
 
     module _ (r : Scheduled) (to : ScheduledTo (getD (c .drivers) k noDriver) d v r) where
       pub full-turn : r .full ≡ true → Next (stopsBy c p 3)
-      full-turn g = turned (stopsBy c p 3) (rw x (full-view M c p in-np s in-16 k d v in-nd in-drivers r to g)) refl refl (stops-sized c p s 3) (f .due)
+      full-turn g = turned (stopsBy c p 3) (rw x (full-view M c p in-nprocesses s in-16 k d v in-ndrivers in-drivers r to g)) refl refl (stops-sized c p s 3) (f .due)
 
       pub schedule-turn : r .full ≡ false → (u i : ℕ) → u ≡ firstTime (pendingOf now (r .driver)) → i ≡ following → Next (scheduledTo c p k (r .driver) u i)
       schedule-turn g u i a b =
-          turned (scheduledTo c p k (r .driver) u i) (rw x (schedule-view M c p in-np s in-16 k d v in-nd in-drivers r to u i b g)) refl refl
+          turned (scheduledTo c p k (r .driver) u i) (rw x (schedule-view M c p in-nprocesses s in-16 k d v in-ndrivers in-drivers r to u i b g)) refl refl
           (scheduled-sized c p s k (r .driver) u i) first
         where
-          first : (j : ℕ) → j < c .nd → getD (set (c .due) k u) j 0 ≡ firstTime (pendingOf (c .time) (getD (set (c .drivers) k (r .driver)) j noDriver))
+          first : (j : ℕ) → j < c .ndrivers → getD (set (c .due) k u) j 0 ≡ firstTime (pendingOf (c .time) (getD (set (c .drivers) k (r .driver)) j noDriver))
           first j l = elim (ℕ-discrete j k) [
             | yes q ↦
                 let m : k < length (c .due) = omega (arith, s .due, in-drivers) in
@@ -227,24 +227,24 @@ goes-on n count p end h = (ltb-true n count (and-left (ltb n count) (ltb p end) 
 pub record Turning (M : Model) (count now end : ℕ) (c₀ : Config) (p n : ℕ) (c : Config) : Type 0 where
   pub few : n ≤ count
   pub high : p ≤ end
-  pub whole : c .np ≡ end
+  pub whole : c .nprocesses ≡ end
   pub most : end ≤ 16
   pub clock : c .time ≡ now
   pub sized : Sized c
-  pub fine : Fine M c
+  pub valid : Valid M c
   pub passed : Passed p (viewOf c)
   pub same : settledFrom M n (count - n) (viewOf c) ≡ settledFrom M 0 count (viewOf c₀)
 
-pub turning-none : (M : Model) → Facts M → (count : ℕ) (c : Config) → Sized c → Fine M c → Turning M count (c .time) (c .np) c 0 0 c
+pub turning-none : (M : Model) → Facts M → (count : ℕ) (c : Config) → Sized c → Valid M c → Turning M count (c .time) (c .nprocesses) c 0 0 c
 turning-none M fs count c s f =
     record {
       few = omega arith;
       high = omega arith;
       whole = refl;
-      most = omega (arith, np-is M c (f .reachable), fs .totals .processes);
+      most = omega (arith, nprocesses-is M c (f .reachable), fs .totals .processes);
       clock = refl;
       sized = s;
-      fine = f;
+      valid = f;
       passed = below-none _;
       same = ap (λ (k : ℕ). settledFrom M 0 k (viewOf c)) (omega arith);
     }
@@ -263,7 +263,7 @@ module _ {M : Model} {count now end : ℕ} {c₀ : Config} {p n : ℕ} {c : Conf
         most = t .most;
         clock = t .clock;
         sized = t .sized;
-        fine = t .fine;
+        valid = t .valid;
         passed = below-more _ _ (t .passed) (ready-in c p (omega (arith, t .whole)) ∙ ne-eqb _ 0 r);
         same = t .same;
       }
@@ -274,11 +274,11 @@ module _ {M : Model} {count now end : ℕ} {c₀ : Config} {p n : ℕ} {c : Conf
       record {
         few = omega arith;
         high = t .high;
-        whole = d .np ∙ t .whole;
+        whole = d .nprocesses ∙ t .whole;
         most = t .most;
         clock = d .time ∙ t .clock;
         sized = d .sized;
-        fine = d .to .fine;
+        valid = d .to .valid;
         passed = λ j b. rw (d .to .is, standing-stays M p j (viewOf c) (λ q. omega arith)) (t .passed j b);
         same = rw (d .to .is) (sym picked ∙ t .same);
       }
@@ -286,13 +286,13 @@ module _ {M : Model} {count now end : ℕ} {c₀ : Config} {p n : ℕ} {c : Conf
       picked : settledFrom M n (count - n) (viewOf c) ≡ settledFrom M (n + 1) (count - (n + 1)) (stepped M p (viewOf c))
       picked =
           let q : count - n ≡ suc (count - (n + 1)) = omega arith in
-          let l : p < length (M .processes) = omega (arith, t .whole, np-is M c (t .fine .reachable)) in
+          let l : p < length (M .processes) = omega (arith, t .whole, nprocesses-is M c (t .valid .reachable)) in
           rw (q, add-one n) (settle-turn M (viewOf c) n (count - suc n) p l (t .passed) ready)
 
   -- the loop is over: no more picks may be made, or no process is left
   module _ (o : (ltb n count && ltb p end) ≡ false) where
     total : end ≡ length (M .processes)
-    total = sym (t .whole) ∙ np-is M c (t .fine .reachable)
+    total = sym (t .whole) ∙ nprocesses-is M c (t .valid .reachable)
 
     rest : settledFrom M 0 count (viewOf c₀) ≡ record { picks = n; end = viewOf c }
     rest =
@@ -310,7 +310,7 @@ module _ {M : Model} {count now end : ℕ} {c₀ : Config} {p n : ℕ} {c : Conf
         any-same (λ p. eqb (getD (c .standings) p 0) 0) (λ p. isReady p (viewOf c)) end (λ j l. sym (ready-in c j (omega (arith, t .whole))))
         ∙ rw total (any-first (λ p. isReady p (viewOf c)) (length (M .processes)))
 
-    pub settle-end : (more : Bool) (byte : ℕ) → more ≡ anyBelow (λ p. eqb (getD (c .standings) p 0) 0) end → byte ≡ pick more 1 0
+    pub settle-end : (more : Bool) (byte : ℕ) → more ≡ anyBelow (λ p. eqb (getD (c .standings) p 0) 0) end → byte ≡ (more ⇒ 1 ∣ 0)
         → Answers M (record { refusal = 0; byte = byte; picks = n; value = 0; config = c }) (settled M count (viewOf c₀))
     unfolding outcomeOf settled
-    settle-end more byte a b = record { is = rw (rest, ← still, ← a) (rw b); fine = t .fine }
+    settle-end more byte a b = record { is = rw (rest, ← still, ← a) (rw b); valid = t .valid }

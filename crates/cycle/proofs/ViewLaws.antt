@@ -23,78 +23,78 @@ history-at l s k h = list-at (λ k. getD l (32 * s + k) 0) 0 32 k h
 
 -- the lists of the view are as long as the struct says, and their elements are those of the arrays
 module _ (c : Config) where
-  pub signals-long : length (viewOf c .signals) ≡ c .ns
+  pub signals-long : length (viewOf c .signals) ≡ c .nsignals
   unfolding viewOf
-  signals-long = list-length (historyOf (c .signals)) (c .ns)
+  signals-long = list-length (historyOf (c .signals)) (c .nsignals)
 
-  pub drivers-long : length (viewOf c .drivers) ≡ c .nd
+  pub drivers-long : length (viewOf c .drivers) ≡ c .ndrivers
   unfolding viewOf
-  drivers-long = list-length (driverView c) (c .nd)
+  drivers-long = list-length (driverView c) (c .ndrivers)
 
-  pub processes-long : length (viewOf c .processes) ≡ c .np
+  pub processes-long : length (viewOf c .processes) ≡ c .nprocesses
   unfolding viewOf
-  processes-long = list-length (processView c) (c .np)
+  processes-long = list-length (processView c) (c .nprocesses)
 
-  pub variables-long : length (viewOf c .variables) ≡ c .nv
+  pub variables-long : length (viewOf c .variables) ≡ c .nvariables
   unfolding viewOf
-  variables-long = list-length (λ a. getD (c .variables) a 0) (c .nv)
+  variables-long = list-length (λ a. getD (c .variables) a 0) (c .nvariables)
 
-  pub history-in : (s : ℕ) → s < c .ns → getD (viewOf c .signals) s [] ≡ historyOf (c .signals) s
+  pub history-in : (s : ℕ) → s < c .nsignals → getD (viewOf c .signals) s [] ≡ historyOf (c .signals) s
   unfolding viewOf
-  history-in s h = list-at (historyOf (c .signals)) [] (c .ns) s h
+  history-in s h = list-at (historyOf (c .signals)) [] (c .nsignals) s h
 
-  pub past-in : (s k : ℕ) → s < c .ns → k < 32 → pastOf (viewOf c .signals) s k ≡ getD (c .signals) (32 * s + k) 0
+  pub past-in : (s k : ℕ) → s < c .nsignals → k < 32 → pastOf (viewOf c .signals) s k ≡ getD (c .signals) (32 * s + k) 0
   past-in s k h l = rw (history-in s h) (history-at (c .signals) s k l)
 
-  pub driver-in : (k : ℕ) → k < c .nd → driverIn (viewOf c .drivers) k ≡ driverView c k
+  pub driver-in : (k : ℕ) → k < c .ndrivers → driverIn (viewOf c .drivers) k ≡ driverView c k
   unfolding viewOf
-  driver-in k h = list-at (driverView c) _ (c .nd) k h
+  driver-in k h = list-at (driverView c) _ (c .ndrivers) k h
 
-  pub pending-in : (k : ℕ) → k < c .nd → driverIn (viewOf c .drivers) k .pending ≡ pendingOf (c .time) (getD (c .drivers) k noDriver)
+  pub pending-in : (k : ℕ) → k < c .ndrivers → driverIn (viewOf c .drivers) k .pending ≡ pendingOf (c .time) (getD (c .drivers) k noDriver)
   unfolding driverView
   pending-in k h = ap (λ (d : DriverState). d .pending) (driver-in k h)
 
-  pub process-in : (p : ℕ) → p < c .np → processIn (viewOf c .processes) p ≡ processView c p
+  pub process-in : (p : ℕ) → p < c .nprocesses → processIn (viewOf c .processes) p ≡ processView c p
   unfolding viewOf
-  process-in p h = list-at (processView c) _ (c .np) p h
+  process-in p h = list-at (processView c) _ (c .nprocesses) p h
 
-  pub place-in : (p : ℕ) → p < c .np → processIn (viewOf c .processes) p .place ≡ getD (c .places) p 0
+  pub place-in : (p : ℕ) → p < c .nprocesses → processIn (viewOf c .processes) p .place ≡ getD (c .places) p 0
   unfolding processView
   place-in p h = ap (λ (q : ProcessState). q .place) (process-in p h)
 
-  pub standing-in : (p : ℕ) → p < c .np → processIn (viewOf c .processes) p .standing ≡ getD (c .standings) p 0
+  pub standing-in : (p : ℕ) → p < c .nprocesses → processIn (viewOf c .processes) p .standing ≡ getD (c .standings) p 0
   unfolding processView
   standing-in p h = ap (λ (q : ProcessState). q .standing) (process-in p h)
 
-  pub ready-in : (p : ℕ) → p < c .np → isReady p (viewOf c) ≡ eqb (getD (c .standings) p 0) 0
+  pub ready-in : (p : ℕ) → p < c .nprocesses → isReady p (viewOf c) ≡ eqb (getD (c .standings) p 0) 0
   unfolding isReady
   ready-in p h = rw (standing-in p h)
 
-  pub deadline-in : (p : ℕ) → p < c .np → processIn (viewOf c .processes) p .deadline ≡ deadlineOf (getD (c .deadlines) p 0)
+  pub deadline-in : (p : ℕ) → p < c .nprocesses → processIn (viewOf c .processes) p .deadline ≡ deadlineOf (getD (c .deadlines) p 0)
   unfolding processView
   deadline-in p h = ap (λ (q : ProcessState). q .deadline) (process-in p h)
 
-  pub fault-in : (p : ℕ) → p < c .np → processIn (viewOf c .processes) p .fault ≡ getD (c .faults) p 0
+  pub fault-in : (p : ℕ) → p < c .nprocesses → processIn (viewOf c .processes) p .fault ≡ getD (c .faults) p 0
   unfolding processView
   fault-in p h = ap (λ (q : ProcessState). q .fault) (process-in p h)
 
-  pub variable-in : (a : ℕ) → a < c .nv → getD (viewOf c .variables) a 0 ≡ getD (c .variables) a 0
+  pub variable-in : (a : ℕ) → a < c .nvariables → getD (viewOf c .variables) a 0 ≡ getD (c .variables) a 0
   unfolding viewOf
-  variable-in a h = list-at (λ a. getD (c .variables) a 0) 0 (c .nv) a h
+  variable-in a h = list-at (λ a. getD (c .variables) a 0) 0 (c .nvariables) a h
 
 -- the totals of the struct are the model's
 module _ (M : Model) (c : Config) (r : Reachable M (viewOf c)) where
-  pub ns-is : c .ns ≡ length (M .signals)
-  ns-is = sym (signals-long c) ∙ r .signals
+  pub nsignals-is : c .nsignals ≡ length (M .signals)
+  nsignals-is = sym (signals-long c) ∙ r .signals
 
-  pub nd-is : c .nd ≡ length (M .drivers)
-  nd-is = sym (drivers-long c) ∙ r .drivers
+  pub ndrivers-is : c .ndrivers ≡ length (M .drivers)
+  ndrivers-is = sym (drivers-long c) ∙ r .drivers
 
-  pub np-is : c .np ≡ length (M .processes)
-  np-is = sym (processes-long c) ∙ r .processes
+  pub nprocesses-is : c .nprocesses ≡ length (M .processes)
+  nprocesses-is = sym (processes-long c) ∙ r .processes
 
-  pub nv-is : c .nv ≡ length (M .variables)
-  nv-is = sym (variables-long c) ∙ r .variables
+  pub nvariables-is : c .nvariables ≡ length (M .variables)
+  nvariables-is = sym (variables-long c) ∙ r .variables
 
 -- a change of one variable
 pub variables-set : (vs : List ℕ) (n a v : ℕ) → a < length vs → listBelow (λ j. getD (set vs a v) j 0) n ≡ set (listBelow (λ j. getD vs j 0) n) a v
@@ -113,10 +113,10 @@ driverOf t currents drivers k = record { current = getD currents k 0; pending = 
 pub view-is : (c : Config) → viewOf c ≡ record {
   time = c .time;
   deltas = c .deltas;
-  signals = listBelow (historyOf (c .signals)) (c .ns);
-  drivers = listBelow (driverOf (c .time) (c .currents) (c .drivers)) (c .nd);
-  processes = listBelow (rowOf (c .places) (c .standings) (c .deadlines) (c .faults)) (c .np);
-  variables = listBelow (λ a. getD (c .variables) a 0) (c .nv);
+  signals = listBelow (historyOf (c .signals)) (c .nsignals);
+  drivers = listBelow (driverOf (c .time) (c .currents) (c .drivers)) (c .ndrivers);
+  processes = listBelow (rowOf (c .places) (c .standings) (c .deadlines) (c .faults)) (c .nprocesses);
+  variables = listBelow (λ a. getD (c .variables) a 0) (c .nvariables);
 }
 unfolding viewOf driverView processView
 view-is c = refl

@@ -12,7 +12,7 @@ use Rattle.cycle.specs.Configuration.{Transaction, DriverState}
 use Rattle.cycle.specs.Statements.{before, scheduled, overflows, driverAfter}
 use Rattle.cycle.specs.Steps.{taken, takenIn}
 use Rattle.cycle.specs.Orders.{timesIn}
-use Rattle.cycle.specs.Invariant.{ValueOf, lastDue, Rising, Values, DriverFine}
+use Rattle.cycle.specs.Invariant.{ValueOf, lastDue, Rising, Values, DriverValid}
 use Rattle.cycle.proofs.Lists.{All}
 
 -- all transactions of the waveform are before the time at
@@ -76,7 +76,7 @@ rising-later t s (x ∷ w) h r = (h .0, r .1, r .2)
 
 -- a driver whose pending transactions are all later than t
 abbrev Later : ℕ → ℕ → DriverState → Type 0
-Later ty t d = DriverFine ty t d × Rising (t + 1) (d .pending)
+Later ty t d = DriverValid ty t d × Rising (t + 1) (d .pending)
 
 taken-in : (ty t current : ℕ) (w : List Transaction) → ValueOf ty current → length w ≤ 8 → Rising t w → Values ty w → Later ty t (takenIn t current w)
 taken-in ty t current [] c l r v = (record { current = c; few = l; rising = r; values = v }, tt)
@@ -88,11 +88,11 @@ taken-in ty t current (x ∷ w) c l r v =
     (record { current = v .0; few = omega arith; rising = rising-from t (t + 1) w (omega arith) g; values = v .1 }, g))
     (λ e. (record { current = c; few = l; rising = r; values = v }, (omega (arith, r .0, eqb-false (x .time) t e), r .1, r .2)))
 
-module _ (ty t : ℕ) (d : DriverState) (f : DriverFine ty t d) where
-  pub driver-scheduled : (at v : ℕ) → t ≤ at → at ≤ lastDue → ValueOf ty v → DriverFine ty t (driverAfter at v d)
+module _ (ty t : ℕ) (d : DriverState) (f : DriverValid ty t d) where
+  pub driver-scheduled : (at v : ℕ) → t ≤ at → at ≤ lastDue → ValueOf ty v → DriverValid ty t (driverAfter at v d)
   unfolding driverAfter
   driver-scheduled at v h l k =
-      by-test (DriverFine ty t) (overflows (scheduled (d .pending) at v)) _ _ (λ e. f)
+      by-test (DriverValid ty t) (overflows (scheduled (d .pending) at v)) _ _ (λ e. f)
       (λ e.
       record {
         current = f .current;
@@ -102,9 +102,9 @@ module _ (ty t : ℕ) (d : DriverState) (f : DriverFine ty t d) where
       })
 
   -- a time step that does not pass the first
-  pub driver-later : (s : ℕ) → All (λ u. s ≤ u) (timesIn (d .pending)) → DriverFine ty s d
+  pub driver-later : (s : ℕ) → All (λ u. s ≤ u) (timesIn (d .pending)) → DriverValid ty s d
   driver-later s h = record { current = f .current; few = f .few; rising = rising-later t s (d .pending) h (f .rising); values = f .values }
 
-  pub driver-taken : DriverFine ty t (taken t d)
+  pub driver-taken : DriverValid ty t (taken t d)
   unfolding taken
   driver-taken = taken-in ty t (d .current) (d .pending) (f .current) (f .few) (f .rising) (f .values) .0

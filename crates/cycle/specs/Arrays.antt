@@ -5,19 +5,19 @@ use Prim.Native.Nat.{ℕ, _/_, _<_}
 use lib.Dec.{eqb}
 use lib.ListN.{getD}
 use Rattle.base.specs.Below.{joinBelow}
-use Rattle.base.specs.Cases.{pick}
+use Rattle.base.specs.Cases.{_∣_, _⇒_}
 use Rattle.model.specs.Records.{Model, signalAt, variableAt, processAt, driverAt}
 use Rattle.cycle.specs.Configuration.{first, resolvedOr}
-use Rattle.cycle.specs.View.{Fine, viewOf}
+use Rattle.cycle.specs.View.{Valid, viewOf}
 use Rattle.cycle.specs.declared.config.Config.{Config}
 
 -- entry i of the first n is f i
-pub record Has (f : ℕ → ℕ) (n : ℕ) (xs : List ℕ) : Type 0 where
+pub record EntriesAre (f : ℕ → ℕ) (n : ℕ) (xs : List ℕ) : Type 0 where
   pub at : (i : ℕ) → i < n → getD xs i 0 ≡ f i
 
 -- the current values of those of the first n drivers that drive signal s
 unfoldable pub drivingIn : Model → List ℕ → ℕ → ℕ → List ℕ
-drivingIn M currents s n = joinBelow (λ k. pick (eqb (driverAt M k .signal) s) (getD currents k 0 ∷ []) []) n
+drivingIn M currents s n = joinBelow (λ k. eqb (driverAt M k .signal) s ⇒ (getD currents k 0 ∷ []) ∣ []) n
 
 -- what the first configuration's arrays hold
 abbrev pub variableStart : Model → ℕ → ℕ
@@ -30,7 +30,7 @@ abbrev pub driverStart : Model → ℕ → ℕ
 driverStart M k = signalAt M (driverAt M k .signal) .start
 
 abbrev pub firstValue : Model → List ℕ → ℕ → ℕ → ℕ
-firstValue M currents nd s = resolvedOr (signalAt M s .start) (drivingIn M currents s nd)
+firstValue M currents ndrivers s = resolvedOr (signalAt M s .start) (drivingIn M currents s ndrivers)
 
 -- entry i of histories of 32 equal values
 abbrev pub valueAt : List ℕ → ℕ → ℕ
@@ -39,4 +39,4 @@ valueAt values i = getD values (i / 32) 0
 -- the struct holds the first configuration
 pub record FirstOf (M : Model) (r : Config) : Type 0 where
   pub is : viewOf r ≡ first M
-  pub fine : Fine M r
+  pub valid : Valid M r

@@ -9,7 +9,7 @@ use Prim.Native.Nat.{ℕ}
 use lib.Dec.{eqb}
 use lib.ListN.{length, getD, replicate}
 use Rattle.base.specs.Below.{joinBelow, listBelow}
-use Rattle.base.specs.Cases.{pick}
+use Rattle.base.specs.Cases.{_∣_, _⇒_}
 use Rattle.values.specs.Resolve.{resolutionOf}
 use Rattle.model.specs.Records.{Model, signalAt, driverAt}
 
@@ -68,7 +68,7 @@ empty = record { time = 0; deltas = 0; signals = []; drivers = []; processes = [
 
 -- the current value of driver k, where it drives signal s
 abbrev pub drivingBy : Model → List DriverState → ℕ → ℕ → List ℕ
-drivingBy M ds s k = pick (eqb (driverAt M k .signal) s) (driverIn ds k .current ∷ []) []
+drivingBy M ds s k = eqb (driverAt M k .signal) s ⇒ (driverIn ds k .current ∷ []) ∣ []
 
 -- the driving values of signal s: "all its drivers' current values"
 unfoldable pub drivingOf : Model → List DriverState → ℕ → List ℕ

@@ -6,14 +6,14 @@ use Prim.Native.Nat.{ℕ, _+_, _*_, _≤_, _<_}
 use lib.Dec.{eqb}
 use lib.ListN.{getD}
 use Rattle.base.specs.Below.{anyBelow}
-use Rattle.base.specs.Cases.{pick}
+use Rattle.base.specs.Cases.{_∣_, _⇒_}
 use Rattle.model.specs.Records.{Model, driverAt, statementAt}
 use Rattle.model.specs.Fields.{absent}
 use Rattle.model.specs.declared.records.StatementRecord.{StatementRecord}
 use Rattle.cycle.specs.Configuration.{ProcessState, resolvedOr, waiting}
 use Rattle.cycle.specs.Evaluation.{Environment, evalOf}
 use Rattle.cycle.specs.Steps.{inSet, deadlineDue, wakes, wokenBy}
-use Rattle.cycle.specs.Invariant.{ProcessFine}
+use Rattle.cycle.specs.Invariant.{ProcessValid}
 use Rattle.cycle.specs.View.{deadlineOf}
 use Rattle.cycle.specs.Arrays.{drivingIn}
 use Rattle.cycle.specs.declared.delta.Process.{Process}
@@ -27,14 +27,14 @@ pub record SetOf (f : ℕ → Bool) (set : ℕ) : Type 0 where
 unfoldable pub activeIn : Model → List ℕ → ℕ → ℕ → ℕ → Bool
 activeIn M due t n s = anyBelow (λ k. eqb (driverAt M k .signal) s && eqb (getD due k 0) t) n
 
--- the current value of signal s: where it is active, the resolution of the current values of the nd drivers
+-- the current value of signal s: where it is active, the resolution of the current values of the ndrivers drivers
 unfoldable pub currentAfter : Model → List ℕ → ℕ → ℕ → List ℕ → ℕ → ℕ
-currentAfter M currents nd active signals s =
-    pick (inSet active s) (resolvedOr (getD signals (32 * s) 0) (drivingIn M currents s nd)) (getD signals (32 * s) 0)
+currentAfter M currents ndrivers active signals s =
+    inSet active s ⇒ resolvedOr (getD signals (32 * s) 0) (drivingIn M currents s ndrivers) ∣ getD signals (32 * s) 0
 
 -- the first n signals have their new current values, all else is as it was, and the set has the signals that changed
-pub record ResolvedTo (M : Model) (currents : List ℕ) (nd active : ℕ) (old : List ℕ) (n : ℕ) (new : List ℕ) (set : ℕ) : Type 0 where
-  pub current : (s : ℕ) → s < n → getD new (32 * s) 0 ≡ currentAfter M currents nd active old s
+pub record ResolvedTo (M : Model) (currents : List ℕ) (ndrivers active : ℕ) (old : List ℕ) (n : ℕ) (new : List ℕ) (set : ℕ) : Type 0 where
+  pub current : (s : ℕ) → s < n → getD new (32 * s) 0 ≡ currentAfter M currents ndrivers active old s
   pub other : (s k : ℕ) → k < 32 → (k ≡ 0 → n ≤ s) → getD new (32 * s + k) 0 ≡ getD old (32 * s + k) 0
   pub changed : SetOf (λ s. not (eqb (getD old (32 * s) 0) (getD new (32 * s) 0))) set
 
@@ -48,22 +48,23 @@ entryOf ps p =
 
 -- "b, read on the new values, is true or absent": wokenIf by the number of b
 unfoldable pub wokenFor : Model → ℕ → Environment → ℕ → ProcessState → ProcessState
-wokenFor M p e b q = pick (eqb b absent) (wakes M p q) (wokenBy M p q (evalOf M e b))
+wokenFor M p e b q = eqb b absent ⇒ wakes M p q ∣ wokenBy M p q (evalOf M e b)
 
 -- "if its deadline is due, or a signal of its set changed value and b, read on the new values, is true or absent": `changed` is
 -- the set of the signals that changed, and e what b is read on
 unfoldable pub wokenIn : Model → ℕ → ℕ → ℕ → Environment → StatementRecord → ProcessState → ProcessState
 wokenIn M p t changed e s q =
-    pick (deadlineDue t q) (wakes M p q)
-    (pick (anyBelow (λ n. inSet (s .set) n && inSet changed n) 32) (wokenFor M p e (s .b) q) q)
+    deadlineDue t q ⇒ wakes M p q
+    ∣ anyBelow (λ n. inSet (s .set) n && inSet changed n) 32 ⇒ wokenFor M p e (s .b) q
+    ∣ q
 
 -- process p, whose state is q, after a delta step
 unfoldable pub afterDelta : Model → ℕ → ℕ → ℕ → Environment → ProcessState → ProcessState
-afterDelta M p t changed e q = pick (eqb (q .standing) waiting) (wokenIn M p t changed e (statementAt M (q .place)) q) q
+afterDelta M p t changed e q = eqb (q .standing) waiting ⇒ wokenIn M p t changed e (statementAt M (q .place)) q ∣ q
 
--- the first n processes are fine
-pub record ProcessesFine (M : Model) (t n : ℕ) (ps : Processes) : Type 0 where
-  pub at : (p : ℕ) → p < n → ProcessFine M p t (stateOf (entryOf ps p))
+-- the first n processes are valid
+pub record ProcessesValid (M : Model) (t n : ℕ) (ps : Processes) : Type 0 where
+  pub at : (p : ℕ) → p < n → ProcessValid M p t (stateOf (entryOf ps p))
 
 -- the first n processes are those after a delta step, and the entries past them stay
 pub record WokenTo (M : Model) (t changed : ℕ) (e : Environment) (n : ℕ) (ps r : Processes) : Type 0 where

@@ -6,7 +6,7 @@ use Prim.Native.Nat.{ℕ, _≤_, _<_, min}
 use lib.Dec.{eqb, ltb, leb}
 use lib.ListN.{getD}
 use Rattle.base.specs.Below.{anyBelow, listBelow}
-use Rattle.base.specs.Cases.{pick}
+use Rattle.base.specs.Cases.{_∣_, _⇒_}
 use Rattle.cycle.specs.Configuration.{ready, stopped}
 use Rattle.cycle.specs.Orders.{least}
 use Rattle.cycle.specs.Invariant.{lastTime}
@@ -17,28 +17,29 @@ use Rattle.cycle.specs.declared.due.Due.{Due}
 abbrev pub soonestOf : List ℕ → ℕ → ℕ
 soonestOf times n = least never (listBelow (λ k. getD times k 0) n)
 
--- the earliest of the first times of nd drivers and the deadlines of np processes
+-- the earliest of the first times of ndrivers drivers and the deadlines of nprocesses processes
 abbrev pub soonestIn : List ℕ → ℕ → List ℕ → ℕ → ℕ
-soonestIn due nd deadlines np = min (soonestOf due nd) (soonestOf deadlines np)
+soonestIn due ndrivers deadlines nprocesses = min (soonestOf due ndrivers) (soonestOf deadlines nprocesses)
 
 -- none of the first n times is before t
 abbrev pub NoneBefore : ℕ → List ℕ → ℕ → Type 0
 NoneBefore t times n = (k : ℕ) → k < n → t ≤ getD times k 0
 
--- one of np processes has standing x
+-- one of nprocesses processes has standing x
 abbrev pub someIs : List ℕ → ℕ → ℕ → Bool
-someIs standings np x = anyBelow (λ p. eqb (getD standings p 0) x) np
+someIs standings nprocesses x = anyBelow (λ p. eqb (getD standings p 0) x) nprocesses
 
 -- refusals 14 to 18 in their order, or 0, where t is the earliest due time
 unfoldable pub refusalIn : List ℕ → ℕ → ℕ → ℕ → ℕ → ℕ
-refusalIn standings np t time deltas =
-    pick (someIs standings np ready) 14
-    (pick (someIs standings np stopped) 15
-    (pick (eqb t time) (pick (leb 1000 deltas) 16 0)
-    (pick (eqb t never) 17
-    (pick (ltb lastTime t) 18 0))))
+refusalIn standings nprocesses t time deltas =
+    someIs standings nprocesses ready ⇒ 14
+    ∣ someIs standings nprocesses stopped ⇒ 15
+    ∣ eqb t time ⇒ (leb 1000 deltas ⇒ 16 ∣ 0)
+    ∣ eqb t never ⇒ 17
+    ∣ ltb lastTime t ⇒ 18
+    ∣ 0
 
 -- r has the earliest due time, and the refusal of an advance or 0
-pub record DueIn (standings due deadlines : List ℕ) (np nd time deltas : ℕ) (r : Due) : Type 0 where
-  pub earliest : r .time ≡ soonestIn due nd deadlines np
-  pub refusal : r .refusal ≡ refusalIn standings np (r .time) time deltas
+pub record DueIn (standings due deadlines : List ℕ) (nprocesses ndrivers time deltas : ℕ) (r : Due) : Type 0 where
+  pub earliest : r .time ≡ soonestIn due ndrivers deadlines nprocesses
+  pub refusal : r .refusal ≡ refusalIn standings nprocesses (r .time) time deltas

@@ -10,7 +10,7 @@ use lib.IntN.{ℤ, natAbs, negℤ, _+ℤ_, _-ℤ_}
 use lib.Signed.{ltZ}
 use mir.Syntax.{w32}
 use mir.Val.{toZ, ofZ}
-use Rattle.base.specs.Cases.{pick, _∣_, _is_⇒_}
+use Rattle.base.specs.Cases.{_∣_, _⇒_, _is_⇒_}
 use Rattle.base.specs.Course.{course}
 use Rattle.values.specs.Operators.{notOf, andOf, orOf, xorOf}
 use Rattle.model.specs.Records.{Model, nodeAt}
@@ -40,7 +40,7 @@ int x = toZ w32 x
 
 -- "Integers run from -2,147,483,647 to 2,147,483,647"; fault 1: "an integer out of range"
 unfoldable pub ranged : ℤ → Value
-ranged z = pick (ltb (natAbs z) 2147483648) (Of (ofZ w32 z)) (Fault 1)
+ranged z = ltb (natAbs z) 2147483648 ⇒ Of (ofZ w32 z) ∣ Fault 1
 
 unfoldable pub negateOf : ℕ → Value
 negateOf x = ranged (negℤ (int x))
@@ -68,7 +68,7 @@ two p q f = one p (λ x. one q (λ y. f x y))
 
 -- "boolean `and` and `or` skip b when a decides": a false decides `and`, a true `or`; else b is the value
 abbrev pub unlessFirst : ℕ → Value → Value → Value
-unlessFirst decides p q = one p (λ x. pick (eqb x decides) (Of x) q)
+unlessFirst decides p q = one p (λ x. eqb x decides ⇒ Of x ∣ q)
 
 -- b is not evaluated: a is a fault, or a boolean that decides
 abbrev pub decidedBy : ℕ → Value → ℕ → Bool
@@ -77,16 +77,16 @@ decidedBy ty (Of x) decides = eqb ty boolean && eqb x decides
 
 -- "6 to 9 take logic or boolean, both alike": by the node's type
 abbrev pub notBy : ℕ → Value → Value
-notBy ty p = pick (eqb ty boolean) (one p (λ x. Of (truth (eqb x 0)))) (one p (λ x. Of (notOf x)))
+notBy ty p = eqb ty boolean ⇒ one p (λ x. Of (truth (eqb x 0))) ∣ one p (λ x. Of (notOf x))
 
 abbrev pub andBy : ℕ → Value → Value → Value
-andBy ty p q = pick (eqb ty boolean) (unlessFirst 0 p q) (two p q (λ x y. Of (andOf x y)))
+andBy ty p q = eqb ty boolean ⇒ unlessFirst 0 p q ∣ two p q (λ x y. Of (andOf x y))
 
 abbrev pub orBy : ℕ → Value → Value → Value
-orBy ty p q = pick (eqb ty boolean) (unlessFirst 1 p q) (two p q (λ x y. Of (orOf x y)))
+orBy ty p q = eqb ty boolean ⇒ unlessFirst 1 p q ∣ two p q (λ x y. Of (orOf x y))
 
 abbrev pub xorBy : ℕ → Value → Value → Value
-xorBy ty p q = pick (eqb ty boolean) (two p q (λ x y. Of (truth (not (eqb x y))))) (two p q (λ x y. Of (xorOf x y)))
+xorBy ty p q = eqb ty boolean ⇒ two p q (λ x y. Of (truth (not (eqb x y)))) ∣ two p q (λ x y. Of (xorOf x y))
 
 -- the value of node d of type ty, p and q being those of its operands. An accepted model has no other kind.
 unfoldable pub valueBy : Environment → NodeRecord → ℕ → Value → Value → Value

@@ -32,17 +32,17 @@ abbrev pub Values : ℕ → List Transaction → Type 0
 Values ty [] = Unit {0}
 Values ty (x ∷ w) = ValueOf ty (x .value) × Values ty w
 
-pub record DriverFine (ty t : ℕ) (d : DriverState) : Type 0 where
+pub record DriverValid (ty t : ℕ) (d : DriverState) : Type 0 where
   pub current : ValueOf ty (d .current)
   pub few : length (d .pending) ≤ 8
   pub rising : Rising t (d .pending)
   pub values : Values ty (d .pending)
 
-abbrev pub DeadlineFine : ℕ → Option ℕ → Type 0
-DeadlineFine t none = Unit {0}
-DeadlineFine t (some d) = (t ≤ d) × (d ≤ lastDue)
+abbrev pub DeadlineValid : ℕ → Option ℕ → Type 0
+DeadlineValid t none = Unit {0}
+DeadlineValid t (some d) = (t ≤ d) × (d ≤ lastDue)
 
-pub record ProcessFine (M : Model) (p t : ℕ) (q : ProcessState) : Type 0 where
+pub record ProcessValid (M : Model) (p t : ℕ) (q : ProcessState) : Type 0 where
   -- its place is one of its statements
   pub from : processAt M p .first ≤ q .place
   pub within : q .place < endOf M p
@@ -52,7 +52,7 @@ pub record ProcessFine (M : Model) (p t : ℕ) (q : ProcessState) : Type 0 where
   pub at-wait : q .standing ≡ waiting → statementAt M (q .place) .kind ≡ 5
   -- a ready process has no deadline
   pub no-deadline : q .standing ≡ ready → q .deadline ≡ none
-  pub deadline : DeadlineFine t (q .deadline)
+  pub deadline : DeadlineValid t (q .deadline)
 
 pub record Reachable (M : Model) (c : Configuration) : Type 0 where
   pub time : c .time ≤ lastTime
@@ -61,9 +61,9 @@ pub record Reachable (M : Model) (c : Configuration) : Type 0 where
   pub histories : (s : ℕ) → s < length (M .signals) → length (getD (c .signals) s []) ≡ 32
   pub signal-values : (s k : ℕ) → s < length (M .signals) → k < 32 → ValueOf (signalAt M s .ty) (pastOf (c .signals) s k)
   pub drivers : length (c .drivers) ≡ length (M .drivers)
-  pub each-driver : (k : ℕ) → k < length (M .drivers) → DriverFine (signalAt M (driverAt M k .signal) .ty) (c .time) (driverIn (c .drivers) k)
+  pub each-driver : (k : ℕ) → k < length (M .drivers) → DriverValid (signalAt M (driverAt M k .signal) .ty) (c .time) (driverIn (c .drivers) k)
   pub processes : length (c .processes) ≡ length (M .processes)
-  pub each-process : (p : ℕ) → p < length (M .processes) → ProcessFine M p (c .time) (processIn (c .processes) p)
+  pub each-process : (p : ℕ) → p < length (M .processes) → ProcessValid M p (c .time) (processIn (c .processes) p)
   pub variables : length (c .variables) ≡ length (M .variables)
   pub variable-values : (a : ℕ) → a < length (M .variables) → ValueOf (variableAt M a .ty) (getD (c .variables) a 0)
 

@@ -6,7 +6,7 @@ use Prim.Native.Nat.{ℕ, zero, suc, _+_, min}
 use lib.Dec.{eqb, ltb, leb}
 use lib.ListN.{length, getD}
 use Rattle.base.specs.Below.{anyBelow, joinBelow}
-use Rattle.base.specs.Cases.{pick}
+use Rattle.base.specs.Cases.{_∣_, _⇒_}
 use Rattle.base.specs.Course.{firstWith}
 use Rattle.model.specs.Records.{Model}
 use Rattle.cycle.specs.Configuration.{Transaction, DriverState, ProcessState, Configuration, driverIn, processIn, currentOf, ready, stopped}
@@ -40,9 +40,9 @@ pickDone p c =
 -- 12. "Pick: no such process." 13. "Pick: not ready."
 unfoldable pub picked : Model → ℕ → Configuration → Outcome
 picked M p c =
-    pick (leb (length (M .processes)) p) (refused 12 c)
-    (pick (not (isReady p c)) (refused 13 c)
-    (pickDone p (stepped M p c)))
+    leb (length (M .processes)) p ⇒ refused 12 c
+    ∣ not (isReady p c) ⇒ refused 13 c
+    ∣ pickDone p (stepped M p c)
 
 -- the times at which a transaction or a deadline is due: a driver's first transaction is its earliest
 abbrev pub timesIn : List Transaction → List ℕ
@@ -79,20 +79,20 @@ advanceDone n c = record { refusal = 0; byte = n; picks = 0; value = 0; after = 
 
 -- 16. "Something due now after 1,000 delta steps at this time."
 abbrev pub deltaOrder : Model → Configuration → Outcome
-deltaOrder M c = pick (leb 1000 (c .deltas)) (refused 16 c) (advanceDone 1 (deltaStep M c))
+deltaOrder M c = leb 1000 (c .deltas) ⇒ refused 16 c ∣ advanceDone 1 (deltaStep M c)
 
 -- 17. "Nothing is ever due." 18. "The time step would pass 1,000,000,000,000."
 abbrev pub timeOrder : Option ℕ → Configuration → Outcome
 timeOrder none c = refused 17 c
-timeOrder (some t) c = pick (ltb 1000000000000 t) (refused 18 c) (advanceDone 2 (timeStep t c))
+timeOrder (some t) c = ltb 1000000000000 t ⇒ refused 18 c ∣ advanceDone 2 (timeStep t c)
 
 -- 14. "Advance: a process is ready." 15. "Advance: one is stopped."
 unfoldable pub advanced : Model → Configuration → Outcome
 advanced M c =
-    pick (anyBelow (λ p. isReady p c) (length (M .processes))) (refused 14 c)
-    (pick (anyBelow (λ p. isStopped p c) (length (M .processes))) (refused 15 c)
-    (pick (dueNow M c) (deltaOrder M c)
-    (timeOrder (earliest (dueTimes M c)) c)))
+    anyBelow (λ p. isReady p c) (length (M .processes)) ⇒ refused 14 c
+    ∣ anyBelow (λ p. isStopped p c) (length (M .processes)) ⇒ refused 15 c
+    ∣ dueNow M c ⇒ deltaOrder M c
+    ∣ timeOrder (earliest (dueTimes M c)) c
 
 -- the lowest ready process, or the number of processes where none is ready
 unfoldable pub lowestReady : Model → Configuration → ℕ
@@ -106,16 +106,15 @@ pub record Settled : Type 0 where
 unfoldable pub settledFrom : Model → ℕ → ℕ → Configuration → Settled
 settledFrom M k zero c = record { picks = k; end = c }
 settledFrom M k (suc n) c =
-    pick (ltb (lowestReady M c) (length (M .processes)))
-    (settledFrom M (suc k) n (stepped M (lowestReady M c) c))
-    (record { picks = k; end = c })
+    ltb (lowestReady M c) (length (M .processes)) ⇒ settledFrom M (suc k) n (stepped M (lowestReady M c) c)
+    ∣ record { picks = k; end = c }
 
 -- "for settle 0 when none is ready, else 1"
 abbrev pub settleDone : Model → Settled → Outcome
 settleDone M s =
     record {
       refusal = 0;
-      byte = pick (ltb (lowestReady M (s .end)) (length (M .processes))) 1 0;
+      byte = ltb (lowestReady M (s .end)) (length (M .processes)) ⇒ 1 ∣ 0;
       picks = s .picks;
       value = 0;
       after = s .end;
@@ -127,5 +126,5 @@ settled M n c = settleDone M (settledFrom M 0 n c)
 -- 19. "Read: no such signal." Else the value read.
 unfoldable pub readOf : Model → ℕ → Configuration → Outcome
 readOf M s c =
-    pick (leb (length (M .signals)) s) (refused 19 c)
-    (record { refusal = 0; byte = 0; picks = 0; value = currentOf (c .signals) s; after = c })
+    leb (length (M .signals)) s ⇒ refused 19 c
+    ∣ record { refusal = 0; byte = 0; picks = 0; value = currentOf (c .signals) s; after = c }

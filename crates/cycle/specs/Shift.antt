@@ -19,8 +19,8 @@ MovedBy old base n new = Between (λ j. getD old (j - n) 0) old (base + n) (base
 abbrev pub FilledTo : List ℕ → ℕ → ℕ → List ℕ → Type 0
 FilledTo old base n new = Between (λ j. getD old base 0) old base (base + n + 1) new
 
--- in the histories of the first ns signals each entry has the value that stood n entries before it in the same history, or the
+-- in the histories of the first nsignals signals each entry has the value that stood n entries before it in the same history, or the
 -- history's first; all other entries stand
-pub record ShiftedBy (old : List ℕ) (n ns : ℕ) (new : List ℕ) : Type 0 where
-  pub done : (j : ℕ) → j < 32 * ns → getD new j 0 ≡ getD old (j - min (j % 32) n) 0
-  pub left : (j : ℕ) → 32 * ns ≤ j → getD new j 0 ≡ getD old j 0
+pub record ShiftedBy (old : List ℕ) (n nsignals : ℕ) (new : List ℕ) : Type 0 where
+  pub done : (j : ℕ) → j < 32 * nsignals → getD new j 0 ≡ getD old (j - min (j % 32) n) 0
+  pub left : (j : ℕ) → 32 * nsignals ≤ j → getD new j 0 ≡ getD old j 0

@@ -9,7 +9,7 @@ use lib.Dec.{eqb, ltb}
 use lib.ListN.{length, getD, set}
 use lib.IntN.{ℤ, pos, natAbs}
 use lib.Signed.{ltZ}
-use Rattle.base.specs.Cases.{pick, _∣_, _is_⇒_}
+use Rattle.base.specs.Cases.{_∣_, _⇒_, _is_⇒_}
 use Rattle.model.specs.Records.{Model, processAt, statementAt}
 use Rattle.model.specs.Fields.{absent, endOf}
 use Rattle.model.specs.Owners.{driverFor}
@@ -28,7 +28,7 @@ withValue (Of x) next = next x
 
 -- what follows a delay of 0 or more; fault 2: "c negative"
 unfoldable pub withDelay : Value → (ℕ → Effect) → Effect
-withDelay v next = withValue v (λ x. pick (ltZ (int x) (pos 0)) (Stop 2) (next (natAbs (int x))))
+withDelay v next = withValue v (λ x. ltZ (int x) (pos 0) ⇒ Stop 2 ∣ next (natAbs (int x)))
 
 -- what statement s of process p does. Kind 2 "works out b, then c"; kind 5 "works out c once".
 unfoldable pub effectBy : Model → Environment → ℕ → StatementRecord → Effect
@@ -36,9 +36,9 @@ effectBy M e p s =
     s .kind is 0 ⇒ Skip
     ∣ s .kind is 1 ⇒ withValue (evalOf M e (s .b)) (λ v. Store (s .a) v)
     ∣ s .kind is 2 ⇒ withValue (evalOf M e (s .b)) (λ v. withDelay (evalOf M e (s .c)) (λ c. Schedule (driverFor M p (s .a)) c v))
-    ∣ s .kind is 3 ⇒ withValue (evalOf M e (s .b)) (λ v. pick (eqb v 0) (Jump (s .a)) Skip)
+    ∣ s .kind is 3 ⇒ withValue (evalOf M e (s .b)) (λ v. eqb v 0 ⇒ Jump (s .a) ∣ Skip)
     ∣ s .kind is 4 ⇒ Jump (s .a)
-    ∣ s .kind is 5 ⇒ pick (eqb (s .c) absent) Wait (withDelay (evalOf M e (s .c)) WaitFor)
+    ∣ s .kind is 5 ⇒ (eqb (s .c) absent ⇒ Wait ∣ withDelay (evalOf M e (s .c)) WaitFor)
     ∣ Skip
 
 -- the effect of the statement at process p's place
@@ -49,7 +49,7 @@ effectOf M c p =
 -- the pending transactions before the time at
 unfoldable pub before : ℕ → List Transaction → List Transaction
 before at [] = []
-before at (x ∷ w) = pick (ltb (x .time) at) (x ∷ before at w) (before at w)
+before at (x ∷ w) = ltb (x .time) at ⇒ (x ∷ before at w) ∣ before at w
 
 -- "removes pending transactions at time + c or later, and adds one there"
 unfoldable pub scheduled : List Transaction → ℕ → ℕ → List Transaction
@@ -61,7 +61,7 @@ overflows w = ltb 8 (length w)
 
 -- "the last statement is followed by the first"
 unfoldable pub nextPlace : Model → ℕ → ℕ → ℕ
-nextPlace M p i = pick (ltb (i + 1) (endOf M p)) (i + 1) (processAt M p .first)
+nextPlace M p i = ltb (i + 1) (endOf M p) ⇒ (i + 1) ∣ processAt M p .first
 
 abbrev pub moved : ProcessState → ℕ → ProcessState
 moved q to = record { place = to; standing = q .standing; deadline = q .deadline; fault = q .fault }
@@ -78,7 +78,7 @@ stops q f = record { place = q .place; standing = stopped; deadline = q .deadlin
 abbrev pub processAfter : Effect → Bool → ℕ → ℕ → ProcessState → ProcessState
 processAfter Skip full t next q = moved q next
 processAfter (Store a v) full t next q = moved q next
-processAfter (Schedule k d v) full t next q = pick full (stops q 3) (moved q next)
+processAfter (Schedule k d v) full t next q = full ⇒ stops q 3 ∣ moved q next
 processAfter (Jump a) full t next q = moved q a
 processAfter Wait full t next q = waits q none
 processAfter (WaitFor d) full t next q = waits q (some (t + d))
@@ -108,7 +108,7 @@ withPending d w = record { current = d .current; pending = w }
 
 -- driver k with the transaction, unless that overflows
 unfoldable pub driverAfter : ℕ → ℕ → DriverState → DriverState
-driverAfter at v d = pick (overflows (scheduled (d .pending) at v)) d (withPending d (scheduled (d .pending) at v))
+driverAfter at v d = overflows (scheduled (d .pending) at v) ⇒ d ∣ withPending d (scheduled (d .pending) at v)
 
 abbrev pub driversAfter : Effect → ℕ → List DriverState → List DriverState
 driversAfter Skip t ds = ds

@@ -6,7 +6,7 @@ use Prim.Native.Nat.{ℕ, zero, suc, _+_, _-_, _/_, _%_, _^_, min}
 use lib.Dec.{eqb, ltb, leb}
 use lib.ListN.{length, getD, take, replicate}
 use Rattle.base.specs.Below.{allBelow, anyBelow, joinBelow, listBelow}
-use Rattle.base.specs.Cases.{pick}
+use Rattle.base.specs.Cases.{_∣_, _⇒_}
 use Rattle.model.specs.Records.{Model, driverAt, statementAt}
 use Rattle.model.specs.Fields.{absent}
 use Rattle.model.specs.declared.records.StatementRecord.{StatementRecord}
@@ -28,7 +28,7 @@ transactionDue t d = dueIn t (d .pending)
 abbrev pub takenIn : ℕ → ℕ → List Transaction → DriverState
 takenIn t current [] = record { current = current; pending = [] }
 takenIn t current (x ∷ w) =
-    pick (eqb (x .time) t) (record { current = x .value; pending = w }) (record { current = current; pending = x ∷ w })
+    eqb (x .time) t ⇒ record { current = x .value; pending = w } ∣ record { current = current; pending = x ∷ w }
 
 -- "Each due transaction becomes its driver's current value and leaves"
 unfoldable pub taken : ℕ → DriverState → DriverState
@@ -54,9 +54,9 @@ withCurrent v (x ∷ past) = v ∷ past
 -- "each signal with such a driver becomes the resolution of all its drivers' current values"
 unfoldable pub signalAfter : Model → Configuration → ℕ → List ℕ
 signalAfter M c s =
-    pick (active M (c .time) (c .drivers) s)
-    (withCurrent (resolvedOr (currentOf (c .signals) s) (drivingOf M (map (taken (c .time)) (c .drivers)) s)) (getD (c .signals) s []))
-    (getD (c .signals) s [])
+    active M (c .time) (c .drivers) s
+    ⇒ withCurrent (resolvedOr (currentOf (c .signals) s) (drivingOf M (map (taken (c .time)) (c .drivers)) s)) (getD (c .signals) s [])
+    ∣ getD (c .signals) s []
 
 unfoldable pub signalsAfter : Model → Configuration → List (List ℕ)
 signalsAfter M c = listBelow (signalAfter M c) (length (M .signals))
@@ -76,24 +76,25 @@ wakes M p q = record { place = nextPlace M p (q .place); standing = ready; deadl
 -- by the value of b: true wakes it; "A fault in b stops it, its place and deadline kept"
 abbrev pub wokenBy : Model → ℕ → ProcessState → Value → ProcessState
 wokenBy M p q (Fault f) = stops q f
-wokenBy M p q (Of x) = pick (eqb x 1) (wakes M p q) q
+wokenBy M p q (Of x) = eqb x 1 ⇒ wakes M p q ∣ q
 
 -- "b, read on the new values, is true or absent"
 unfoldable pub wokenIf : Model → ℕ → Environment → StatementRecord → ProcessState → ProcessState
-wokenIf M p e s q = pick (eqb (s .b) absent) (wakes M p q) (wokenBy M p q (evalOf M e (s .b)))
+wokenIf M p e s q = eqb (s .b) absent ⇒ wakes M p q ∣ wokenBy M p q (evalOf M e (s .b))
 
 -- "b is worked out only when such a change occurred and no deadline is due"
 unfoldable pub wokenAt : Model → ℕ → Configuration → List (List ℕ) → StatementRecord → ProcessState → ProcessState
 wokenAt M p c new s q =
-    pick (deadlineDue (c .time) q) (wakes M p q)
-    (pick (changedIn M (s .set) (c .signals) new) (wokenIf M p (environmentOf (c .variables) new) s q) q)
+    deadlineDue (c .time) q ⇒ wakes M p q
+    ∣ changedIn M (s .set) (c .signals) new ⇒ wokenIf M p (environmentOf (c .variables) new) s q
+    ∣ q
 
 -- process p after a delta step that gave the signals the values new
 unfoldable pub processAfterDelta : Model → Configuration → List (List ℕ) → ℕ → ProcessState
 processAfterDelta M c new p =
-    pick (eqb (processIn (c .processes) p .standing) waiting)
-    (wokenAt M p c new (statementAt M (processIn (c .processes) p .place)) (processIn (c .processes) p))
-    (processIn (c .processes) p)
+    eqb (processIn (c .processes) p .standing) waiting
+    ⇒ wokenAt M p c new (statementAt M (processIn (c .processes) p .place)) (processIn (c .processes) p)
+    ∣ processIn (c .processes) p
 
 unfoldable pub deltaStep : Model → Configuration → Configuration
 deltaStep M c =

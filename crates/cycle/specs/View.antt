@@ -6,7 +6,7 @@ use Prim.Native.Nat.{ℕ, _+_, _*_, _<_}
 use lib.Dec.{eqb}
 use lib.ListN.{getD}
 use Rattle.base.specs.Below.{listBelow}
-use Rattle.base.specs.Cases.{pick}
+use Rattle.base.specs.Cases.{_∣_, _⇒_}
 use Rattle.model.specs.Records.{Model, modelOf}
 use Rattle.model.specs.Facts.{Facts}
 use Rattle.model.specs.Index.{Usable}
@@ -32,7 +32,7 @@ abbrev pub noDriver : Driver
 noDriver = record { times = []; values = []; count = 0 }
 
 abbrev pub deadlineOf : ℕ → Option ℕ
-deadlineOf t = pick (eqb t never) none (some t)
+deadlineOf t = eqb t never ⇒ none ∣ some t
 
 -- signal s of 0 to 31 units ago: entries 32 * s to 32 * s + 31
 unfoldable pub historyOf : List ℕ → ℕ → List ℕ
@@ -56,10 +56,10 @@ viewOf c =
     record {
       time = c .time;
       deltas = c .deltas;
-      signals = listBelow (historyOf (c .signals)) (c .ns);
-      drivers = listBelow (driverView c) (c .nd);
-      processes = listBelow (processView c) (c .np);
-      variables = listBelow (λ a. getD (c .variables) a 0) (c .nv);
+      signals = listBelow (historyOf (c .signals)) (c .nsignals);
+      drivers = listBelow (driverView c) (c .ndrivers);
+      processes = listBelow (processView c) (c .nprocesses);
+      variables = listBelow (λ a. getD (c .variables) a 0) (c .nvariables);
     }
 
 -- what expressions read from the struct's arrays
@@ -77,14 +77,14 @@ pub record Runs (m index : List ℕ) : Type 0 where
   pub facts : Facts (modelOf m)
 
 -- what holds of the struct between orders: its view is reachable, and `due` has the first pending times
-pub record Fine (M : Model) (c : Config) : Type 0 where
+pub record Valid (M : Model) (c : Config) : Type 0 where
   pub reachable : Reachable M (viewOf c)
-  pub due : (k : ℕ) → k < c .nd → getD (c .due) k 0 ≡ firstTime (pendingOf (c .time) (getD (c .drivers) k noDriver))
+  pub due : (k : ℕ) → k < c .ndrivers → getD (c .due) k 0 ≡ firstTime (pendingOf (c .time) (getD (c .drivers) k noDriver))
 
 -- the struct r holds the configuration after a pick of process p
 pub record StepsTo (M : Model) (p : ℕ) (c r : Config) : Type 0 where
   pub is : viewOf r ≡ stepped M p (viewOf c)
-  pub fine : Fine M r
+  pub valid : Valid M r
 
 unfoldable pub outcomeOf : Answered → Outcome
 outcomeOf r = record { refusal = r .refusal; byte = r .byte; picks = r .picks; value = r .value; after = viewOf (r .config) }
@@ -92,8 +92,8 @@ outcomeOf r = record { refusal = r .refusal; byte = r .byte; picks = r .picks; v
 -- the answer and the configuration are those of the rules
 pub record Answers (M : Model) (r : Answered) (o : Outcome) : Type 0 where
   pub is : outcomeOf r ≡ o
-  pub fine : Fine M (r .config)
+  pub valid : Valid M (r .config)
 
 -- the same of every model that the configuration can be one of
 abbrev pub AnswersEach : Config → Answered → (Model → Outcome) → Type 0
-AnswersEach c r o = (M : Model) → Fine M c → Answers M r (o M)
+AnswersEach c r o = (M : Model) → Valid M c → Answers M r (o M)

@@ -1,7 +1,7 @@
 // Advance: a delta step where something is due now, else a time step. One method, in place: a configuration is large to copy.
 ghost use Rattle.model.specs.Records.{modelOf};
 ghost use Rattle.cycle.specs.Orders.{advanced};
-ghost use Rattle.cycle.specs.View.{viewOf, Runs, Fine, Answers};
+ghost use Rattle.cycle.specs.View.{viewOf, Runs, Valid, Answers};
 use crate::config::Config;
 use crate::delta::Processes;
 use crate::delta::actives;
@@ -14,15 +14,15 @@ use crate::time::shift;
 impl Config {
     pub fn advance<'a>(mut self, m: &'a [u8], index: &'a [u16; 1376]) -> Answered
         requires { ⌜ Runs (now m) (now index) ⌝ }
-        requires { ⌜ Fine (modelOf (now m)) self ⌝ }
+        requires { ⌜ Valid (modelOf (now m)) self ⌝ }
         ensures { λ r. ⌜ Answers (modelOf (now (m .entry))) r (advanced (modelOf (now (m .entry))) (viewOf self)) ⌝ }
     {
         let due = next_due(
             &self.standings,
             &self.due,
             &self.deadlines,
-            self.np,
-            self.nd,
+            self.nprocesses,
+            self.ndrivers,
             self.time,
             self.deltas,
         );
@@ -33,13 +33,13 @@ impl Config {
         let t = due.time;
         if t == self.time {
             // Each due transaction becomes its driver's current value and leaves; then the signals, then the processes.
-            let ns = self.ns;
-            let nd = self.nd;
-            let np = self.np;
+            let nsignals = self.nsignals;
+            let ndrivers = self.ndrivers;
+            let nprocesses = self.nprocesses;
             let time = self.time;
-            let active = actives(m, index, &self.due, nd, time);
+            let active = actives(m, index, &self.due, ndrivers, time);
             let mut k = 0;
-            while k < nd {
+            while k < ndrivers {
                 if self.due[k] == time {
                     let d = self.drivers[k];
                     let e = d.without_first();
@@ -50,7 +50,15 @@ impl Config {
                 k += 1;
             }
             let currents = self.currents;
-            let changed = resolve(m, index, &currents, nd, active, &mut self.signals, ns);
+            let changed = resolve(
+                m,
+                index,
+                &currents,
+                ndrivers,
+                active,
+                &mut self.signals,
+                nsignals,
+            );
             let places = self.places;
             let standings = self.standings;
             let deadlines = self.deadlines;
@@ -68,7 +76,7 @@ impl Config {
                 &self.signals,
                 changed,
                 time,
-                np,
+                nprocesses,
                 ps,
             );
             let woken_places = r.places;
@@ -89,12 +97,12 @@ impl Config {
             };
         }
         // The step to the earliest due time: the past of each signal shifts and pending times come nearer by the units passed.
-        let ns = self.ns;
+        let nsignals = self.nsignals;
         let passed = t - self.time;
-        shift(&mut self.signals, ns, passed);
-        let nd = self.nd;
+        shift(&mut self.signals, nsignals, passed);
+        let ndrivers = self.ndrivers;
         let mut k = 0;
-        while k < nd {
+        while k < ndrivers {
             let d = self.drivers[k];
             let e = d.elapsed(passed);
             self.drivers[k] = e;

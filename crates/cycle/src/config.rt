@@ -2,13 +2,13 @@
 ghost use mathlib.Core.Path.{_≡_};
 ghost use Prim.Native.Nat.{_*_, _≤_, _<_};
 ghost use lib.ListN.{length};
-ghost use Rattle.base.specs.Cases.{pick};
+ghost use Rattle.base.specs.Cases.{_∣_, _⇒_};
 ghost use Rattle.values.specs.Resolve.{pairOf};
 ghost use Rattle.model.specs.Records.{modelOf};
 ghost use Rattle.model.specs.Index.{TotalsOf};
 ghost use Rattle.cycle.specs.Configuration.{resolvedOr, empty};
 ghost use Rattle.cycle.specs.View.{Runs, viewOf};
-ghost use Rattle.cycle.specs.Arrays.{drivingIn, Has, variableStart, processFirst, driverStart, firstValue, valueAt, FirstOf};
+ghost use Rattle.cycle.specs.Arrays.{drivingIn, EntriesAre, variableStart, processFirst, driverStart, firstValue, valueAt, FirstOf};
 use crate::driver::Driver;
 use model::index::Totals;
 use model::index::driver_at;
@@ -24,10 +24,10 @@ use model::index::variable_at;
 pub struct Config {
     pub time: u64,
     pub deltas: u64,
-    pub ns: usize,
-    pub nv: usize,
-    pub nd: usize,
-    pub np: usize,
+    pub nsignals: usize,
+    pub nvariables: usize,
+    pub ndrivers: usize,
+    pub nprocesses: usize,
     pub signals: [u32; 1024],
     pub currents: [u32; 64],
     pub due: [u64; 64],
@@ -42,7 +42,7 @@ pub struct Config {
 
 // The resolution v of the values found so far, with x where it drives.
 fn joined(drives: bool, found: bool, v: u32, x: u32) -> u32
-    ensures { λ r. ⌜ r ≡ pick drives (pick found (pairOf v x) x) v ⌝ }
+    ensures { λ r. ⌜ r ≡ (drives ⇒ (found ⇒ pairOf v x ∣ x) ∣ v) ⌝ }
 {
     if drives {
         if found {
@@ -58,18 +58,18 @@ pub fn resolved<'a>(
     m: &'a [u8],
     index: &'a [u16; 1376],
     currents: &'a [u32; 64],
-    nd: usize,
+    ndrivers: usize,
     s: usize,
     other: u32,
 ) -> u32
     requires { ⌜ Runs (now m) (now index) ⌝ }
-    requires { ⌜ nd ≡ length (modelOf (now m) .drivers) ⌝ }
-    ensures { λ r. ⌜ r ≡ resolvedOr other (drivingIn (modelOf (now (m .entry))) (now (currents .entry)) s nd) ⌝ }
+    requires { ⌜ ndrivers ≡ length (modelOf (now m) .drivers) ⌝ }
+    ensures { λ r. ⌜ r ≡ resolvedOr other (drivingIn (modelOf (now (m .entry))) (now (currents .entry)) s ndrivers) ⌝ }
 {
     let mut found = false;
     let mut v = other;
     let mut k = 0;
-    while k < nd {
+    while k < ndrivers {
         let d = driver_at(m, index, k);
         let drives = d.signal == s;
         v = joined(drives, found, v, currents[k]);
@@ -82,7 +82,7 @@ pub fn resolved<'a>(
 fn first_variables<'a>(m: &'a [u8], index: &'a [u16; 1376], n: usize) -> [u32; 64]
     requires { ⌜ Runs (now m) (now index) ⌝ }
     requires { ⌜ n ≡ length (modelOf (now m) .variables) ⌝ }
-    ensures { λ r. ⌜ Has (variableStart (modelOf (now (m .entry)))) n r ⌝ }
+    ensures { λ r. ⌜ EntriesAre (variableStart (modelOf (now (m .entry)))) n r ⌝ }
 {
     let mut r = [0u32; 64];
     let mut i = 0;
@@ -97,7 +97,7 @@ fn first_variables<'a>(m: &'a [u8], index: &'a [u16; 1376], n: usize) -> [u32; 6
 fn first_places<'a>(m: &'a [u8], index: &'a [u16; 1376], n: usize) -> [usize; 16]
     requires { ⌜ Runs (now m) (now index) ⌝ }
     requires { ⌜ n ≡ length (modelOf (now m) .processes) ⌝ }
-    ensures { λ r. ⌜ Has (processFirst (modelOf (now (m .entry)))) n r ⌝ }
+    ensures { λ r. ⌜ EntriesAre (processFirst (modelOf (now (m .entry)))) n r ⌝ }
 {
     let mut r = [0usize; 16];
     let mut i = 0;
@@ -113,7 +113,7 @@ fn first_places<'a>(m: &'a [u8], index: &'a [u16; 1376], n: usize) -> [usize; 16
 fn first_currents<'a>(m: &'a [u8], index: &'a [u16; 1376], n: usize) -> [u32; 64]
     requires { ⌜ Runs (now m) (now index) ⌝ }
     requires { ⌜ n ≡ length (modelOf (now m) .drivers) ⌝ }
-    ensures { λ r. ⌜ Has (driverStart (modelOf (now (m .entry)))) n r ⌝ }
+    ensures { λ r. ⌜ EntriesAre (driverStart (modelOf (now (m .entry)))) n r ⌝ }
 {
     let mut r = [0u32; 64];
     let mut i = 0;
@@ -126,24 +126,24 @@ fn first_currents<'a>(m: &'a [u8], index: &'a [u16; 1376], n: usize) -> [u32; 64
     r
 }
 
-// The first value of each of the n signals, resolved over nd current values.
+// The first value of each of the n signals, resolved over ndrivers current values.
 fn first_values<'a>(
     m: &'a [u8],
     index: &'a [u16; 1376],
     currents: &'a [u32; 64],
-    nd: usize,
+    ndrivers: usize,
     n: usize,
 ) -> [u32; 32]
     requires { ⌜ Runs (now m) (now index) ⌝ }
-    requires { ⌜ nd ≡ length (modelOf (now m) .drivers) ⌝ }
+    requires { ⌜ ndrivers ≡ length (modelOf (now m) .drivers) ⌝ }
     requires { ⌜ n ≡ length (modelOf (now m) .signals) ⌝ }
-    ensures { λ r. ⌜ Has (firstValue (modelOf (now (m .entry))) (now (currents .entry)) nd) n r ⌝ }
+    ensures { λ r. ⌜ EntriesAre (firstValue (modelOf (now (m .entry))) (now (currents .entry)) ndrivers) n r ⌝ }
 {
     let mut r = [0u32; 32];
     let mut i = 0;
     while i < n {
         let s = signal_at(m, index, i);
-        r[i] = resolved(m, index, currents, nd, i, s.start);
+        r[i] = resolved(m, index, currents, ndrivers, i, s.start);
         i += 1;
     }
     r
@@ -152,7 +152,7 @@ fn first_values<'a>(
 // Histories in which each of the first n values stands 32 times.
 fn histories(values: &[u32; 32], n: usize) -> [u32; 1024]
     requires { ⌜ n ≤ 32 ⌝ }
-    ensures { λ r. ⌜ Has (valueAt (now (values .entry))) (32 * n) r ⌝ }
+    ensures { λ r. ⌜ EntriesAre (valueAt (now (values .entry))) (32 * n) r ⌝ }
 {
     let mut r = [0u32; 1024];
     let mut i = 0;
@@ -171,10 +171,10 @@ impl Config {
         Config {
             time: 0,
             deltas: 0,
-            ns: 0,
-            nv: 0,
-            nd: 0,
-            np: 0,
+            nsignals: 0,
+            nvariables: 0,
+            ndrivers: 0,
+            nprocesses: 0,
             signals: [0; 1024],
             currents: [0; 64],
             due: [18446744073709551615; 64],
@@ -202,10 +202,10 @@ impl Config {
         Config {
             time: 0,
             deltas: 0,
-            ns: t.signals,
-            nv: t.variables,
-            nd: t.drivers,
-            np: t.processes,
+            nsignals: t.signals,
+            nvariables: t.variables,
+            ndrivers: t.drivers,
+            nprocesses: t.processes,
             signals,
             currents,
             due: [18446744073709551615; 64],

@@ -6,9 +6,9 @@ ghost use Rattle.model.specs.Records.{modelOf};
 ghost use Rattle.model.specs.Fields.{absent};
 ghost use Rattle.model.specs.Facts.{Spans};
 ghost use Rattle.cycle.specs.Steps.{wakes, wokenBy};
-ghost use Rattle.cycle.specs.Invariant.{lastTime, ProcessFine};
+ghost use Rattle.cycle.specs.Invariant.{lastTime, ProcessValid};
 ghost use Rattle.cycle.specs.View.{arrays, Runs};
-ghost use Rattle.cycle.specs.Delta.{SetOf, activeIn, ResolvedTo, stateOf, wokenFor, afterDelta, ProcessesFine, WokenTo};
+ghost use Rattle.cycle.specs.Delta.{SetOf, activeIn, ResolvedTo, stateOf, wokenFor, afterDelta, ProcessesValid, WokenTo};
 use crate::config::resolved;
 use crate::eval::Value;
 use crate::eval::eval;
@@ -24,16 +24,16 @@ pub fn actives<'a>(
     m: &'a [u8],
     index: &'a [u16; 1376],
     due: &'a [u64; 64],
-    nd: usize,
+    ndrivers: usize,
     time: u64,
 ) -> u32
     requires { ⌜ Runs (now m) (now index) ⌝ }
-    requires { ⌜ nd ≡ length (modelOf (now m) .drivers) ⌝ }
-    ensures { λ r. ⌜ SetOf (activeIn (modelOf (now (m .entry))) (now (due .entry)) time nd) r ⌝ }
+    requires { ⌜ ndrivers ≡ length (modelOf (now m) .drivers) ⌝ }
+    ensures { λ r. ⌜ SetOf (activeIn (modelOf (now (m .entry))) (now (due .entry)) time ndrivers) r ⌝ }
 {
     let mut active: u32 = 0;
     let mut k = 0;
-    while k < nd {
+    while k < ndrivers {
         if due[k] == time {
             let d = driver_at(m, index, k);
             active = with(active, d.signal, true);
@@ -48,23 +48,23 @@ pub fn resolve<'a>(
     m: &'a [u8],
     index: &'a [u16; 1376],
     currents: &'a [u32; 64],
-    nd: usize,
+    ndrivers: usize,
     active: u32,
     signals: &'a mut [u32; 1024],
-    ns: usize,
+    nsignals: usize,
 ) -> u32
     requires { ⌜ Runs (now m) (now index) ⌝ }
-    requires { ⌜ nd ≡ length (modelOf (now m) .drivers) ⌝ }
-    requires { ⌜ ns ≤ 32 ⌝ }
+    requires { ⌜ ndrivers ≡ length (modelOf (now m) .drivers) ⌝ }
+    requires { ⌜ nsignals ≤ 32 ⌝ }
     requires { ⌜ length (now signals) ≡ 1024 ⌝ }
-    ensures { λ r. ⌜ ResolvedTo (modelOf (now (m .entry))) (now (currents .entry)) nd active (now (signals .entry)) ns (now (signals .exit)) r ⌝ }
+    ensures { λ r. ⌜ ResolvedTo (modelOf (now (m .entry))) (now (currents .entry)) ndrivers active (now (signals .entry)) nsignals (now (signals .exit)) r ⌝ }
 {
     let mut changed: u32 = 0;
     let mut s = 0;
-    while s < ns {
+    while s < nsignals {
         if has(active, s) {
             let old = signals[32 * s];
-            let v = resolved(m, index, currents, nd, s, old);
+            let v = resolved(m, index, currents, ndrivers, s, old);
             signals[32 * s] = v;
             changed = with(changed, s, old != v);
         }
@@ -163,7 +163,7 @@ fn after_delta<'a>(
     requires { ⌜ Runs (now m) (now index) ⌝ }
     requires { ⌜ p < length (modelOf (now m) .processes) ⌝ }
     requires { ⌜ time ≤ lastTime ⌝ }
-    requires { ⌜ ProcessFine (modelOf (now m)) p time (stateOf q) ⌝ }
+    requires { ⌜ ProcessValid (modelOf (now m)) p time (stateOf q) ⌝ }
     ensures { λ r. ⌜ stateOf r ≡ afterDelta (modelOf (now (m .entry))) p time changed (arrays (now (variables .entry)) (now (signals .entry))) (stateOf q) ⌝ }
 {
     if q.standing != 1 {
@@ -179,7 +179,7 @@ fn after_delta<'a>(
     q
 }
 
-// The np processes after a delta step. One whose standing stays is as it was.
+// The nprocesses processes after a delta step. One whose standing stays is as it was.
 pub fn wake<'a>(
     m: &'a [u8],
     index: &'a [u16; 1376],
@@ -187,17 +187,17 @@ pub fn wake<'a>(
     signals: &'a [u32; 1024],
     changed: u32,
     time: u64,
-    np: usize,
+    nprocesses: usize,
     mut ps: Processes,
 ) -> Processes
     requires { ⌜ Runs (now m) (now index) ⌝ }
-    requires { ⌜ np ≡ length (modelOf (now m) .processes) ⌝ }
+    requires { ⌜ nprocesses ≡ length (modelOf (now m) .processes) ⌝ }
     requires { ⌜ time ≤ lastTime ⌝ }
-    requires { ⌜ ProcessesFine (modelOf (now m)) time np ps ⌝ }
-    ensures { λ r. ⌜ WokenTo (modelOf (now (m .entry))) time changed (arrays (now (variables .entry)) (now (signals .entry))) np ps r ⌝ }
+    requires { ⌜ ProcessesValid (modelOf (now m)) time nprocesses ps ⌝ }
+    ensures { λ r. ⌜ WokenTo (modelOf (now (m .entry))) time changed (arrays (now (variables .entry)) (now (signals .entry))) nprocesses ps r ⌝ }
 {
     let mut p = 0;
-    while p < np {
+    while p < nprocesses {
         let q = Process {
             place: ps.places[p],
             standing: ps.standings[p],

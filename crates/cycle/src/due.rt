@@ -52,14 +52,14 @@ pub fn any_standing(standings: &[usize; 16], n: usize, standing: usize) -> bool
 }
 
 // The refusal of an advance, or 0, where t is the earliest due time.
-fn refusal(standings: &[usize; 16], np: usize, t: u64, time: u64, deltas: u64) -> usize
-    requires { ⌜ np ≤ 16 ⌝ }
-    ensures { λ r. ⌜ r ≡ refusalIn (now (standings .entry)) np t time deltas ⌝ }
+fn refusal(standings: &[usize; 16], nprocesses: usize, t: u64, time: u64, deltas: u64) -> usize
+    requires { ⌜ nprocesses ≤ 16 ⌝ }
+    ensures { λ r. ⌜ r ≡ refusalIn (now (standings .entry)) nprocesses t time deltas ⌝ }
 {
-    if any_standing(standings, np, 0) {
+    if any_standing(standings, nprocesses, 0) {
         return 14;
     }
-    if any_standing(standings, np, 2) {
+    if any_standing(standings, nprocesses, 2) {
         return 15;
     }
     if t == time {
@@ -82,21 +82,21 @@ pub fn next_due<'a>(
     standings: &'a [usize; 16],
     due: &'a [u64; 64],
     deadlines: &'a [u64; 16],
-    np: usize,
-    nd: usize,
+    nprocesses: usize,
+    ndrivers: usize,
     time: u64,
     deltas: u64,
 ) -> Due
-    requires { ⌜ np ≤ 16 ⌝ }
-    requires { ⌜ nd ≤ 64 ⌝ }
-    requires { ⌜ NoneBefore time (now due) nd ⌝ }
-    requires { ⌜ NoneBefore time (now deadlines) np ⌝ }
-    ensures { λ r. ⌜ DueIn (now (standings .entry)) (now (due .entry)) (now (deadlines .entry)) np nd time deltas r ⌝ }
+    requires { ⌜ nprocesses ≤ 16 ⌝ }
+    requires { ⌜ ndrivers ≤ 64 ⌝ }
+    requires { ⌜ NoneBefore time (now due) ndrivers ⌝ }
+    requires { ⌜ NoneBefore time (now deadlines) nprocesses ⌝ }
+    ensures { λ r. ⌜ DueIn (now (standings .entry)) (now (due .entry)) (now (deadlines .entry)) nprocesses ndrivers time deltas r ⌝ }
 {
-    let first = earliest(due, nd, time);
-    let t = earlier(first, earliest(deadlines, np, time));
+    let first = earliest(due, ndrivers, time);
+    let t = earlier(first, earliest(deadlines, nprocesses, time));
     Due {
-        refusal: refusal(standings, np, t, time, deltas),
+        refusal: refusal(standings, nprocesses, t, time, deltas),
         time: t,
     }
 }

@@ -3,7 +3,7 @@ ghost use mathlib.Core.Path.{_≡_};
 ghost use Prim.Native.Nat.{_<_};
 ghost use lib.Dec.{eqb};
 ghost use lib.ListN.{length};
-ghost use Rattle.base.specs.Cases.{pick};
+ghost use Rattle.base.specs.Cases.{_∣_, _⇒_};
 ghost use Rattle.model.specs.Records.{modelOf, statementAt};
 ghost use Rattle.model.specs.Fields.{ownerOf};
 ghost use Rattle.cycle.specs.declared.effect.Effect.the-variants.{Skip, Store, Schedule, Jump, WaitFor};
@@ -43,7 +43,7 @@ fn store(a: usize, v: Value) -> Effect
 }
 
 fn branch(a: usize, v: Value) -> Effect
-    ensures { λ r. ⌜ r ≡ withValue v (λ x. pick (eqb x 0) (Jump a) Skip) ⌝ }
+    ensures { λ r. ⌜ r ≡ withValue v (λ x. eqb x 0 ⇒ Jump a ∣ Skip) ⌝ }
 {
     match v {
         Value::Fault(f) => Effect::Stop(f),

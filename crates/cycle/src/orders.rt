@@ -2,7 +2,7 @@
 ghost use Prim.Native.Nat.{_≤_};
 ghost use Rattle.model.specs.Records.{modelOf};
 ghost use Rattle.cycle.specs.Orders.{refused, picked, settled, readOf};
-ghost use Rattle.cycle.specs.View.{viewOf, Runs, Fine, Answers, AnswersEach};
+ghost use Rattle.cycle.specs.View.{viewOf, Runs, Valid, Answers, AnswersEach};
 use crate::config::Config;
 
 // The parts of an answer, and the configuration that the order hands back.
@@ -31,10 +31,10 @@ impl Config {
     // One statement of process p.
     pub fn pick<'a>(self, m: &'a [u8], index: &'a [u16; 1376], p: usize) -> Answered
         requires { ⌜ Runs (now m) (now index) ⌝ }
-        requires { ⌜ Fine (modelOf (now m)) self ⌝ }
+        requires { ⌜ Valid (modelOf (now m)) self ⌝ }
         ensures { λ r. ⌜ Answers (modelOf (now (m .entry))) r (picked (modelOf (now (m .entry))) p (viewOf self)) ⌝ }
     {
-        if p >= self.np {
+        if p >= self.nprocesses {
             return self.refused(12);
         }
         let standing = self.standings[p];
@@ -53,10 +53,10 @@ impl Config {
 
     // The current value of signal s.
     pub fn read(self, s: usize) -> Answered
-        requires { ⌜ self .ns ≤ 32 ⌝ }
+        requires { ⌜ self .nsignals ≤ 32 ⌝ }
         ensures { λ r. ⌜ AnswersEach self r (λ M. readOf M s (viewOf self)) ⌝ }
     {
-        if s >= self.ns {
+        if s >= self.nsignals {
             return self.refused(19);
         }
         let v = self.signals[32 * s];

@@ -1,8 +1,8 @@
 // Settle: picks in place, one statement after the other.
 ghost use mathlib.Core.Path.{_≡_};
-ghost use Rattle.base.specs.Cases.{pick};
+ghost use Rattle.base.specs.Cases.{_∣_, _⇒_};
 ghost use Rattle.model.specs.Records.{modelOf};
-ghost use Rattle.cycle.specs.View.{viewOf, Runs, Fine, Answers};
+ghost use Rattle.cycle.specs.View.{viewOf, Runs, Valid, Answers};
 ghost use Rattle.cycle.specs.Orders.{settled};
 use crate::config::Config;
 use crate::due::any_standing;
@@ -12,7 +12,7 @@ use crate::orders::Answered;
 use crate::step::next_place;
 
 fn bit(b: bool) -> usize
-    ensures { λ r. ⌜ r ≡ pick b 1 0 ⌝ }
+    ensures { λ r. ⌜ r ≡ (b ⇒ 1 ∣ 0) ⌝ }
 {
     if b { 1 } else { 0 }
 }
@@ -21,11 +21,11 @@ impl Config {
     // Picks of the lowest ready process until none is ready or count picks are made.
     pub fn settle<'a>(mut self, m: &'a [u8], index: &'a [u16; 1376], count: usize) -> Answered
         requires { ⌜ Runs (now m) (now index) ⌝ }
-        requires { ⌜ Fine (modelOf (now m)) self ⌝ }
+        requires { ⌜ Valid (modelOf (now m)) self ⌝ }
         ensures { λ r. ⌜ Answers (modelOf (now (m .entry))) r (settled (modelOf (now (m .entry))) count (viewOf self)) ⌝ }
     {
         let now = self.time;
-        let end = self.np;
+        let end = self.nprocesses;
         let mut p = 0;
         let mut n = 0;
         while (n < count) & (p < end) {

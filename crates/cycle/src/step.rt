@@ -5,7 +5,7 @@ ghost use lib.ListN.{length, getD};
 ghost use Rattle.model.specs.Records.{modelOf};
 ghost use Rattle.model.specs.Facts.{Spans};
 ghost use Rattle.cycle.specs.Statements.{nextPlace};
-ghost use Rattle.cycle.specs.View.{Runs, Fine, StepsTo};
+ghost use Rattle.cycle.specs.View.{Runs, Valid, StepsTo};
 use crate::config::Config;
 use crate::effect::Effect;
 use crate::effect::does;
@@ -31,8 +31,8 @@ impl Config {
     // the configuration for each statement.
     pub fn step<'a>(mut self, m: &'a [u8], index: &'a [u16; 1376], p: usize) -> Config
         requires { ⌜ Runs (now m) (now index) ⌝ }
-        requires { ⌜ Fine (modelOf (now m)) self ⌝ }
-        requires { ⌜ p < self .np ⌝ }
+        requires { ⌜ Valid (modelOf (now m)) self ⌝ }
+        requires { ⌜ p < self .nprocesses ⌝ }
         requires { ⌜ getD (self .standings) p 0 ≡ 0 ⌝ }
         ensures { λ r. ⌜ StepsTo (modelOf (now (m .entry))) p self r ⌝ }
     {

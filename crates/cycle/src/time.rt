@@ -41,15 +41,15 @@ fn fill_recent(signals: &mut [u32; 1024], base: usize, n: usize)
     }
 }
 
-// The histories of ns signals, after n units.
-pub fn shift(signals: &mut [u32; 1024], ns: usize, n: u64)
-    requires { ⌜ ns ≤ 32 ⌝ }
+// The histories of nsignals signals, after n units.
+pub fn shift(signals: &mut [u32; 1024], nsignals: usize, n: u64)
+    requires { ⌜ nsignals ≤ 32 ⌝ }
     requires { ⌜ length (now signals) ≡ 1024 ⌝ }
-    ensures { λ r. ⌜ ShiftedBy (now (signals .entry)) n ns (now (signals .exit)) ⌝ }
+    ensures { λ r. ⌜ ShiftedBy (now (signals .entry)) n nsignals (now (signals .exit)) ⌝ }
 {
     let k = lesser(31, n);
     let mut s = 0;
-    while s < ns {
+    while s < nsignals {
         let base = 32 * s;
         move_past(&mut *signals, base, k);
         fill_recent(&mut *signals, base, k);

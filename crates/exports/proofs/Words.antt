@@ -9,7 +9,7 @@ use borrow.Author.Tests.{lt-ltb, le-ltb, ne-eqb}
 use lib.Dec.{ltb, eqb}
 use lib.ListN.{length, getD, take, drop, drop-of-length-le, List·getD-eq-default}
 use Rattle.base.specs.Below.{listBelow}
-use Rattle.base.specs.Cases.{pick}
+use Rattle.base.specs.Cases.{}
 use Rattle.base.proofs.Below.{list-length, list-at, NoneOf, none-of}
 use Rattle.base.proofs.Cases.{either}
 use Rattle.cycle.specs.Configuration.{Transaction, Configuration, driverIn, pastOf}
@@ -33,24 +33,24 @@ last-total C j h =
     rw (ne-eqb j 0 (at 0 (omega arith)), ne-eqb j 1 (at 1 (omega arith)), ne-eqb j 2 (at 2 (omega arith)), ne-eqb j 3 (at 3 (omega arith)), ne-eqb j 4 (at 4 (omega arith)))
 
 -- the words of what is not there
-pub past-none : (c : Config) (s k : ℕ) → c .ns ≤ s → 0 ≡ pastOf (viewOf c .signals) s k
+pub past-none : (c : Config) (s k : ℕ) → c .nsignals ≤ s → 0 ≡ pastOf (viewOf c .signals) s k
 past-none c s k h =
     let l : length (viewOf c .signals) ≤ s = omega (arith, signals-long c) in
     rw (List·getD-eq-default (viewOf c .signals) [] l)
 
-pub variable-none : (c : Config) (a : ℕ) → c .nv ≤ a → 0 ≡ getD (viewOf c .variables) a 0
+pub variable-none : (c : Config) (a : ℕ) → c .nvariables ≤ a → 0 ≡ getD (viewOf c .variables) a 0
 variable-none c a h =
     let l : length (viewOf c .variables) ≤ a = omega (arith, variables-long c) in
     rw (List·getD-eq-default (viewOf c .variables) 0 l)
 
-same : (b : Bool) → pick {A = ℕ} b 0 0 ≡ 0
+same : (b : Bool) → (b ⇒ zero ∣ zero) ≡ zero
 same b = sym (either b 0)
 
 driver-zeros : (j : ℕ) → 0 ≡ driverWord (record { current = 0; pending = [] }) j
 unfolding driverWord
 driver-zeros j = rw (same (ltb j 10), same (eqb j 1), same (eqb j 0))
 
-pub driver-none : (c : Config) (k j : ℕ) → c .nd ≤ k → 0 ≡ driverWord (driverIn (viewOf c .drivers) k) j
+pub driver-none : (c : Config) (k j : ℕ) → c .ndrivers ≤ k → 0 ≡ driverWord (driverIn (viewOf c .drivers) k) j
 driver-none c k j h =
     let l : length (viewOf c .drivers) ≤ k = omega (arith, drivers-long c) in
     rw (List·getD-eq-default (viewOf c .drivers) (record { current = 0; pending = [] }) l) (driver-zeros j)
@@ -59,13 +59,13 @@ process-zeros : (j : ℕ) → 0 ≡ processWord noProcess j
 unfolding processWord
 process-zeros j = rw (same (eqb j 3), same (eqb j 2), same (eqb j 1), same (eqb j 0))
 
-pub process-none : (c : Config) (p j : ℕ) → c .np ≤ p → 0 ≡ processWord (getD (viewOf c .processes) p noProcess) j
+pub process-none : (c : Config) (p j : ℕ) → c .nprocesses ≤ p → 0 ≡ processWord (getD (viewOf c .processes) p noProcess) j
 process-none c p j h =
     let l : length (viewOf c .processes) ≤ p = omega (arith, processes-long c) in
     rw (List·getD-eq-default (viewOf c .processes) noProcess l) (process-zeros j)
 
 -- a driver's words
-pub driver-some : (c : Config) (k j w : ℕ) → k < c .nd → w ≡ driverWord (record { current = getD (c .currents) k 0; pending = pendingOf (c .time) (getD (c .drivers) k noDriver) }) j → w ≡ driverWord (driverIn (viewOf c .drivers) k) j
+pub driver-some : (c : Config) (k j w : ℕ) → k < c .ndrivers → w ≡ driverWord (record { current = getD (c .currents) k 0; pending = pendingOf (c .time) (getD (c .drivers) k noDriver) }) j → w ≡ driverWord (driverIn (viewOf c .drivers) k) j
 unfolding driverView
 driver-some c k j w h e = rw (driver-in c k h) e
 
@@ -95,10 +95,10 @@ module _ (d : Driver) (current t j : ℕ) where
     value-none m n = rw (ne-eqb j 0 h, ne-eqb j 1 l, le-ltb j 10 m, List·getD-eq-default (listBelow at (d .count)) noTransaction {n = j - 10} (rw list-length n))
 
 -- a process's words
-module _ (c : Config) (p j : ℕ) (h : p < c .np) where
+module _ (c : Config) (p j : ℕ) (h : p < c .nprocesses) where
   process-at : getD (viewOf c .processes) p noProcess ≡ processView c p
   unfolding viewOf
-  process-at = list-at (processView c) noProcess (c .np) p h
+  process-at = list-at (processView c) noProcess (c .nprocesses) p h
 
   pub place-word : j ≡ 0 → getD (c .places) p 0 ≡ processWord (getD (viewOf c .processes) p noProcess) j
   unfolding processWord processView

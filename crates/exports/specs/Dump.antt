@@ -3,7 +3,7 @@ use mathlib.Core.Option.{Option, none, some}
 use Prim.Native.Nat.{ℕ, _-_, _/_, _%_}
 use lib.Dec.{ltb}
 use lib.ListN.{length, getD}
-use Rattle.base.specs.Cases.{pick, _∣_, _is_⇒_}
+use Rattle.base.specs.Cases.{_∣_, _⇒_, _is_⇒_}
 use Rattle.cycle.specs.Configuration.{Transaction, DriverState, ProcessState, Configuration, driverIn, pastOf}
 
 -- what stands for a process and a transaction that are not there
@@ -37,7 +37,8 @@ unfoldable pub driverWord : DriverState → ℕ → ℕ
 driverWord D j =
     j is 0 ⇒ D .current
     ∣ j is 1 ⇒ length (D .pending)
-    ∣ pick (ltb j 10) (getD (D .pending) (j - 2) noTransaction .time) (getD (D .pending) (j - 10) noTransaction .value)
+    ∣ ltb j 10 ⇒ getD (D .pending) (j - 2) noTransaction .time
+    ∣ getD (D .pending) (j - 10) noTransaction .value
 
 -- a process: its place, standing and fault, whether it has a deadline, and that
 unfoldable pub processWord : ProcessState → ℕ → ℕ
@@ -51,8 +52,9 @@ processWord P j =
 -- word i: the totals, 32 values of each of 32 signals, 64 variables, 18 words of each of 64 drivers, 5 of each of 16 processes
 unfoldable pub wordOf : Configuration → ℕ → ℕ
 wordOf C i =
-    pick (ltb i 6) (totalWord C i)
-    (pick (ltb i 1030) (pastOf (C .signals) ((i - 6) / 32) ((i - 6) % 32))
-    (pick (ltb i 1094) (getD (C .variables) (i - 1030) 0)
-    (pick (ltb i 2246) (driverWord (driverIn (C .drivers) ((i - 1094) / 18)) ((i - 1094) % 18))
-    (pick (ltb i 2326) (processWord (getD (C .processes) ((i - 2246) / 5) noProcess) ((i - 2246) % 5)) 0))))
+    ltb i 6 ⇒ totalWord C i
+    ∣ ltb i 1030 ⇒ pastOf (C .signals) ((i - 6) / 32) ((i - 6) % 32)
+    ∣ ltb i 1094 ⇒ getD (C .variables) (i - 1030) 0
+    ∣ ltb i 2246 ⇒ driverWord (driverIn (C .drivers) ((i - 1094) / 18)) ((i - 1094) % 18)
+    ∣ ltb i 2326 ⇒ processWord (getD (C .processes) ((i - 2246) / 5) noProcess) ((i - 2246) % 5)
+    ∣ 0

@@ -16,10 +16,10 @@ fn total_word(c: Config, j: usize) -> u64
     match j {
         0 => c.time,
         1 => c.deltas,
-        2 => c.ns as u64,
-        3 => c.nv as u64,
-        4 => c.nd as u64,
-        _ => c.np as u64,
+        2 => c.nsignals as u64,
+        3 => c.nvariables as u64,
+        4 => c.ndrivers as u64,
+        _ => c.nprocesses as u64,
     }
 }
 
@@ -28,7 +28,7 @@ fn signal_word(c: Config, s: usize, k: usize) -> u64
     requires { ⌜ k < 32 ⌝ }
     ensures { λ r. ⌜ r ≡ pastOf (viewOf c .signals) s k ⌝ }
 {
-    let n = c.ns;
+    let n = c.nsignals;
     if s < n {
         return c.signals[32 * s + k] as u64;
     }
@@ -39,7 +39,7 @@ fn variable_word(c: Config, a: usize) -> u64
     requires { ⌜ a < 64 ⌝ }
     ensures { λ r. ⌜ r ≡ getD (viewOf c .variables) a 0 ⌝ }
 {
-    let n = c.nv;
+    let n = c.nvariables;
     if a < n {
         return c.variables[a] as u64;
     }
@@ -79,7 +79,7 @@ fn driver_word(c: Config, k: usize, j: usize) -> u64
     requires { ⌜ j < 18 ⌝ }
     ensures { λ r. ⌜ r ≡ driverWord (driverIn (viewOf c .drivers) k) j ⌝ }
 {
-    let n = c.nd;
+    let n = c.ndrivers;
     if k < n {
         return waveform_word(c.drivers[k], c.currents[k], c.time, j);
     }
@@ -90,7 +90,7 @@ fn process_word(c: Config, p: usize, j: usize) -> u64
     requires { ⌜ p < 16 ⌝ }
     ensures { λ r. ⌜ r ≡ processWord (getD (viewOf c .processes) p noProcess) j ⌝ }
 {
-    let n = c.np;
+    let n = c.nprocesses;
     if n <= p {
         return 0;
     }

@@ -9,7 +9,7 @@ use native.Mathlib.Omega.{arith}
 use borrow.Author.Tests.{eqb-true, ltb-true, leb-true, eq-eqb}
 use lib.Dec.{eqb, ltb}
 use lib.ListN.{length}
-use Rattle.base.specs.Cases.{pick}
+use Rattle.base.specs.Cases.{_∣_, _⇒_}
 use Rattle.base.specs.Course.{firstWith}
 use Rattle.base.proofs.Below.{every-at, all-at, and-left, and-right, sum-below}
 use Rattle.base.proofs.Course.{first-found, first-at, first-within}
@@ -95,7 +95,7 @@ module _ (M : Model) where
     unfolding driversOf
     two i j l h e =
         let s = driverAt M j .signal in
-        let f : ℕ → ℕ = λ n. pick (eqb (driverAt M n .signal) s) 1 0 in
+        let f : ℕ → ℕ = λ n. (eqb (driverAt M n .signal) s ⇒ 1 ∣ 0) in
         let a : 0 < f i = rw (eq-eqb (driverAt M i .signal) s e) (omega arith) in
         let b : 0 < f j = rw (eq-eqb s s refl) (omega arith) in
         omega (arith, sum-below f j i 0 l a, sum-below f (length (M .drivers)) j 0 h b)

@@ -8,7 +8,7 @@ use native.Mathlib.Omega.{arith}
 use borrow.Author.Tests.{eqb-true, eq-eqb, lt-ltb, le-ltb}
 use lib.Dec.{eqb, leb, ltb}
 use lib.ListN.{getD, List·getD-eq-default}
-use Rattle.base.specs.Cases.{pick}
+use Rattle.base.specs.Cases.{_∣_, _⇒_}
 use Rattle.base.specs.Course.{course, upTo}
 use Rattle.base.proofs.Below.{among, and-left, and-right, split}
 use Rattle.base.proofs.Cases.{by-test}
@@ -21,16 +21,16 @@ use Rattle.model.proofs.NodeFields.{variable-fits, signal-fits, names-v
 
 -- what a node's type is, given those of its operands
 abbrev pub logicalType : ℕ → ℕ → ℕ
-logicalType p q = pick (eqb p q && (eqb p logic || eqb p boolean)) p mistyped
+logicalType p q = eqb p q && (eqb p logic || eqb p boolean) ⇒ p ∣ mistyped
 
 abbrev pub arithmeticType : ℕ → ℕ → ℕ
-arithmeticType p q = pick (eqb p integer && eqb q integer) integer mistyped
+arithmeticType p q = eqb p integer && eqb q integer ⇒ integer ∣ mistyped
 
 abbrev pub equalType : ℕ → ℕ → ℕ
-equalType p q = pick (eqb p q && (eqb p integer || eqb p logic)) boolean mistyped
+equalType p q = eqb p q && (eqb p integer || eqb p logic) ⇒ boolean ∣ mistyped
 
 abbrev pub lessType : ℕ → ℕ → ℕ
-lessType p q = pick (eqb p integer && eqb q integer) boolean mistyped
+lessType p q = eqb p integer && eqb q integer ⇒ boolean ∣ mistyped
 
 module _ (M : Model) (n : ℕ) where
   -- what is said of node m where those below n are known
@@ -46,7 +46,7 @@ module _ (M : Model) (n : ℕ) where
   type-next = refl
 
   -- the entries of an index for the nodes below n say the same
-  type-entry : (index : List ℕ) → ((k : ℕ) → k < n → getD index (776 + k) 0 ≡ typeOf M k) → (a : ℕ) → pick (ltb a n) (getD index (776 + a) 0) mistyped ≡ below a
+  type-entry : (index : List ℕ) → ((k : ℕ) → k < n → getD index (776 + k) 0 ≡ typeOf M k) → (a : ℕ) → (ltb a n ⇒ getD index (776 + a) 0 ∣ mistyped) ≡ below a
   type-entry index h a =
       ⊎-elim (λ (l : a < n). rw (lt-ltb a n l) (h a l ∙ sym (below-is a l)))
       (λ (l : n ≤ a). rw (le-ltb a n l) (sym (List·getD-eq-default (upTo (nextType M) n) mistyped (rw entries l))))
@@ -57,7 +57,7 @@ module _ (M : Model) (n : ℕ) where
     next = rw is type-next
 
     -- the type from the operands' entries
-    pub type-read : (index : List ℕ) → ((k : ℕ) → k < n → getD index (776 + k) 0 ≡ typeOf M k) → (p q : ℕ) → p ≡ pick (ltb (d .a) n) (getD index (776 + d .a) 0) mistyped → q ≡ pick (ltb (d .b) n) (getD index (776 + d .b) 0) mistyped → typeBy M d p q ≡ typeOf M n
+    pub type-read : (index : List ℕ) → ((k : ℕ) → k < n → getD index (776 + k) 0 ≡ typeOf M k) → (p q : ℕ) → p ≡ (ltb (d .a) n ⇒ getD index (776 + d .a) 0 ∣ mistyped) → q ≡ (ltb (d .b) n ⇒ getD index (776 + d .b) 0 ∣ mistyped) → typeBy M d p q ≡ typeOf M n
     type-read index h p q e f =
         let p-is : p ≡ below (d .a) = e ∙ type-entry index h (d .a) in
         let q-is : q ≡ below (d .b) = f ∙ type-entry index h (d .b) in
@@ -113,7 +113,7 @@ module _ (M : Model) (n : ℕ) where
         type-less e = rw e at both
 
 -- a node that is not mistyped: what its type says of its operands' types
-passed : (t : Bool) (x : ℕ) → pick t x mistyped ≤ 2 → t ≡ true
+passed : (t : Bool) (x : ℕ) → (t ⇒ x ∣ mistyped) ≤ 2 → t ≡ true
 passed true x h = refl
 passed false x h = absurd (omega arith)
 
@@ -130,7 +130,7 @@ module _ (p q t : ℕ) (known : t ≤ 2) where
       (sym f, (omega arith, ⊎-elim (λ u. omega (arith, eqb-true p logic u)) (λ u. omega (arith, eqb-true p boolean u)) (or-cases (eqb p logic) _ (and-right (eqb p q) _ g))))
 
   -- a sum, a difference or a comparison, x being its type
-  pub integers-known : (x : ℕ) → t ≡ pick (eqb p integer && eqb q integer) x mistyped → (t ≡ x) × ((p ≡ integer) × (q ≡ integer))
+  pub integers-known : (x : ℕ) → t ≡ (eqb p integer && eqb q integer ⇒ x ∣ mistyped) → (t ≡ x) × ((p ≡ integer) × (q ≡ integer))
   integers-known x e =
       let g = passed (eqb p integer && eqb q integer) x (rw e at known) in
       (rw g at e, (eqb-true p integer (and-left (eqb p integer) _ g), eqb-true q integer (and-right (eqb p integer) _ g)))
@@ -141,11 +141,11 @@ module _ (p q t : ℕ) (known : t ≤ 2) where
       (rw g at e, (sym (eqb-true p q (and-left (eqb p q) _ g)), ⊎-elim (λ u. omega (arith, eqb-true p integer u)) (λ u. omega (arith, eqb-true p logic u)) (or-cases (eqb p integer) _ (and-right (eqb p q) _ g))))
 
 -- a type is at most that of a mistyped node: case by case
-pick-small : (t : Bool) (x y : ℕ) → (t ≡ true → x ≤ 3) → y ≤ 3 → pick t x y ≤ 3
-pick-small t x y h g = by-test (λ z. z ≤ 3) t x y h (λ e. g)
+choice-small : (t : Bool) (x y : ℕ) → (t ≡ true → x ≤ 3) → y ≤ 3 → (t ⇒ x ∣ y) ≤ 3
+choice-small t x y h g = by-test (λ z. z ≤ 3) t x y h (λ e. g)
 
-case-small : (k j x y : ℕ) → (k ≡ j → x ≤ 3) → y ≤ 3 → pick (eqb k j) x y ≤ 3
-case-small k j x y h g = pick-small (eqb k j) x y (λ t. h (eqb-true k j t)) g
+case-small : (k j x y : ℕ) → (k ≡ j → x ≤ 3) → y ≤ 3 → (eqb k j ⇒ x ∣ y) ≤ 3
+case-small k j x y h g = choice-small (eqb k j) x y (λ t. h (eqb-true k j t)) g
 
 either-small : (p : ℕ) → (eqb p logic || eqb p boolean) ≡ true → p ≤ 3
 either-small p t =
@@ -159,9 +159,9 @@ type-small M d p q f h =
     (case-small (d .kind) 3 _ _ (λ e. omega (arith, variable-fits M f (d .a) (names-variable M d h e) .ty))
     (case-small (d .kind) 4 _ _ (λ e. omega (arith, signal-fits M f (d .a) (names-signal M d h (omega arith) (omega arith)) .ty))
     (case-small (d .kind) 5 _ _ (λ e. omega (arith, signal-fits M f (d .a) (names-signal M d h (omega arith) (omega arith)) .ty))
-    (case-small (d .kind) 6 _ _ (λ e. pick-small _ p mistyped (either-small p) (omega arith))
-    (case-small (d .kind) 10 _ _ (λ e. pick-small (eqb p integer) integer mistyped (λ t. omega arith) (omega arith))
-    (case-small (d .kind) 13 _ _ (λ e. pick-small (eqb p q && (eqb p integer || eqb p logic)) boolean mistyped (λ t. omega arith) (omega arith))
-    (case-small (d .kind) 14 _ _ (λ e. pick-small (eqb p integer && eqb q integer) boolean mistyped (λ t. omega arith) (omega arith))
-    (pick-small (leb (d .kind) 9) _ _ (λ e. pick-small (eqb p q && (eqb p logic || eqb p boolean)) p mistyped (λ t. either-small p (and-right (eqb p q) _ t)) (omega arith))
-    (pick-small (eqb p integer && eqb q integer) integer mistyped (λ t. omega arith) (omega arith)))))))))))
+    (case-small (d .kind) 6 _ _ (λ e. choice-small _ p mistyped (either-small p) (omega arith))
+    (case-small (d .kind) 10 _ _ (λ e. choice-small (eqb p integer) integer mistyped (λ t. omega arith) (omega arith))
+    (case-small (d .kind) 13 _ _ (λ e. choice-small (eqb p q && (eqb p integer || eqb p logic)) boolean mistyped (λ t. omega arith) (omega arith))
+    (case-small (d .kind) 14 _ _ (λ e. choice-small (eqb p integer && eqb q integer) boolean mistyped (λ t. omega arith) (omega arith))
+    (choice-small (leb (d .kind) 9) _ _ (λ e. choice-small (eqb p q && (eqb p logic || eqb p boolean)) p mistyped (λ t. either-small p (and-right (eqb p q) _ t)) (omega arith))
+    (choice-small (eqb p integer && eqb q integer) integer mistyped (λ t. omega arith) (omega arith)))))))))))

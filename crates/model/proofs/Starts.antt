@@ -8,17 +8,17 @@ use native.Mathlib.Omega.{arith}
 use borrow.Author.Tests.{leb-true, eqb-true}
 use lib.Dec.{eqb}
 use lib.ListN.{length, getD}
-use Rattle.base.specs.Cases.{pick}
+use Rattle.base.specs.Cases.{_∣_, _⇒_}
 use Rattle.base.specs.Below.{sumBelow, joinBelow, listBelow}
 use Rattle.base.proofs.Below.{every-at, all-at, sum-upto, list-at, list-length, join-each, join-length, join-more}
-use Rattle.base.proofs.Cases.{pick-most}
+use Rattle.base.proofs.Cases.{choice-most}
 use Rattle.model.specs.Blocks.{blocksOf, lengthOk, kindAt, countAt, headOk, headsOk, countIn, startAt, startsIn, startsOf, totalOf}
 use Rattle.model.specs.Index.{placed}
 use Rattle.model.proofs.Places.{placed-more}
 
-pick-some : (t : Bool) (n j : ℕ) → j < pick t n 0 → t ≡ true
-pick-some true n j h = refl
-pick-some false n j h = absurd (not-suc-le-zero h)
+choice-some : (t : Bool) (n j : ℕ) → j < (t ⇒ n ∣ 0) → t ≡ true
+choice-some true n j h = refl
+choice-some false n j h = absurd (not-suc-le-zero h)
 
 module _ (m : List ℕ) where
   pub length-most : lengthOk m ≡ true → length m ≤ 32768
@@ -35,11 +35,11 @@ module _ (m : List ℕ) where
 
   count-kind : (k b j : ℕ) → j < countIn k m b → kindAt m b ≡ k
   unfolding countIn
-  count-kind k b j h = eqb-true (kindAt m b) k (pick-some (eqb (kindAt m b) k) (countAt m b) j h)
+  count-kind k b j h = eqb-true (kindAt m b) k (choice-some (eqb (kindAt m b) k) (countAt m b) j h)
 
   pub count-le : (k b : ℕ) → countIn k m b ≤ countAt m b
   unfolding countIn
-  count-le k b = pick-most (eqb (kindAt m b) k) (countAt m b)
+  count-le k b = choice-most (eqb (kindAt m b) k) (countAt m b)
 
   -- the records up to block b, and those in it, are within the total
   pub total-upto : (k b : ℕ) → b < blocksOf m → sumBelow (countIn k m) b + countIn k m b ≤ totalOf k m

@@ -9,7 +9,7 @@ use lib.Dec.{eqb, leb, ltb}
 use lib.ListN.{length, take, drop}
 use Rattle.base.specs.Below.{allBelow, sumBelow, joinBelow, listBelow, every}
 use Rattle.base.specs.Bytes.{byteAt, wordAt}
-use Rattle.base.specs.Cases.{pick}
+use Rattle.base.specs.Cases.{_∣_, _⇒_}
 
 abbrev pub blocksOf : List ℕ → ℕ
 blocksOf m = length m / 512
@@ -59,7 +59,7 @@ headsOk m = allBelow (headOk m) (blocksOf m)
 
 -- how many records of kind k block b has
 unfoldable pub countIn : ℕ → List ℕ → ℕ → ℕ
-countIn k m b = pick (eqb (kindAt m b) k) (countAt m b) 0
+countIn k m b = eqb (kindAt m b) k ⇒ countAt m b ∣ 0
 
 -- r is how many records of kind k block b has
 pub record CountIs (k : ℕ) (m : List ℕ) (b r : ℕ) : Type 0 where

@@ -5,7 +5,7 @@ use mathlib.Core.List.{List, [], _∷_}
 use lib.Dec.{eqb, leb, ltb}
 use lib.ListN.{length}
 use Rattle.base.specs.Below.{allBelow, every}
-use Rattle.base.specs.Cases.{pick, _∣_, _is_⇒_}
+use Rattle.base.specs.Cases.{_∣_, _is_⇒_}
 use Rattle.base.specs.Course.{firstWith}
 use Rattle.model.specs.Records.{Model, signalAt, variableAt, processAt, driverAt, nodeAt, statementAt}
 use Rattle.model.specs.declared.records.SignalRecord.{SignalRecord}

@@ -6,7 +6,7 @@ use mathlib.Core.List.{List, _++_}
 use Prim.Native.Nat.{ℕ, _+_, _<_}
 use lib.ListN.{length, getD, take, drop}
 use Rattle.base.specs.Below.{firstFailing}
-use Rattle.base.specs.Cases.{pick, _∣_, _is_⇒_}
+use Rattle.base.specs.Cases.{_∣_, _is_⇒_}
 use Rattle.model.specs.Blocks.{headsOk, startsOf, totalOf}
 use Rattle.model.specs.Records.{Model, modelOf, statementAt}
 use Rattle.model.specs.Fields.{ownerOf, totalsOk}
@@ -18,7 +18,13 @@ use Rattle.model.specs.declared.index.Loaded.{Loaded}
 -- where the index keeps the starts of the records of kind k: 32 signals, 64 variables, 16 processes, 64 drivers, 400 nodes
 -- and 200 statements
 unfoldable pub sectionOf : ℕ → ℕ
-sectionOf k = k is 1 ⇒ 0 ∣ k is 2 ⇒ 32 ∣ k is 3 ⇒ 96 ∣ k is 4 ⇒ 112 ∣ k is 5 ⇒ 176 ∣ 576
+sectionOf k =
+    k is 1 ⇒ 0
+    ∣ k is 2 ⇒ 32
+    ∣ k is 3 ⇒ 96
+    ∣ k is 4 ⇒ 112
+    ∣ k is 5 ⇒ 176
+    ∣ 576
 
 -- xs written into a list from a place on
 unfoldable pub placed : List ℕ → ℕ → List ℕ → List ℕ

@@ -6,7 +6,7 @@ use mathlib.Core.List.{List, [], _∷_}
 use lib.Dec.{eqb, leb, ltb}
 use lib.ListN.{length, getD}
 use Rattle.base.specs.Below.{allBelow, sumBelow, every, firstFailing}
-use Rattle.base.specs.Cases.{pick, _∣_, _is_⇒_}
+use Rattle.base.specs.Cases.{_∣_, _⇒_, _is_⇒_}
 use Rattle.base.specs.Course.{course, firstWith}
 use Rattle.model.specs.Blocks.{lengthOk, sumsOk, headsOk}
 use Rattle.model.specs.Records.{Model, modelOf, signalAt, variableAt, driverAt, nodeAt, statementAt}
@@ -26,7 +26,7 @@ driversRise M = allBelow (λ i. pairBelow (driverAt M i) (driverAt M (i + 1))) (
 
 -- how many drivers signal s has
 unfoldable pub driversOf : Model → ℕ → ℕ
-driversOf M s = sumBelow (λ i. pick (eqb (driverAt M i .signal) s) 1 0) (length (M .drivers))
+driversOf M s = sumBelow (λ i. eqb (driverAt M i .signal) s ⇒ 1 ∣ 0) (length (M .drivers))
 
 -- "an integer signal has more than one"
 unfoldable pub singleOk : Model → ℕ → Bool

@@ -6,7 +6,7 @@ use mathlib.Core.List.{List, [], _∷_}
 use lib.Dec.{eqb, leb, ltb}
 use lib.ListN.{length, getD}
 use Rattle.base.specs.Below.{allBelow, every}
-use Rattle.base.specs.Cases.{pick, _∣_, _is_⇒_}
+use Rattle.base.specs.Cases.{_∣_, _⇒_, _is_⇒_}
 use Rattle.base.specs.Course.{course}
 use Rattle.model.specs.Records.{Model, signalAt, variableAt, nodeAt, statementAt}
 use Rattle.model.specs.Fields.{absent}
@@ -15,7 +15,11 @@ use Rattle.model.specs.declared.records.StatementRecord.{StatementRecord
 
 -- how many operands a node of the kind has: two, one (not, negate) or none
 unfoldable pub operandsOf : ℕ → ℕ
-operandsOf kind = pick (leb kind 5) 0 (pick (eqb kind 6) 1 (pick (eqb kind 10) 1 2))
+operandsOf kind =
+    leb kind 5 ⇒ 0
+    ∣ eqb kind 6 ⇒ 1
+    ∣ eqb kind 10 ⇒ 1
+    ∣ 2
 
 -- "An operand has a lower number than the node that uses it"
 unfoldable pub lowerOk : NodeRecord → ℕ → Bool
@@ -73,12 +77,13 @@ typeBy M d p q =
     ∣ d .kind is 3 ⇒ variableAt M (d .a) .ty
     ∣ d .kind is 4 ⇒ signalAt M (d .a) .ty
     ∣ d .kind is 5 ⇒ signalAt M (d .a) .ty
-    ∣ d .kind is 6 ⇒ pick (eqb p logic || eqb p boolean) p mistyped
-    ∣ d .kind is 10 ⇒ pick (eqb p integer) integer mistyped
-    ∣ d .kind is 13 ⇒ pick (eqb p q && (eqb p integer || eqb p logic)) boolean mistyped
-    ∣ d .kind is 14 ⇒ pick (eqb p integer && eqb q integer) boolean mistyped
-    ∣ pick (leb (d .kind) 9) (pick (eqb p q && (eqb p logic || eqb p boolean)) p mistyped)
-    (pick (eqb p integer && eqb q integer) integer mistyped)
+    ∣ d .kind is 6 ⇒ (eqb p logic || eqb p boolean ⇒ p ∣ mistyped)
+    ∣ d .kind is 10 ⇒ (eqb p integer ⇒ integer ∣ mistyped)
+    ∣ d .kind is 13 ⇒ (eqb p q && (eqb p integer || eqb p logic) ⇒ boolean ∣ mistyped)
+    ∣ d .kind is 14 ⇒ (eqb p integer && eqb q integer ⇒ boolean ∣ mistyped)
+    ∣ leb (d .kind) 9 ⇒ (eqb p q && (eqb p logic || eqb p boolean) ⇒ p ∣ mistyped)
+    ∣ eqb p integer && eqb q integer ⇒ integer
+    ∣ mistyped
 
 unfoldable pub nextType : Model → ℕ → List ℕ → ℕ
 nextType M n types = typeBy M (nodeAt M n) (getD types (nodeAt M n .a) mistyped) (getD types (nodeAt M n .b) mistyped)

@@ -5,7 +5,7 @@ ghost use Prim.Native.Nat.{_+_, _≤_, _<_};
 ghost use lib.Dec.{eqb, leb, ltb};
 ghost use lib.ListN.{length, getD};
 ghost use Rattle.base.specs.Below.{allBelow};
-ghost use Rattle.base.specs.Cases.{pick};
+ghost use Rattle.base.specs.Cases.{_∣_, _⇒_};
 ghost use Rattle.model.specs.Records.{modelOf, signalAt, variableAt, statementAt};
 ghost use Rattle.model.specs.Fields.{absent, isNodeOrAbsent, nodeOk, fieldsOk};
 ghost use Rattle.model.specs.Trees.{mistyped, typeBy, typeOf, statementTyped, typesOk};
@@ -81,7 +81,7 @@ fn type_by<'a>(m: &'a [u8], index: &'a [u16; 1376], d: NodeRecord, p: usize, q: 
 // The type of operand a of node n, the types of the nodes below n being in the index.
 fn operand_type(index: &[u16; 1376], n: usize, a: usize) -> usize
     requires { ⌜ n ≤ 400 ⌝ }
-    ensures { λ r. ⌜ r ≡ pick (ltb a n) (getD (now (index .entry)) (776 + a) 0) mistyped ⌝ }
+    ensures { λ r. ⌜ r ≡ (ltb a n ⇒ getD (now (index .entry)) (776 + a) 0 ∣ mistyped) ⌝ }
 {
     if a < n {
         entry(index, 776 + a)

@@ -17,7 +17,7 @@ use Rattle.base.proofs.Below.{list-length, list-at}
 use Rattle.model.specs.Records.{Model}
 use Rattle.cycle.specs.Configuration.{Configuration}
 use Rattle.cycle.specs.Orders.{Outcome, refused, picked, advanced, settled, readOf}
-use Rattle.cycle.specs.View.{Fine, Answers, viewOf, outcomeOf}
+use Rattle.cycle.specs.View.{Valid, Answers, viewOf, outcomeOf}
 use Rattle.cycle.specs.declared.config.Config.{Config}
 use Rattle.cycle.specs.declared.orders.Answered.{Answered}
 use Rattle.session.specs.Lists.{order, orderOf, ordersOf, isKnown, performed, answerBytes, answerOf, played}
@@ -70,7 +70,7 @@ module _ (os : List ℕ) (i : ℕ) where
 -- those written
 pub record Playing (M : Model) (os : List ℕ) (c₀ : Configuration) (i : ℕ) (at : Config) (answers : List ℕ) : Type 0 where
   pub low : i ≤ length os / 4
-  pub fine : Fine M at
+  pub valid : Valid M at
   pub room : length answers ≡ 16 * (length os / 4)
   pub end : played M (drop i (ordersOf os)) (viewOf at) .end ≡ played M (ordersOf os) c₀ .end
   pub bytes : take (16 * i) answers ++ bytesOf (played M (drop i (ordersOf os)) (viewOf at) .answers) ≡ bytesOf (played M (ordersOf os) c₀ .answers)
@@ -133,7 +133,7 @@ module _ {M : Model} {os : List ℕ} {c₀ : Configuration} {i : ℕ} {at : Conf
       playing-next =
           record {
             low = omega (arith, t .here);
-            fine = a .fine;
+            valid = a .valid;
             room = room-next ∙ t .playing .room;
             end = end-next ∙ t .playing .end;
             bytes = bytes-next _ ∙ t .playing .bytes;

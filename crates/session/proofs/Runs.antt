@@ -9,7 +9,7 @@ use native.Mathlib.Omega.{arith}
 use borrow.Author.Tests.{eqb-true, ne-eqb, ltb-true}
 use lib.Dec.{eqb, ltb}
 use lib.ListN.{length}
-use Rattle.base.specs.Cases.{pick}
+use Rattle.base.specs.Cases.{_∣_, _⇒_}
 use Rattle.base.proofs.Below.{and-true-false}
 use Rattle.base.proofs.Cases.{by-test}
 use Rattle.base.proofs.Course.{first-at}
@@ -90,7 +90,7 @@ module _ (M : Model) where
       let same : settledFrom M 0 n c .picks ≡ s .more = s .picks ∙ zero-add (s .more) in
       record { run = rw same (s .run); picks = omega arith; refusal = omega arith }
 
-  advance-does : (c : Configuration) (r : Outcome) → r ≡ advanced M c → Advance M c r → Does c (pick (eqb (r .refusal) 0) 1 0) r
+  advance-does : (c : Configuration) (r : Outcome) → r ≡ advanced M c → Advance M c r → Does c (eqb (r .refusal) 0 ⇒ 1 ∣ 0) r
   advance-does c r e (advance-refused n h) = rw (ne-eqb n 0 (λ z. omega arith)) (refusal-does c n h)
   advance-does c r e (delta-done quiet due few) = record { run = advance-run c r e refl refl; picks = omega arith; refusal = omega arith }
   advance-does c r e (time-done t quiet due at low) = record { run = advance-run c r e refl refl; picks = omega arith; refusal = omega arith }
@@ -98,7 +98,7 @@ module _ (M : Model) where
   -- the same, by as many advances as the answer to order o says
   module _ (o : Order) (c : Configuration) where
     abbrev Counted : Outcome → Type 0
-    Counted r = Does c (pick (isAdvance o (answerOf r)) 1 0) r
+    Counted r = Does c (isAdvance o (answerOf r) ⇒ 1 ∣ 0) r
 
     -- an order of another kind than 2 is no advance
     no-advance : {r : Outcome} → eqb (o .kind) 2 ≡ false → Does c 0 r → Counted r

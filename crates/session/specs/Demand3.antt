@@ -8,7 +8,7 @@ use Prim.Native.Nat.{ℕ, _+_, _<_}
 use lib.Dec.{eqb}
 use lib.ListN.{getD}
 use Rattle.base.specs.Bytes.{byteAt, wordAt}
-use Rattle.base.specs.Cases.{pick}
+use Rattle.base.specs.Cases.{_∣_, _⇒_}
 use Rattle.determinacy.specs.Kernel.{Kernel}
 use Rattle.determinacy.specs.Determinacy.{Tally, Determinacy}
 use Rattle.model.specs.Records.{Model, modelOf}
@@ -30,7 +30,7 @@ isAdvance o a = eqb (o .kind) 2 && eqb (byteAt a 0) 0
 unfoldable pub advancesOf : List Order → List (List ℕ) → ℕ
 advancesOf [] bs = 0
 advancesOf (o ∷ os) [] = 0
-advancesOf (o ∷ os) (a ∷ bs) = pick (isAdvance o a) 1 0 + advancesOf os bs
+advancesOf (o ∷ os) (a ∷ bs) = (isAdvance o a ⇒ 1 ∣ 0) + advancesOf os bs
 
 -- a list of bytes: what an order list is made of
 pub record Bytes : Type 0 where

@@ -6,7 +6,7 @@ use lib.Dec.{eqb}
 use lib.ListN.{length, take, drop}
 use Rattle.base.specs.Below.{listBelow}
 use Rattle.base.specs.Bytes.{byteAt, wordAt}
-use Rattle.base.specs.Cases.{pick, _∣_, _is_⇒_}
+use Rattle.base.specs.Cases.{_∣_, _⇒_, _is_⇒_}
 use Rattle.model.specs.Records.{Model}
 use Rattle.cycle.specs.Configuration.{Configuration}
 use Rattle.cycle.specs.Orders.{Outcome, refused, picked, advanced, settled, readOf}
@@ -40,11 +40,11 @@ isKnown o =
 -- the known kinds 4 is the one left.
 unfoldable pub performed : Model → Order → Configuration → Outcome
 performed M o c =
-    pick (not (isKnown o)) (refused 11 c)
-    (o .kind is 1 ⇒ picked M (o .argument) c
+    not (isKnown o) ⇒ refused 11 c
+    ∣ o .kind is 1 ⇒ picked M (o .argument) c
     ∣ o .kind is 2 ⇒ advanced M c
     ∣ o .kind is 3 ⇒ settled M (o .count) c
-    ∣ readOf M (o .argument) c)
+    ∣ readOf M (o .argument) c
 
 -- byte i of a number, little endian
 abbrev pub byteOf : ℕ → ℕ → ℕ

@@ -6,7 +6,7 @@ use Prim.Native.Nat.{ℕ, _*_, _%_}
 use lib.Dec.{eqb, leb}
 use lib.ListN.{length}
 use Rattle.base.specs.Below.{firstFailing}
-use Rattle.base.specs.Cases.{pick}
+use Rattle.base.specs.Cases.{_∣_, _⇒_}
 use Rattle.model.specs.Records.{Model, modelOf}
 use Rattle.model.specs.Owners.{rulesOf}
 use Rattle.cycle.specs.Configuration.{Configuration, first, empty}
@@ -55,9 +55,8 @@ refusedWith n buffer = record { number = n; end = empty; buffer = buffer }
 -- the session of a model, orders and an answer buffer, all three any bytes
 unfoldable pub sessionOf : List ℕ → List ℕ → List ℕ → Session
 sessionOf model orders buffer =
-    pick (eqb (numberOf model orders buffer) 0)
-    (accepted (played (modelOf model) (ordersOf orders) (first (modelOf model))))
-    (refusedWith (numberOf model orders buffer) buffer)
+    eqb (numberOf model orders buffer) 0 ⇒ accepted (played (modelOf model) (ordersOf orders) (first (modelOf model)))
+    ∣ refusedWith (numberOf model orders buffer) buffer
 
 -- what the program returned, and what the buffer, once `old`, holds then, is the session
 pub record SessionIs (model orders old new : List ℕ) (r : Ended) : Type 0 where

@@ -6,7 +6,7 @@ use Prim.Native.Nat.{ℕ, suc, _+_, _*_, _-_, _^_}
 use lib.Dec.{ltb}
 use lib.ListN.{length, take}
 use Rattle.base.specs.Bytes.{byteAt, wordAt, longAt}
-use Rattle.base.specs.Cases.{pick}
+use Rattle.base.specs.Cases.{_∣_, _⇒_}
 use Rattle.base.specs.Course.{firstWith}
 use Rattle.io.specs.Digits.{digits}
 
@@ -29,7 +29,7 @@ minus = 45
 
 -- 32 bits as a signed number
 unfoldable pub signedOf : ℕ → List ℕ
-signedOf v = pick (ltb v 2147483648) (decimalOf v) (minus ∷ decimalOf (4294967296 - v))
+signedOf v = ltb v 2147483648 ⇒ decimalOf v ∣ (minus ∷ decimalOf (4294967296 - v))
 
 -- the time of an answer, 64 bits
 abbrev pub timeIn : List ℕ → ℕ

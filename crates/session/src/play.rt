@@ -3,7 +3,7 @@ ghost use mathlib.Core.Path.{_≡_};
 ghost use Prim.Native.Nat.{_*_, _/_};
 ghost use lib.ListN.{length};
 ghost use Rattle.model.specs.Records.{modelOf};
-ghost use Rattle.cycle.specs.View.{Runs, Fine, viewOf};
+ghost use Rattle.cycle.specs.View.{Runs, Valid, viewOf};
 ghost use Rattle.session.specs.Lists.{isKnown, order};
 ghost use Rattle.session.specs.Sessions.{PlayedTo};
 use crate::encode::put_answer;
@@ -33,7 +33,7 @@ pub fn play<'a>(
     answers: &mut [u8],
 ) -> Config
     requires { ⌜ Runs (now m) (now index) ⌝ }
-    requires { ⌜ Fine (modelOf (now m)) c ⌝ }
+    requires { ⌜ Valid (modelOf (now m)) c ⌝ }
     requires { ⌜ length (now answers) ≡ 16 * (length (now orders) / 4) ⌝ }
     ensures { λ r. ⌜ PlayedTo (modelOf (now (m .entry))) (now (orders .entry)) (viewOf c) (viewOf r) (now (answers .exit)) ⌝ }
 {

@@ -2,7 +2,7 @@
 use mathlib.Core.Bool.{Bool, _||_}
 use Prim.Native.Nat.{ℕ}
 use lib.Dec.{eqb, ltb}
-use Rattle.base.specs.Cases.{pick}
+use Rattle.base.specs.Cases.{_∣_, _⇒_}
 
 abbrev pub U : ℕ
 U = 0
@@ -34,7 +34,7 @@ abbrev pub ‘-’ : ℕ
 
 -- the code of a value; a number above 8, which no rule of the paper meets, is read as X
 unfoldable pub codeOf : ℕ → ℕ
-codeOf x = pick (ltb x 9) x X
+codeOf x = ltb x 9 ⇒ x ∣ X
 
 unfoldable pub isU : ℕ → Bool
 isU x = eqb x U

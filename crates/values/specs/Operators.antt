@@ -1,13 +1,8 @@
 -- "The base holds the standard's operator tables. They say:" the four sentences below, each by its classes, in its order.
 use mathlib.Core.Bool.{Bool, _&&_, _||_, not}
 use Prim.Native.Nat.{ℕ}
-use Rattle.base.specs.Cases.{pick, _∣_}
+use Rattle.base.specs.Cases.{_∣_, _⇒_}
 use Rattle.values.specs.Nine.{U, X, ‘0’, ‘1’, isU, low, high}
-
--- a list of cases by tests: `a ⇒ x ∣ b ⇒ y ∣ z` is x where a holds; else y where b does; else z
-infix 4 _⇒_
-abbrev pub _⇒_ : {A : Type 0} → Bool → A → A → A
-(b ⇒ x) y = pick b x y
 
 -- "`not` sends 0, L to 1, 1, H to 0, U to U, the rest to X."
 unfoldable pub notOf : ℕ → ℕ

@@ -51,7 +51,7 @@ play-requires c κs =
     let made = c .before .before in
     let test = made .before .before .before in
     let free = test .before .before .before in
-    (runs (free .before .load .ensures .usable (free .if1 .left)), (made .first .ensures .fine, room _ _ (sym (test .before .lengths-refusal .ensures) ∙ test .if2 .left)))
+    (runs (free .before .load .ensures .usable (free .if1 .left)), (made .first .ensures .valid, room _ _ (sym (test .before .lengths-refusal .ensures) ∙ test .if2 .left)))
 
 same-length-2 : tie.Need-same-length-2
 same-length-2 c = search needs

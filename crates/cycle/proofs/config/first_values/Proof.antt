@@ -9,10 +9,10 @@ use Rattle.cycle.proofs.config.first_values.Statement.{statement}
 use Rattle.cycle.proofs.config.first_values.Tie as tie
 
 abbrev Inv-loop : tie.InvT-loop
-Inv-loop m index currents nd n r₀ i₀ r i = (i ≤ n) × Filled (firstValue (modelOf m) currents nd) 32 i r
+Inv-loop m index currents ndrivers n r₀ i₀ r i = (i ≤ n) × Filled (firstValue (modelOf m) currents ndrivers) 32 i r
 
 abbrev μ-loop : tie.MeasureT-loop
-μ-loop m index currents nd n r₀ i₀ r i = n - i
+μ-loop m index currents ndrivers n r₀ i₀ r i = n - i
 
 loop-holds : tie.Need-loop-holds Inv-loop μ-loop
 loop-holds c = (zero-le, filled-none _ _ _ refl)

@@ -8,10 +8,10 @@ use Rattle.cycle.proofs.config.resolved.Statement.{statement}
 use Rattle.cycle.proofs.config.resolved.Tie as tie
 
 abbrev Inv-loop : tie.InvT-loop
-Inv-loop m index currents nd s other found₀ v₀ k₀ found v k = (k ≤ nd) × Resolving (modelOf m) currents s other k found v
+Inv-loop m index currents ndrivers s other found₀ v₀ k₀ found v k = (k ≤ ndrivers) × Resolving (modelOf m) currents s other k found v
 
 abbrev μ-loop : tie.MeasureT-loop
-μ-loop m index currents nd s other found₀ v₀ k₀ found v k = nd - k
+μ-loop m index currents ndrivers s other found₀ v₀ k₀ found v k = ndrivers - k
 
 loop-holds : tie.Need-loop-holds Inv-loop μ-loop
 loop-holds c = search (needs, resolving-none)

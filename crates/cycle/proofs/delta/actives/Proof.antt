@@ -11,10 +11,10 @@ use Rattle.cycle.proofs.delta.actives.Statement.{statement}
 use Rattle.cycle.proofs.delta.actives.Tie as tie
 
 abbrev Inv-loop : tie.InvT-loop
-Inv-loop m index due nd time active₀ k₀ active k = (k ≤ nd) × SetOf (activeIn (modelOf m) due time k) active
+Inv-loop m index due ndrivers time active₀ k₀ active k = (k ≤ ndrivers) × SetOf (activeIn (modelOf m) due time k) active
 
 abbrev μ-loop : tie.MeasureT-loop
-μ-loop m index due nd time active₀ k₀ active k = nd - k
+μ-loop m index due ndrivers time active₀ k₀ active k = ndrivers - k
 
 pub actives-spec : {M : Type 1} → statement M
 actives-spec =

@@ -11,10 +11,10 @@ use Rattle.cycle.proofs.delta.resolve.Statement.{statement}
 use Rattle.cycle.proofs.delta.resolve.Tie as tie
 
 abbrev Inv-loop : tie.InvT-loop
-Inv-loop m index currents nd active signals₀ ns changed₀ s₀ signals changed s = (s ≤ ns) × (length signals ≡ 1024) × ResolvedTo (modelOf m) currents nd active signals₀ s signals changed
+Inv-loop m index currents ndrivers active signals₀ nsignals changed₀ s₀ signals changed s = (s ≤ nsignals) × (length signals ≡ 1024) × ResolvedTo (modelOf m) currents ndrivers active signals₀ s signals changed
 
 abbrev μ-loop : tie.MeasureT-loop
-μ-loop m index currents nd active signals₀ ns changed₀ s₀ signals changed s = ns - s
+μ-loop m index currents ndrivers active signals₀ nsignals changed₀ s₀ signals changed s = nsignals - s
 
 pub resolve-spec : {M : Type 1} → statement M
 resolve-spec =

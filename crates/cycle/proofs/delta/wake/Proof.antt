@@ -10,15 +10,15 @@ use mir.Val.{Fits}
 use Rattle.model.specs.Records.{modelOf}
 use Rattle.cycle.specs.View.{arrays}
 use Rattle.base.proofs.Turns.{turn-there, turn-room, turn-fours, turn-eights, turn-next, turn-most}
-use Rattle.cycle.proofs.DeltaProcesses.{Waking, waking-none, waking-fine, waking-more, waking-same, waking-all}
+use Rattle.cycle.proofs.DeltaProcesses.{Waking, waking-none, waking-valid, waking-more, waking-same, waking-all}
 use Rattle.cycle.proofs.delta.wake.Statement.{statement}
 use Rattle.cycle.proofs.delta.wake.Tie as tie
 
 abbrev Inv-loop : tie.InvT-loop
-Inv-loop m index variables signals changed time np ps₀ p₀ ps p = (p ≤ np) × Waking (modelOf m) time changed (arrays variables signals) ps₀ p ps
+Inv-loop m index variables signals changed time nprocesses ps₀ p₀ ps p = (p ≤ nprocesses) × Waking (modelOf m) time changed (arrays variables signals) ps₀ p ps
 
 abbrev μ-loop : tie.MeasureT-loop
-μ-loop m index variables signals changed time np ps₀ p₀ ps p = np - p
+μ-loop m index variables signals changed time nprocesses ps₀ p₀ ps p = nprocesses - p
 
 -- the process is there, and one of 16
 module _ (c : tie.In-loop Inv-loop μ-loop) where
@@ -66,7 +66,7 @@ wake-spec =
     let test = c .before .before .before .before .loop-test in
     let head = c .before .before .before .before .before .loop in
     let start = c .before .before .before .before .before .before .before in
-    (start .pre .0, (there (c .before .before .before .before), (start .pre .1 .1 .0, waking-fine _ _ _ _ _ _ _ _ (test .taken) (start .pre .1 .1 .1) (head .inv .1)))))
+    (start .pre .0, (there (c .before .before .before .before), (start .pre .1 .1 .0, waking-valid _ _ _ _ _ _ _ _ (test .taken) (start .pre .1 .1 .1) (head .inv .1)))))
     -- mul-ps
     (λ c. eights (c .before .before .before .before .before .before .before .before))
     -- element-write-ps

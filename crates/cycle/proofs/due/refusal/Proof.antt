@@ -8,10 +8,10 @@ use Rattle.cycle.proofs.due.refusal.Statement.{statement}
 use Rattle.cycle.proofs.due.refusal.Tie as tie
 
 -- no process is ready, and none is stopped
-none-ready : (e : tie.Else1) → someIs (e .before .before .args .standings .now) (e .before .before .args .np) 0 ≡ false
+none-ready : (e : tie.Else1) → someIs (e .before .before .args .standings .now) (e .before .before .args .nprocesses) 0 ≡ false
 none-ready e = sym (e .before .any-standing .ensures) ∙ e .if1 .left
 
-none-stopped : (e : tie.Else2) → someIs (e .before .before .before .before .args .standings .now) (e .before .before .before .before .args .np) 2 ≡ false
+none-stopped : (e : tie.Else2) → someIs (e .before .before .before .before .args .standings .now) (e .before .before .before .before .args .nprocesses) 2 ≡ false
 none-stopped e = sym (e .before .any-standing2 .ensures) ∙ e .if2 .left
 
 pub refusal-spec : {M : Type 1} → statement M

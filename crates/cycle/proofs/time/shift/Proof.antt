@@ -9,10 +9,10 @@ use Rattle.cycle.proofs.time.shift.Statement.{statement}
 use Rattle.cycle.proofs.time.shift.Tie as tie
 
 abbrev Inv-loop : tie.InvT-loop
-Inv-loop signals₀ ns n k s₀ signals s = (s ≤ ns) × (length signals ≡ 1024) × ShiftedBy signals₀ n s signals
+Inv-loop signals₀ nsignals n k s₀ signals s = (s ≤ nsignals) × (length signals ≡ 1024) × ShiftedBy signals₀ n s signals
 
 abbrev μ-loop : tie.MeasureT-loop
-μ-loop signals₀ ns n k s₀ signals s = ns - s
+μ-loop signals₀ nsignals n k s₀ signals s = nsignals - s
 
 pub shift-spec : {M : Type 1} → statement M
 shift-spec =

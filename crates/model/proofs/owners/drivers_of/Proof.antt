@@ -3,7 +3,7 @@ use Prim.Native.Nat.{_-_, _≤_, zero-le}
 use borrow.Author.Count.{falls}
 use lib.Dec.{eqb}
 use Rattle.base.specs.Below.{sumBelow}
-use Rattle.base.specs.Cases.{pick}
+use Rattle.base.specs.Cases.{_∣_, _⇒_}
 use Rattle.base.proofs.Below.{sum-none}
 use Rattle.base.proofs.Turns.{turn-next, turn-most, sum-turn, sum-ended, count-fits, count-most}
 use Rattle.model.specs.Records.{modelOf, driverAt}
@@ -14,7 +14,7 @@ use Rattle.model.proofs.owners.drivers_of.Tie as tie
 
 abbrev Inv-loop : tie.InvT-loop
 Inv-loop m index t s n₀ i₀ n i =
-    (i ≤ t .drivers) × (n ≤ i) × (n ≡ sumBelow (λ k. pick (eqb (driverAt (modelOf m) k .signal) s) 1 0) i)
+    (i ≤ t .drivers) × (n ≤ i) × (n ≡ sumBelow (λ k. eqb (driverAt (modelOf m) k .signal) s ⇒ 1 ∣ 0) i)
 
 abbrev μ-loop : tie.MeasureT-loop
 μ-loop m index t s n₀ i₀ n i = t .drivers - i
@@ -51,7 +51,7 @@ loop-again c =
     let s = l .before .before in (
       turn-most _ _ (d .if1 .taken),
       count-most _ _ _ _ (s .pre .1 .drivers) (d .if1 .taken) (l .loop .inv .1) (eqb (c .before .before .driver-at .result .signal) (s .args .s)) _ (c .choose .ensures),
-      sum-turn _ _ _ _ (l .loop .inv .2) (c .choose .ensures ∙ ap (λ e. pick (eqb (e .signal) (s .args .s)) 1 0) (c .before .before .driver-at .ensures)),
+      sum-turn _ _ _ _ (l .loop .inv .2) (c .choose .ensures ∙ ap (λ e. eqb (e .signal) (s .args .s) ⇒ 1 ∣ 0) (c .before .before .driver-at .ensures)),
     )
 
 returns : tie.Need-returns Inv-loop μ-loop

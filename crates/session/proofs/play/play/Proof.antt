@@ -96,7 +96,7 @@ loop-again c =
     let put = c .before .before in
     let test = put .before .before in
     let order = reading (test .before) in
-    playing-next order (refused-order order (test .if1 .taken)) (refused-each _ 11 _ (order .playing .fine)) (put .put-answer .ensures)
+    playing-next order (refused-order order (test .if1 .taken)) (refused-each _ 11 _ (order .playing .valid)) (put .put-answer .ensures)
 
 pick-requires : tie.Need-pick-requires Inv-loop μ-loop
 pick-requires c κs = search needs
@@ -186,7 +186,7 @@ loop-again-4 c =
     playing-next order (settle-order order (test .if1 .left) (did .before .match .keys3)) (did .settle .ensures) (put .put-answer4 .ensures)
 
 read-requires : tie.Need-read-requires Inv-loop μ-loop
-read-requires c κs = let known = c .before .before in few-signals (start known .pre .0 .facts) (head known .loop .inv .fine)
+read-requires c κs = let known = c .before .before in few-signals (start known .pre .0 .facts) (head known .loop .inv .valid)
 
 add-put-answer-5 : tie.Need-add-put-answer-5 Inv-loop μ-loop
 add-put-answer-5 c = omega (arith, fits (c .before .before .before .before))
@@ -213,7 +213,7 @@ loop-again-5 c =
     let test = did .before .before in
     let order = reading (test .before) in
     let rest = did .before .match .rest in
-    playing-next order (read-order order (test .if1 .left) (rest .0 .0 .1) (rest .0 .1) (rest .1)) (did .read .ensures _ (order .playing .fine)) (put .put-answer5 .ensures)
+    playing-next order (read-order order (test .if1 .left) (rest .0 .0 .1) (rest .0 .1) (rest .1)) (did .read .ensures _ (order .playing .valid)) (put .put-answer5 .ensures)
 
 same-length : tie.Need-same-length Inv-loop μ-loop
 same-length c = search needs

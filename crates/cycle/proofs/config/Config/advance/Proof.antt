@@ -7,7 +7,7 @@ use denote.Ref.{now}
 use borrow.Author.Needs.{needs}
 use Rattle.model.specs.Records.{Model, modelOf}
 use Rattle.model.specs.Facts.{Facts}
-use Rattle.cycle.specs.View.{Fine}
+use Rattle.cycle.specs.View.{Valid}
 use Rattle.cycle.specs.declared.config.Config.{Config}
 use Rattle.cycle.proofs.Advances.{few-signals, few-drivers, few-processes, advance-refused, DeltaDue, delta-due-now, TimeDue, time-due-later}
 use Rattle.cycle.proofs.DeltaDrivers.{slotOf, some-pending, slot-taken, slot-kept, Taking, taking-none, taking-more, taking-same, time-most, next-timed, next-few, deltas-kept}
@@ -15,21 +15,21 @@ use Rattle.cycle.proofs.DeltaView.{delta-answers, processes-kept}
 use Rattle.cycle.proofs.Lists.{length-mapped}
 use Rattle.cycle.proofs.Soonest.{no-first-before, no-deadline-before}
 use Rattle.cycle.proofs.TimeView.{Elapsing, elapsing-none, elapsing-more, next-ahead, each-ahead, time-stepped}
-use Rattle.cycle.proofs.ViewLaws.{nd-is, np-is}
+use Rattle.cycle.proofs.ViewLaws.{ndrivers-is, nprocesses-is}
 use Rattle.cycle.proofs.config.Config.advance.Statement.{statement}
 use Rattle.cycle.proofs.config.Config.advance.Tie as tie
 
 abbrev Inv-loop : tie.InvT-loop
-Inv-loop m index self₀ refusal t ns nd np time active k₀ self k = (k ≤ nd) × (nd ≤ 64) × Taking self₀ k self
+Inv-loop m index self₀ refusal t nsignals ndrivers nprocesses time active k₀ self k = (k ≤ ndrivers) × (ndrivers ≤ 64) × Taking self₀ k self
 
 abbrev μ-loop : tie.MeasureT-loop
-μ-loop m index self₀ refusal t ns nd np time active k₀ self k = nd - k
+μ-loop m index self₀ refusal t nsignals ndrivers nprocesses time active k₀ self k = ndrivers - k
 
 abbrev Inv-loop2 : tie.InvT-loop2
-Inv-loop2 m index self₀ refusal t ns passed nd k₀ self k = (k ≤ nd) × (nd ≤ 64) × Elapsing self₀ passed k self
+Inv-loop2 m index self₀ refusal t nsignals passed ndrivers k₀ self k = (k ≤ ndrivers) × (ndrivers ≤ 64) × Elapsing self₀ passed k self
 
 abbrev μ-loop2 : tie.MeasureT-loop2
-μ-loop2 m index self₀ refusal t ns passed nd k₀ self k = nd - k
+μ-loop2 m index self₀ refusal t nsignals passed ndrivers k₀ self k = ndrivers - k
 
 -- the way back: to the start, and to what is due
 abbrev entry : tie.After-next-due Inv-loop μ-loop Inv-loop2 μ-loop2 → tie.Start Inv-loop μ-loop Inv-loop2 μ-loop2
@@ -53,18 +53,18 @@ module _ (e : tie.After-next-due Inv-loop μ-loop Inv-loop2 μ-loop2) where
   facts : Facts model
   facts = entry e .pre .0 .facts
 
-  fine : Fine model config
-  fine = entry e .pre .1
+  valid : Valid model config
+  valid = entry e .pre .1
 
-delta : (at : tie.At-loop Inv-loop μ-loop Inv-loop2 μ-loop2) → DeltaDue (model (looked at)) (config (looked at)) (fine (looked at))
+delta : (at : tie.At-loop Inv-loop μ-loop Inv-loop2 μ-loop2) → DeltaDue (model (looked at)) (config (looked at)) (valid (looked at))
 delta at =
     let e = looked at in
-    delta-due-now _ _ (fine e) _ (e .next-due .ensures) (at .before .before .before .before .before .if1 .left) (at .before .before .before .before .if2 .taken)
+    delta-due-now _ _ (valid e) _ (e .next-due .ensures) (at .before .before .before .before .before .if1 .left) (at .before .before .before .before .if2 .taken)
 
-later : (c : tie.Else2 Inv-loop μ-loop Inv-loop2 μ-loop2) → TimeDue (model (c .before .before)) (config (c .before .before)) (fine (c .before .before)) (c .before .before .next-due .result .time)
+later : (c : tie.Else2 Inv-loop μ-loop Inv-loop2 μ-loop2) → TimeDue (model (c .before .before)) (config (c .before .before)) (valid (c .before .before)) (c .before .before .next-due .result .time)
 later c =
     let e = c .before .before in
-    time-due-later _ _ (fine e) _ (e .next-due .ensures) (c .before .if1 .left) (c .if2 .left)
+    time-due-later _ _ (valid e) _ (e .next-due .ensures) (c .before .if1 .left) (c .if2 .left)
 
 pub advance-spec : {M : Type 1} → statement M
 advance-spec =
@@ -78,22 +78,22 @@ advance-spec =
     (λ c κs.
     let st = c .before .before .before .before .before in
     let facts = st .pre .0 .facts in
-    let fine = st .pre .1 in
-    (few-processes facts fine, (few-drivers facts fine, (no-first-before _ _ fine, no-deadline-before _ _ fine))))
+    let valid = st .pre .1 in
+    (few-processes facts valid, (few-drivers facts valid, (no-first-before _ _ valid, no-deadline-before _ _ valid))))
     -- refused-requires
     (λ c κs. search needs)
     -- returns
     (λ c.
     let e = c .before .before in
-    rw (advance-refused _ _ (fine e) _ (e .next-due .ensures) (c .before .if1 .taken)) (c .refused .ensures _ (fine e)))
+    rw (advance-refused _ _ (valid e) _ (e .next-due .ensures) (c .before .if1 .taken)) (c .refused .ensures _ (valid e)))
     -- actives-requires
     (λ c κs.
     let e = c .before .before .before .before in
-    (entry e .pre .0, nd-is _ _ (fine e .reachable)))
+    (entry e .pre .0, ndrivers-is _ _ (valid e .reachable)))
     -- loop-holds
     (λ c.
     let e = c .before .before .before .before .before in
-    (search needs, few-drivers (facts e) (fine e), none-taken (entry e)))
+    (search needs, few-drivers (facts e) (valid e), none-taken (entry e)))
     -- mul-if3
     (λ c. search needs)
     -- element-copy-out-if3
@@ -108,7 +108,7 @@ advance-spec =
     let test = c .before .before .before .loop-test in
     let at = c .before .before .before .before in
     let head = at .loop in
-    let f = fine (looked at) in
+    let f = valid (looked at) in
     (some-pending _ (slotOf (head .self) (head .k)) (next-timed _ _ f _ (test .taken) _ (head .inv .2)) (time-most _ _ f) (due .taken), next-few _ _ f _ (test .taken) _ (head .inv .2)))
     -- element-copy-out-self
     (λ c. search needs)
@@ -117,7 +117,7 @@ advance-spec =
     -- element-write-self
     (λ c. search needs)
     -- first-time-requires
-    (λ c κs. time-most _ _ (fine (looked (c .before .before .before .before .before .before))))
+    (λ c κs. time-most _ _ (valid (looked (c .before .before .before .before .before .before))))
     -- mul-self-2
     (λ c. search needs)
     -- element-write-self-2
@@ -135,7 +135,7 @@ advance-spec =
     let test = c .before .before .loop-test in
     let at = c .before .before .before in
     let head = at .loop in
-    let f = fine (looked at) in
+    let f = valid (looked at) in
     let timed = next-timed _ _ f _ (test .taken) _ (head .inv .2) in (
       search needs,
       search needs,
@@ -148,12 +148,12 @@ advance-spec =
     (λ c κs.
     let at = c .before .before .before .before in
     let e = looked at in
-    (entry e .pre .0, (nd-is _ _ (fine e .reachable), (few-signals (facts e) (fine e), at .loop .inv .2 .signals))))
+    (entry e .pre .0, (ndrivers-is _ _ (valid e .reachable), (few-signals (facts e) (valid e), at .loop .inv .2 .signals))))
     -- wake-requires
     (λ c κs.
     let at = c .before .before .before .before .before .before .before .before .before .before .before .before in
     let e = looked at in
-    (entry e .pre .0, (np-is _ _ (fine e .reachable), (time-most _ _ (fine e), processes-kept _ (facts e) _ (fine e) _ (at .before .actives .ensures) _ _ (at .loop .inv .2)))))
+    (entry e .pre .0, (nprocesses-is _ _ (valid e .reachable), (time-most _ _ (valid e), processes-kept _ (facts e) _ (valid e) _ (at .before .actives .ensures) _ _ (at .loop .inv .2)))))
     -- add-self
     (λ c.
     let at = c .before .before .before .before .before .before .before .before .before .before .before .before .before .before .before .before .before in
@@ -166,17 +166,17 @@ advance-spec =
     let at = c .before .before .before .before .before .before .before .before .before .before .before .before .before .before .before .before .before in
     let e = looked at in
     rw (delta at .is)
-    (delta-answers _ (facts e) _ (fine e) _ (at .before .actives .ensures) _ (at .loop .self) _ _ _ (passed .left) (at .loop .inv .2) (record { resolved = signals .ensures; woken = processes .ensures }) (delta at .few)))
+    (delta-answers _ (facts e) _ (valid e) _ (at .before .actives .ensures) _ (at .loop .self) _ _ _ (passed .left) (at .loop .inv .2) (record { resolved = signals .ensures; woken = processes .ensures }) (delta at .few)))
     -- sub-passed
     (λ c. search (needs, later c .from-now))
     -- shift-requires
     (λ c κs.
     let e = c .before .before .before in
-    (few-signals (facts e) (fine e), none-taken (entry e) .signals))
+    (few-signals (facts e) (valid e), none-taken (entry e) .signals))
     -- loop2-holds
     (λ c.
     let e = c .before .before .before .before in
-    (search needs, few-drivers (facts e) (fine e), elapsing-none _ _ (none-taken (entry e) .drivers)))
+    (search needs, few-drivers (facts e) (valid e), elapsing-none _ _ (none-taken (entry e) .drivers)))
     -- mul-d-2
     (λ c. search needs)
     -- element-copy-out-d-2
@@ -186,7 +186,7 @@ advance-spec =
     let head = c .before .before .loop2 in
     let l = c .before .before .before .before .before in
     let d = later l in
-    next-ahead _ _ _ _ (head .inv .2) (each-ahead _ _ (fine (l .before .before)) _ (d .earliest-at) (d .in-time) _ (c .before .loop2-test .taken)))
+    next-ahead _ _ _ _ (head .inv .2) (each-ahead _ _ (valid (l .before .before)) _ (d .earliest-at) (d .in-time) _ (c .before .loop2-test .taken)))
     -- mul-e-2
     (λ c. search needs)
     -- element-set-from-e-2
@@ -205,4 +205,4 @@ advance-spec =
     let past = c .before .before .shift in
     let l = c .before .before .before .before in
     let d = later l in
-    rw (d .is) (time-stepped _ _ (fine (l .before .before)) _ (d .earliest-at) (d .in-time) _ (past .ensures) _ (head .self) (c .loop2-test .left) (head .inv .2))))
+    rw (d .is) (time-stepped _ _ (valid (l .before .before)) _ (d .earliest-at) (d .in-time) _ (past .ensures) _ (head .self) (c .loop2-test .left) (head .inv .2))))

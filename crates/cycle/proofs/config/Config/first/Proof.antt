@@ -30,10 +30,10 @@ returns c =
     (record {
       time = refl;
       deltas = refl;
-      ns = pre .1 .signals;
-      nv = pre .1 .variables;
-      nd = pre .1 .drivers;
-      np = pre .1 .processes;
+      nsignals = pre .1 .signals;
+      nvariables = pre .1 .variables;
+      ndrivers = pre .1 .drivers;
+      nprocesses = pre .1 .processes;
       variables = c .before .before .before .before .before .before .first-variables .ensures;
       places = c .before .before .before .before .before .first-places .ensures;
       currents = c .before .before .before .before .first-currents .ensures;

@@ -6,7 +6,7 @@ use borrow.Author.Needs.{needs}
 use Rattle.cycle.proofs.config.Config.pick.Statement.{statement}
 use Rattle.cycle.proofs.config.Config.pick.Tie as tie
 
-few : (c : tie.Start) → c .args .t1 .np ≤ 16
+few : (c : tie.Start) → c .args .t1 .nprocesses ≤ 16
 few c = few-processes (c .pre .0 .facts) (c .pre .1)
 
 refused-requires : tie.Need-refused-requires

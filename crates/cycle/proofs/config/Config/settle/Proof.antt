@@ -26,7 +26,7 @@ module _ (c : tie.In-loop Inv-loop μ-loop) where
   abbrev start : tie.Start Inv-loop μ-loop
   start = c .before .before .before
 
-  ahead : (c .before .loop .n < start .args .count) × (c .before .loop .p < start .args .t1 .np)
+  ahead : (c .before .loop .n < start .args .count) × (c .before .loop .p < start .args .t1 .nprocesses)
   ahead = goes-on _ _ _ _ (c .loop-test .taken)
 
 -- what holds in every arm: after the call of `does`
@@ -46,7 +46,7 @@ module _ (c : tie.After-does Inv-loop μ-loop) where
         facts = args .pre .0 .facts;
         clock = at .loop .inv .clock;
         sized = at .loop .inv .sized;
-        fine = at .loop .inv .fine;
+        valid = at .loop .inv .valid;
         here = omega (arith, ahead test .1, at .loop .inv .whole);
         idle = c .before .before .before .before .before .if1 .left;
         does = c .does .ensures;
@@ -54,13 +54,13 @@ module _ (c : tie.After-does Inv-loop μ-loop) where
 
   -- the pick is made: the loop goes on with the struct that an arm left
   next : (r : Config) → Stepped (modelOf (args .args .m .now)) (at .loop .p) (at .loop .self) r
-      → Turning (modelOf (args .args .m .now)) (args .args .count) (args .args .t1 .time) (args .args .t1 .np) (args .args .t1) (at .loop .p) (at .loop .n + 1) r
+      → Turning (modelOf (args .args .m .now)) (args .args .count) (args .args .t1 .time) (args .args .t1 .nprocesses) (args .args .t1) (at .loop .p) (at .loop .n + 1) r
   next r d = turning-next (at .loop .inv) (ahead test .0) (ahead test .1) (is-ready turn) r d
 
   asked : Runs (args .args .m .now) (args .args .index .now) × ((at .loop .p < length (modelOf (args .args .m .now) .processes)) × Spans (modelOf (args .args .m .now)) (at .loop .p) (getD (at .loop .self .places) (at .loop .p) 0))
   asked = (args .pre .0, (process-in-model turn, place-spans turn))
 
-  falls : (args .args .count - (at .loop .n + 1)) + (args .args .t1 .np - at .loop .p) < (args .args .count - at .loop .n) + (args .args .t1 .np - at .loop .p)
+  falls : (args .args .count - (at .loop .n + 1)) + (args .args .t1 .nprocesses - at .loop .p) < (args .args .count - at .loop .n) + (args .args .t1 .nprocesses - at .loop .p)
   falls = omega (arith, ahead test .0)
 
 sized : (c : tie.Start Inv-loop μ-loop) → Sized (c .args .t1)
@@ -103,7 +103,7 @@ add-n : tie.Need-add-n Inv-loop μ-loop
 add-n c = omega (arith, ahead (c .before .before .before) .0)
 
 does-requires : tie.Need-does-requires Inv-loop μ-loop
-does-requires c κs = (c .before .before .before .before .before .before .before .before .before .pre .0, statement-there _ (c .before .before .before .before .before .before .before .before .before .pre .0 .facts) _ (c .before .before .before .before .before .before .before .loop .inv .fine) _ (omega (arith, ahead (c .before .before .before .before .before .before) .1)))
+does-requires c κs = (c .before .before .before .before .before .before .before .before .before .pre .0, statement-there _ (c .before .before .before .before .before .before .before .before .before .pre .0 .facts) _ (c .before .before .before .before .before .before .before .loop .inv .valid) _ (omega (arith, ahead (c .before .before .before .before .before .before) .1)))
 
 next-place-requires : tie.Need-next-place-requires Inv-loop μ-loop
 next-place-requires c κs = asked c

@@ -40,7 +40,7 @@ module _ (c : tie.After-does) where
         facts = start .pre .0 .facts;
         clock = refl;
         sized = sized start;
-        fine = start .pre .1 .0;
+        valid = start .pre .1 .0;
         here = start .pre .1 .1 .0;
         idle = start .pre .1 .1 .1;
         does = c .does .ensures;
