@@ -8,17 +8,18 @@ use native.Mathlib.Omega.{arith}
 use lib.Dec.{eqb, leb, ltb}
 use borrow.Author.Tests.{eq-eqb, ne-eqb, eqb-true, eqb-false, leb-false, ltb-false}
 use Rattle.base.proofs.Cases.{by-test}
-use Rattle.model.specs.Records.{Model}
-use Rattle.cycle.specs.Steps.{deltaStep, timeStep}
-use Rattle.cycle.specs.Orders.{refused, earliest, dueTimes, advanceDone, timeOrder, isReady, isStopped, advanced}
-use Rattle.cycle.specs.Invariant.{lastTime}
-use Rattle.cycle.specs.View.{never, viewOf, Valid}
-use Rattle.cycle.specs.Due.{soonestIn, someIs, refusalIn, DueIn}
+use Rattle.blocks.specs.Records.{Model}
+use Rattle.rules.specs.Steps.{deltaStep, timeStep}
+use Rattle.rules.specs.Orders.{refused, earliest, dueTimes, advanceDone, timeOrder, isReady, isStopped, advanced}
+use Rattle.rules.specs.Invariant.{lastTime}
+use Rattle.waveforms.specs.Pending.{never}
+use Rattle.cycle.specs.View.{viewOf, Valid}
+use Rattle.steps.specs.Due.{soonestIn, someIs, refusalIn, DueIn}
 use Rattle.cycle.specs.declared.config.Config.{Config}
-use Rattle.cycle.specs.declared.due.Due.{Due}
+use Rattle.steps.specs.declared.due.Due.{Due}
 use Rattle.model.specs.Facts.{Facts}
 use Rattle.cycle.proofs.ViewLaws.{nsignals-is, ndrivers-is, nprocesses-is}
-use Rattle.cycle.proofs.DueTimes.{due-within}
+use Rattle.rules.proofs.DueTimes.{due-within}
 use Rattle.cycle.proofs.Soonest.{orNever, soonest, due-now, standing-is}
 
 -- the totals of the struct are within the limits

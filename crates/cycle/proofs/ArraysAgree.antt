@@ -6,18 +6,21 @@ use native.Mathlib.Omega.{arith}
 use lib.ListN.{length, getD}
 use Rattle.base.specs.Below.{listBelow}
 use Rattle.base.proofs.Below.{list-at}
-use Rattle.model.specs.Records.{Model}
+use Rattle.blocks.specs.Records.{Model}
 use Rattle.model.specs.Facts.{Facts, StatementFits}
-use Rattle.model.specs.declared.records.StatementRecord.{StatementRecord}
-use Rattle.cycle.specs.Configuration.{pastOf}
-use Rattle.cycle.specs.Evaluation.{Environment, environmentOf, evalOf}
-use Rattle.cycle.specs.Statements.{effectBy}
-use Rattle.cycle.specs.Invariant.{Reachable}
-use Rattle.cycle.specs.View.{historyOf, viewOf, arrays}
+use Rattle.blocks.specs.declared.records.StatementRecord.{StatementRecord}
+use Rattle.rules.specs.Configuration.{pastOf}
+use Rattle.rules.specs.Evaluation.{Environment, environmentOf, evalOf}
+use Rattle.rules.specs.Statements.{effectBy}
+use Rattle.rules.specs.Invariant.{Reachable}
+use Rattle.steps.specs.Entries.{historyOf}
+use Rattle.cycle.specs.View.{viewOf}
+use Rattle.expressions.specs.Reading.{arrays}
 use Rattle.cycle.specs.declared.config.Config.{Config}
-use Rattle.cycle.proofs.Evaluation.{agree-all}
-use Rattle.cycle.proofs.Picks.{effect-same}
-use Rattle.cycle.proofs.ViewLaws.{history-at, nsignals-is, nvariables-is}
+use Rattle.rules.proofs.Evaluation.{agree-all}
+use Rattle.rules.proofs.Picks.{effect-same}
+use Rattle.steps.proofs.Shifts.{history-at}
+use Rattle.cycle.proofs.ViewLaws.{nsignals-is, nvariables-is}
 
 -- what is read from the lists that arrays of variables and signals hold
 abbrev pub listed : List ℕ → List ℕ → ℕ → ℕ → Environment

@@ -10,14 +10,15 @@ use lib.ListN.{length, getD, set, drop, length-set}
 use lib.Seq.{getD-set-same, getD-set-other}
 use borrow.Author.Count.{below-none, below-more}
 use borrow.Author.Tests.{eq-eqb, ne-eqb}
-use Rattle.model.specs.Records.{Model}
-use Rattle.cycle.specs.Configuration.{Transaction, DriverState}
-use Rattle.cycle.specs.Steps.{dueIn, takenIn, taken}
-use Rattle.cycle.specs.Invariant.{lastTime}
-use Rattle.cycle.specs.View.{never, pendingOf, noDriver, firstTime, viewOf, Valid}
+use Rattle.blocks.specs.Records.{Model}
+use Rattle.rules.specs.Configuration.{Transaction, DriverState}
+use Rattle.rules.specs.Steps.{dueIn, takenIn, taken}
+use Rattle.rules.specs.Invariant.{lastTime}
+use Rattle.waveforms.specs.Pending.{never, pendingOf, noDriver, firstTime}
+use Rattle.cycle.specs.View.{viewOf, Valid}
 use Rattle.cycle.specs.declared.config.Config.{Config}
-use Rattle.cycle.specs.declared.driver.Driver.{Driver}
-use Rattle.cycle.proofs.Drivers.{pending-length, pending-first, first-none, first-some}
+use Rattle.waveforms.specs.declared.driver.Driver.{Driver}
+use Rattle.waveforms.proofs.Drivers.{pending-length, pending-first, first-none, first-some}
 use Rattle.cycle.proofs.ViewLaws.{pending-in, ndrivers-is}
 
 -- what the arrays hold of one driver

@@ -7,15 +7,17 @@ use native.Mathlib.Omega.{arith}
 use lib.ListN.{length, getD, replicate, length-map, length-replicate, getD-replicate}
 use Rattle.base.specs.Below.{listBelow}
 use Rattle.base.proofs.Below.{list-is, list-same}
-use Rattle.model.specs.Records.{Model}
+use Rattle.blocks.specs.Records.{Model}
 use Rattle.model.specs.Facts.{Facts}
-use Rattle.cycle.specs.Configuration.{DriverState, driverIn, processIn, firstDrivers, firstSignal, first, empty}
-use Rattle.cycle.specs.View.{never, pendingOf, noDriver, firstTime, historyOf, driverView, processView, viewOf}
+use Rattle.rules.specs.Configuration.{DriverState, driverIn, processIn, firstDrivers, firstSignal, first, empty}
+use Rattle.waveforms.specs.Pending.{never, pendingOf, noDriver, firstTime}
+use Rattle.steps.specs.Entries.{historyOf}
+use Rattle.cycle.specs.View.{driverView, processView, viewOf}
 use Rattle.cycle.specs.Arrays.{EntriesAre, variableStart, processFirst, driverStart, firstValue, valueAt, FirstOf}
-use Rattle.cycle.specs.declared.driver.Driver.{Driver}
+use Rattle.waveforms.specs.declared.driver.Driver.{Driver}
 use Rattle.cycle.specs.declared.config.Config.{Config}
-use Rattle.cycle.proofs.Resolving.{driving-is}
-use Rattle.cycle.proofs.FirstReachable.{first-reachable, driver-at, process-at, variable-at}
+use Rattle.steps.proofs.Resolving.{driving-is}
+use Rattle.rules.proofs.FirstReachable.{first-reachable, driver-at, process-at, variable-at}
 
 pub view-empty : (c : Config) → c .time ≡ 0 → c .deltas ≡ 0 → c .nsignals ≡ 0 → c .nvariables ≡ 0 → c .ndrivers ≡ 0 → c .nprocesses ≡ 0 → viewOf c ≡ empty
 unfolding viewOf listBelow

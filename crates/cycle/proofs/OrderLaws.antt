@@ -7,9 +7,9 @@ use native.Mathlib.Omega.{arith}
 use lib.Dec.{leb}
 use lib.ListN.{length, getD}
 use borrow.Author.Tests.{le-leb, lt-leb, eq-eqb, ne-eqb}
-use Rattle.model.specs.Records.{Model}
-use Rattle.cycle.specs.Statements.{stepped}
-use Rattle.cycle.specs.Orders.{refused, pickDone, picked, readOf}
+use Rattle.blocks.specs.Records.{Model}
+use Rattle.rules.specs.Statements.{stepped}
+use Rattle.rules.specs.Orders.{refused, pickDone, picked, readOf}
 use Rattle.cycle.specs.View.{viewOf, Valid, StepsTo, outcomeOf, Answers, AnswersEach}
 use Rattle.cycle.specs.declared.config.Config.{Config}
 use Rattle.cycle.specs.declared.orders.Answered.{Answered}

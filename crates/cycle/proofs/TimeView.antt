@@ -9,20 +9,21 @@ use native.Mathlib.Omega.{arith}
 use lib.ListN.{length, getD, set, length-set}
 use lib.Seq.{getD-set-same, getD-set-other}
 use Rattle.base.proofs.Below.{list-same}
-use Rattle.model.specs.Records.{Model}
-use Rattle.cycle.specs.Steps.{timeStep}
-use Rattle.cycle.specs.Orders.{advanceDone, earliest, dueTimes}
-use Rattle.cycle.specs.Invariant.{lastTime}
-use Rattle.cycle.specs.View.{pendingOf, noDriver, firstTime, driverView, processView, viewOf, Valid, outcomeOf, Answers}
-use Rattle.cycle.specs.Shift.{ShiftedBy}
-use Rattle.cycle.specs.Waveform.{Ahead, Elapsed}
+use Rattle.blocks.specs.Records.{Model}
+use Rattle.rules.specs.Steps.{timeStep}
+use Rattle.rules.specs.Orders.{advanceDone, earliest, dueTimes}
+use Rattle.rules.specs.Invariant.{lastTime}
+use Rattle.waveforms.specs.Pending.{pendingOf, noDriver, firstTime}
+use Rattle.cycle.specs.View.{driverView, processView, viewOf, Valid, outcomeOf, Answers}
+use Rattle.steps.specs.Shift.{ShiftedBy}
+use Rattle.waveforms.specs.Waveform.{Ahead, Elapsed}
 use Rattle.cycle.specs.declared.config.Config.{Config}
-use Rattle.cycle.specs.declared.driver.Driver.{Driver}
+use Rattle.waveforms.specs.declared.driver.Driver.{Driver}
 use Rattle.cycle.specs.declared.orders.Answered.{Answered}
-use Rattle.cycle.proofs.AdvanceReachable.{time-reachable}
-use Rattle.cycle.proofs.DueTimes.{due-within}
-use Rattle.cycle.proofs.Drivers.{pending-length, ahead-of}
-use Rattle.cycle.proofs.Shifts.{all-shifted}
+use Rattle.rules.proofs.AdvanceReachable.{time-reachable}
+use Rattle.rules.proofs.DueTimes.{due-within}
+use Rattle.waveforms.proofs.Drivers.{pending-length, ahead-of}
+use Rattle.steps.proofs.Shifts.{all-shifted}
 use Rattle.cycle.proofs.ViewLaws.{ndrivers-is, pending-in}
 
 abbrev pub driverAt : Config → ℕ → Driver

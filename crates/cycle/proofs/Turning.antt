@@ -10,47 +10,36 @@ use lib.Dec.{eqb, ltb}
 use lib.ListN.{length, getD, set, length-set}
 use lib.Seq.{getD-set-same, getD-set-other}
 use borrow.Author.Count.{below-none, below-more}
-use borrow.Author.Tests.{lt-ltb, le-ltb, eq-eqb, ne-eqb, ltb-true, ltb-false}
+use borrow.Author.Tests.{lt-ltb, eq-eqb, ne-eqb, ltb-true, ltb-false}
 use Rattle.base.specs.Below.{anyBelow}
 use Rattle.base.specs.Cases.{_∣_, _⇒_}
 use Rattle.base.proofs.Below.{split, and-left, and-right, any-same}
 use Rattle.base.proofs.Course.{any-first}
-use Rattle.model.specs.Records.{Model, processAt, statementAt}
-use Rattle.model.specs.Fields.{endOf, ownerOf}
-use Rattle.model.specs.Facts.{Spans, Facts}
-use Rattle.model.specs.declared.records.ProcessRecord.{ProcessRecord}
-use Rattle.cycle.specs.Configuration.{driverIn}
-use Rattle.cycle.specs.Statements.{nextPlace, applied, effectBy, effectOf, stepped}
-use Rattle.cycle.specs.Orders.{isReady, lowestReady, settledFrom, settled}
-use Rattle.cycle.specs.Invariant.{lastTime, DriverValid, EffectFits, StoreFits, ScheduleFits}
-use Rattle.cycle.specs.View.{never, pendingOf, firstTime, noDriver, viewOf, arrays, Valid, StepsTo, outcomeOf, Answers}
-use Rattle.cycle.specs.Waveform.{Waveform, ScheduledTo}
+use Rattle.blocks.specs.Records.{Model, statementAt}
+use Rattle.fields.specs.Fields.{ownerOf}
+use Rattle.fields.specs.Facts.{Spans}
+use Rattle.model.specs.Facts.{Facts}
+use Rattle.rules.specs.Configuration.{driverIn}
+use Rattle.rules.specs.Statements.{nextPlace, applied, effectBy, effectOf, stepped}
+use Rattle.rules.specs.Orders.{isReady, lowestReady, settledFrom, settled}
+use Rattle.rules.specs.Invariant.{lastTime, DriverValid, EffectFits, StoreFits, ScheduleFits}
+use Rattle.waveforms.specs.Pending.{never, pendingOf, firstTime, noDriver}
+use Rattle.cycle.specs.View.{viewOf, Valid, StepsTo, outcomeOf, Answers}
+use Rattle.expressions.specs.Reading.{arrays}
+use Rattle.waveforms.specs.Waveform.{Waveform, ScheduledTo}
 use Rattle.cycle.specs.declared.config.Config.{Config}
-use Rattle.cycle.specs.declared.driver.Scheduled.{Scheduled}
-use Rattle.cycle.specs.declared.effect.Effect.{Effect}
-use Rattle.cycle.specs.declared.effect.Effect.the-variants.{Skip, Store, Schedule, Jump, Wait, WaitFor, Stop}
+use Rattle.waveforms.specs.declared.driver.Scheduled.{Scheduled}
+use Rattle.rules.specs.declared.effect.Effect.{Effect}
+use Rattle.rules.specs.declared.effect.Effect.the-variants.{Skip, Store, Schedule, Jump, Wait, WaitFor, Stop}
 use Rattle.cycle.proofs.DeltaDrivers.{time-most, few-pending}
-use Rattle.cycle.proofs.Drivers.{waveform-of}
-use Rattle.cycle.proofs.Effects.{own-statement, placed, effect-fits}
+use Rattle.waveforms.proofs.Drivers.{waveform-of}
+use Rattle.rules.proofs.Effects.{own-statement, placed, effect-fits}
 use Rattle.cycle.proofs.ArraysAgree.{effect-viewed}
-use Rattle.cycle.proofs.Picks.{standing-stays}
-use Rattle.cycle.proofs.StepReachable.{stepped-reachable}
+use Rattle.rules.proofs.Picks.{standing-stays}
+use Rattle.rules.proofs.StepReachable.{stepped-reachable}
 use Rattle.cycle.proofs.ViewLaws.{pending-in, place-in, standing-in, ready-in, deadline-in, ndrivers-is, nprocesses-is}
-use Rattle.cycle.proofs.Settling.{Passed, settle-over, settle-none, settle-turn}
+use Rattle.rules.proofs.Settling.{Passed, settle-over, settle-none, settle-turn}
 use Rattle.cycle.proofs.Changes.{Sized, movedTo, scheduledTo, waitsUntil, stopsBy, moved-sized, scheduled-sized, waits-sized, stops-sized, skip-view, store-view, jump-view, wait-view, wait-for-view, stop-view, schedule-view, full-view}
-
--- the place after i, r being the record of process p
-module _ (M : Model) (p i : ℕ) (r : ProcessRecord) (e : r ≡ processAt M p) where
-  pub next-inside : i + 1 < r .first + r .count → i + 1 ≡ nextPlace M p i
-  unfolding nextPlace
-  next-inside h = rw (← e, lt-ltb (i + 1) (r .first + r .count) h)
-
-  pub next-first : r .first + r .count ≤ i + 1 → r .first ≡ nextPlace M p i
-  unfolding nextPlace
-  next-first h = rw (← e, le-ltb (i + 1) (r .first + r .count) h)
-
-pub few-statements : (M : Model) → Facts M → (p : ℕ) → p < length (M .processes) → endOf M p ≤ 200
-few-statements M fs p h = omega (arith, fs .process p h .within, fs .totals .statements)
 
 -- process p at its place
 module _ (M : Model) (fs : Facts M) (c : Config) (f : Valid M c) (p : ℕ) (h : p < c .nprocesses) where

@@ -5,21 +5,19 @@ use Prim.Native.Nat.{ℕ, _+_, _*_, _<_}
 use lib.Dec.{eqb}
 use lib.ListN.{length, getD, set}
 use lib.Seq.{getD-set-same, getD-set-other}
+use Rattle.steps.proofs.Shifts.{history-at}
 use Rattle.base.specs.Below.{listBelow}
 use Rattle.base.proofs.Below.{list-length, list-at, list-change}
-use Rattle.model.specs.Records.{Model}
-use Rattle.cycle.specs.Configuration.{DriverState, ProcessState, driverIn, processIn, pastOf}
-use Rattle.cycle.specs.Statements.{moved, waits, stops}
-use Rattle.cycle.specs.Orders.{isReady}
-use Rattle.cycle.specs.Invariant.{Reachable}
-use Rattle.cycle.specs.View.{pendingOf, noDriver, deadlineOf, historyOf, driverView, processView, viewOf}
+use Rattle.blocks.specs.Records.{Model}
+use Rattle.rules.specs.Configuration.{DriverState, ProcessState, driverIn, processIn, pastOf}
+use Rattle.rules.specs.Statements.{moved, waits, stops}
+use Rattle.rules.specs.Orders.{isReady}
+use Rattle.rules.specs.Invariant.{Reachable}
+use Rattle.waveforms.specs.Pending.{pendingOf, noDriver}
+use Rattle.steps.specs.Entries.{deadlineOf, historyOf}
+use Rattle.cycle.specs.View.{driverView, processView, viewOf}
 use Rattle.cycle.specs.declared.config.Config.{Config}
-use Rattle.cycle.specs.declared.driver.Driver.{Driver}
-
--- a history of the array
-pub history-at : (l : List ℕ) (s k : ℕ) → k < 32 → getD (historyOf l s) k 0 ≡ getD l (32 * s + k) 0
-unfolding historyOf
-history-at l s k h = list-at (λ k. getD l (32 * s + k) 0) 0 32 k h
+use Rattle.waveforms.specs.declared.driver.Driver.{Driver}
 
 -- the lists of the view are as long as the struct says, and their elements are those of the arrays
 module _ (c : Config) where

@@ -1,23 +1,17 @@
 -- What the arrays of the program's struct hold, entry by entry: what the functions over single arrays are held to.
 use mathlib.Core.Path.{_≡_}
-use mathlib.Core.List.{List, [], _∷_}
+use mathlib.Core.List.{List}
 use Prim.Native.Nat.{ℕ, _/_, _<_}
-use lib.Dec.{eqb}
 use lib.ListN.{getD}
-use Rattle.base.specs.Below.{joinBelow}
-use Rattle.base.specs.Cases.{_∣_, _⇒_}
-use Rattle.model.specs.Records.{Model, signalAt, variableAt, processAt, driverAt}
-use Rattle.cycle.specs.Configuration.{first, resolvedOr}
+use Rattle.steps.specs.Entries.{drivingIn}
+use Rattle.blocks.specs.Records.{Model, signalAt, variableAt, processAt, driverAt}
+use Rattle.rules.specs.Configuration.{first, resolvedOr}
 use Rattle.cycle.specs.View.{Valid, viewOf}
 use Rattle.cycle.specs.declared.config.Config.{Config}
 
 -- entry i of the first n is f i
 pub record EntriesAre (f : ℕ → ℕ) (n : ℕ) (xs : List ℕ) : Type 0 where
   pub at : (i : ℕ) → i < n → getD xs i 0 ≡ f i
-
--- the current values of those of the first n drivers that drive signal s
-unfoldable pub drivingIn : Model → List ℕ → ℕ → ℕ → List ℕ
-drivingIn M currents s n = joinBelow (λ k. eqb (driverAt M k .signal) s ⇒ (getD currents k 0 ∷ []) ∣ []) n
 
 -- what the first configuration's arrays hold
 abbrev pub variableStart : Model → ℕ → ℕ

@@ -1,12 +1,2 @@
-pub mod Configuration
-pub mod Evaluation
-pub mod Statements
-pub mod Steps
-pub mod Orders
-pub mod Invariant
-pub mod View
-pub mod Waveform
 pub mod Arrays
-pub mod Delta
-pub mod Shift
-pub mod Due
+pub mod View

@@ -1,42 +1,17 @@
 -- The configuration that the program's struct holds, and what the program keeps true of the struct.
 use mathlib.Core.Path.{_≡_}
-use mathlib.Core.List.{List, [], _∷_}
-use mathlib.Core.Option.{Option, none, some}
-use Prim.Native.Nat.{ℕ, _+_, _*_, _<_}
-use lib.Dec.{eqb}
+use Prim.Native.Nat.{ℕ, _<_}
 use lib.ListN.{getD}
+use Rattle.waveforms.specs.Pending.{pendingOf, noDriver, firstTime}
+use Rattle.steps.specs.Entries.{deadlineOf, historyOf}
 use Rattle.base.specs.Below.{listBelow}
-use Rattle.base.specs.Cases.{_∣_, _⇒_}
-use Rattle.model.specs.Records.{Model, modelOf}
-use Rattle.model.specs.Facts.{Facts}
-use Rattle.model.specs.Index.{Usable}
-use Rattle.cycle.specs.Configuration.{Transaction, DriverState, ProcessState, Configuration}
-use Rattle.cycle.specs.Evaluation.{Environment}
-use Rattle.cycle.specs.Statements.{stepped}
-use Rattle.cycle.specs.Orders.{Outcome}
-use Rattle.cycle.specs.Invariant.{Reachable}
-use Rattle.cycle.specs.declared.driver.Driver.{Driver}
+use Rattle.blocks.specs.Records.{Model}
+use Rattle.rules.specs.Configuration.{DriverState, ProcessState, Configuration}
+use Rattle.rules.specs.Statements.{stepped}
+use Rattle.rules.specs.Orders.{Outcome}
+use Rattle.rules.specs.Invariant.{Reachable}
 use Rattle.cycle.specs.declared.config.Config.{Config}
 use Rattle.cycle.specs.declared.orders.Answered.{Answered}
-
--- later than any time: stands for no deadline and no transaction
-abbrev pub never : ℕ
-never = 18446744073709551615
-
--- the pending transactions of a driver at the time t: its times are held as units from t, 32 bits, since a delay has 31
-unfoldable pub pendingOf : ℕ → Driver → List Transaction
-pendingOf t d = listBelow (λ j. record { time = t + getD (d .times) j 0; value = getD (d .values) j 0 }) (d .count)
-
--- what a read past the end of an array of drivers gives
-abbrev pub noDriver : Driver
-noDriver = record { times = []; values = []; count = 0 }
-
-abbrev pub deadlineOf : ℕ → Option ℕ
-deadlineOf t = eqb t never ⇒ none ∣ some t
-
--- signal s of 0 to 31 units ago: entries 32 * s to 32 * s + 31
-unfoldable pub historyOf : List ℕ → ℕ → List ℕ
-historyOf signals s = listBelow (λ k. getD signals (32 * s + k) 0) 32
 
 unfoldable pub driverView : Config → ℕ → DriverState
 driverView c k = record { current = getD (c .currents) k 0; pending = pendingOf (c .time) (getD (c .drivers) k noDriver) }
@@ -61,20 +36,6 @@ viewOf c =
       processes = listBelow (processView c) (c .nprocesses);
       variables = listBelow (λ a. getD (c .variables) a 0) (c .nvariables);
     }
-
--- what expressions read from the struct's arrays
-abbrev pub arrays : List ℕ → List ℕ → Environment
-arrays variables signals = record { variable = λ a. getD variables a 0; signal = λ s k. getD signals (32 * s + k) 0 }
-
--- the time of the first transaction
-abbrev pub firstTime : List Transaction → ℕ
-firstTime [] = never
-firstTime (x ∷ w) = x .time
-
--- what the cycle asks of a model's bytes and its index: they are usable, and what acceptance says of the model
-pub record Runs (m index : List ℕ) : Type 0 where
-  pub usable : Usable m index
-  pub facts : Facts (modelOf m)
 
 -- what holds of the struct between orders: its view is reachable, and `due` has the first pending times
 pub record Valid (M : Model) (c : Config) : Type 0 where

@@ -1,18 +1,20 @@
 // Advance: a delta step where something is due now, else a time step. One method, in place: a configuration is large to copy.
-ghost use Rattle.model.specs.Records.{modelOf};
-ghost use Rattle.cycle.specs.Orders.{advanced};
-ghost use Rattle.cycle.specs.View.{viewOf, Runs, Valid, Answers};
+ghost use Rattle.blocks.specs.Records.{modelOf};
+ghost use Rattle.rules.specs.Orders.{advanced};
+ghost use Rattle.cycle.specs.View.{viewOf, Valid, Answers};
+ghost use Rattle.expressions.specs.Reading.{Runs};
 use crate::config::Config;
-use crate::delta::Processes;
-use crate::delta::actives;
-use crate::delta::resolve;
-use crate::delta::wake;
-use crate::due::next_due;
 use crate::orders::Answered;
-use crate::time::shift;
+use blocks::index::Index;
+use steps::delta::Processes;
+use steps::delta::actives;
+use steps::delta::resolve;
+use steps::delta::wake;
+use steps::due::next_due;
+use steps::time::shift;
 
 impl Config {
-    pub fn advance<'a>(mut self, m: &'a [u8], index: &'a [u16; 1376]) -> Answered
+    pub fn advance<'a>(mut self, m: &'a [u8], index: &'a Index) -> Answered
         requires { ⌜ Runs (now m) (now index) ⌝ }
         requires { ⌜ Valid (modelOf (now m)) self ⌝ }
         ensures { λ r. ⌜ Answers (modelOf (now (m .entry))) r (advanced (modelOf (now (m .entry))) (viewOf self)) ⌝ }

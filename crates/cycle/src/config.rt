@@ -2,19 +2,20 @@
 ghost use mathlib.Core.Path.{_≡_};
 ghost use Prim.Native.Nat.{_*_, _≤_, _<_};
 ghost use lib.ListN.{length};
-ghost use Rattle.base.specs.Cases.{_∣_, _⇒_};
-ghost use Rattle.values.specs.Resolve.{pairOf};
-ghost use Rattle.model.specs.Records.{modelOf};
-ghost use Rattle.model.specs.Index.{TotalsOf};
-ghost use Rattle.cycle.specs.Configuration.{resolvedOr, empty};
-ghost use Rattle.cycle.specs.View.{Runs, viewOf};
-ghost use Rattle.cycle.specs.Arrays.{drivingIn, EntriesAre, variableStart, processFirst, driverStart, firstValue, valueAt, FirstOf};
-use crate::driver::Driver;
-use model::index::Totals;
-use model::index::driver_at;
-use model::index::process_at;
-use model::index::signal_at;
-use model::index::variable_at;
+ghost use Rattle.blocks.specs.Records.{modelOf};
+ghost use Rattle.blocks.specs.Totals.{TotalsOf};
+ghost use Rattle.rules.specs.Configuration.{empty};
+ghost use Rattle.expressions.specs.Reading.{Runs};
+ghost use Rattle.cycle.specs.View.{viewOf};
+ghost use Rattle.cycle.specs.Arrays.{EntriesAre, variableStart, processFirst, driverStart, firstValue, valueAt, FirstOf};
+use blocks::index::Index;
+use blocks::index::Totals;
+use blocks::index::driver_at;
+use blocks::index::process_at;
+use blocks::index::signal_at;
+use blocks::index::variable_at;
+use steps::resolve::resolved;
+use waveforms::driver::Driver;
 
 // Signal s of k units ago stands at 32 * s + k. Driver k: its current value, its waveform, and the time of its first pending
 // transaction (due), the largest number where it has none. A waveform's times are held as units from now: 32 bits, since a delay
@@ -40,46 +41,7 @@ pub struct Config {
     pub room: [u64; 10],
 }
 
-// The resolution v of the values found so far, with x where it drives.
-fn joined(drives: bool, found: bool, v: u32, x: u32) -> u32
-    ensures { λ r. ⌜ r ≡ (drives ⇒ (found ⇒ pairOf v x ∣ x) ∣ v) ⌝ }
-{
-    if drives {
-        if found {
-            return values::pair(v, x);
-        }
-        return x;
-    }
-    v
-}
-
-// The resolution of the current values of the drivers of signal s, or other where it has none.
-pub fn resolved<'a>(
-    m: &'a [u8],
-    index: &'a [u16; 1376],
-    currents: &'a [u32; 64],
-    ndrivers: usize,
-    s: usize,
-    other: u32,
-) -> u32
-    requires { ⌜ Runs (now m) (now index) ⌝ }
-    requires { ⌜ ndrivers ≡ length (modelOf (now m) .drivers) ⌝ }
-    ensures { λ r. ⌜ r ≡ resolvedOr other (drivingIn (modelOf (now (m .entry))) (now (currents .entry)) s ndrivers) ⌝ }
-{
-    let mut found = false;
-    let mut v = other;
-    let mut k = 0;
-    while k < ndrivers {
-        let d = driver_at(m, index, k);
-        let drives = d.signal == s;
-        v = joined(drives, found, v, currents[k]);
-        found = found | drives;
-        k += 1;
-    }
-    v
-}
-
-fn first_variables<'a>(m: &'a [u8], index: &'a [u16; 1376], n: usize) -> [u32; 64]
+fn first_variables<'a>(m: &'a [u8], index: &'a Index, n: usize) -> [u32; 64]
     requires { ⌜ Runs (now m) (now index) ⌝ }
     requires { ⌜ n ≡ length (modelOf (now m) .variables) ⌝ }
     ensures { λ r. ⌜ EntriesAre (variableStart (modelOf (now (m .entry)))) n r ⌝ }
@@ -94,7 +56,7 @@ fn first_variables<'a>(m: &'a [u8], index: &'a [u16; 1376], n: usize) -> [u32; 6
     r
 }
 
-fn first_places<'a>(m: &'a [u8], index: &'a [u16; 1376], n: usize) -> [usize; 16]
+fn first_places<'a>(m: &'a [u8], index: &'a Index, n: usize) -> [usize; 16]
     requires { ⌜ Runs (now m) (now index) ⌝ }
     requires { ⌜ n ≡ length (modelOf (now m) .processes) ⌝ }
     ensures { λ r. ⌜ EntriesAre (processFirst (modelOf (now (m .entry)))) n r ⌝ }
@@ -110,7 +72,7 @@ fn first_places<'a>(m: &'a [u8], index: &'a [u16; 1376], n: usize) -> [usize; 16
 }
 
 // "drivers have their signal's starting value"
-fn first_currents<'a>(m: &'a [u8], index: &'a [u16; 1376], n: usize) -> [u32; 64]
+fn first_currents<'a>(m: &'a [u8], index: &'a Index, n: usize) -> [u32; 64]
     requires { ⌜ Runs (now m) (now index) ⌝ }
     requires { ⌜ n ≡ length (modelOf (now m) .drivers) ⌝ }
     ensures { λ r. ⌜ EntriesAre (driverStart (modelOf (now (m .entry)))) n r ⌝ }
@@ -129,7 +91,7 @@ fn first_currents<'a>(m: &'a [u8], index: &'a [u16; 1376], n: usize) -> [u32; 64
 // The first value of each of the n signals, resolved over ndrivers current values.
 fn first_values<'a>(
     m: &'a [u8],
-    index: &'a [u16; 1376],
+    index: &'a Index,
     currents: &'a [u32; 64],
     ndrivers: usize,
     n: usize,
@@ -188,7 +150,7 @@ impl Config {
         }
     }
 
-    pub fn first<'a>(m: &'a [u8], index: &'a [u16; 1376], t: Totals) -> Config
+    pub fn first<'a>(m: &'a [u8], index: &'a Index, t: Totals) -> Config
         requires { ⌜ Runs (now m) (now index) ⌝ }
         requires { ⌜ TotalsOf (modelOf (now m)) t ⌝ }
         ensures { λ r. ⌜ FirstOf (modelOf (now (m .entry))) r ⌝ }

@@ -1,9 +1,11 @@
 // Pick and read, the refusal of an order, and what every order hands back.
 ghost use Prim.Native.Nat.{_≤_};
-ghost use Rattle.model.specs.Records.{modelOf};
-ghost use Rattle.cycle.specs.Orders.{refused, picked, settled, readOf};
-ghost use Rattle.cycle.specs.View.{viewOf, Runs, Valid, Answers, AnswersEach};
+ghost use Rattle.blocks.specs.Records.{modelOf};
+ghost use Rattle.rules.specs.Orders.{refused, picked, readOf};
+ghost use Rattle.cycle.specs.View.{viewOf, Valid, Answers, AnswersEach};
+ghost use Rattle.expressions.specs.Reading.{Runs};
 use crate::config::Config;
+use blocks::index::Index;
 
 // The parts of an answer, and the configuration that the order hands back.
 pub struct Answered {
@@ -29,7 +31,7 @@ impl Config {
     }
 
     // One statement of process p.
-    pub fn pick<'a>(self, m: &'a [u8], index: &'a [u16; 1376], p: usize) -> Answered
+    pub fn pick<'a>(self, m: &'a [u8], index: &'a Index, p: usize) -> Answered
         requires { ⌜ Runs (now m) (now index) ⌝ }
         requires { ⌜ Valid (modelOf (now m)) self ⌝ }
         ensures { λ r. ⌜ Answers (modelOf (now (m .entry))) r (picked (modelOf (now (m .entry))) p (viewOf self)) ⌝ }

@@ -1,15 +1,17 @@
 // Settle: picks in place, one statement after the other.
 ghost use mathlib.Core.Path.{_≡_};
 ghost use Rattle.base.specs.Cases.{_∣_, _⇒_};
-ghost use Rattle.model.specs.Records.{modelOf};
-ghost use Rattle.cycle.specs.View.{viewOf, Runs, Valid, Answers};
-ghost use Rattle.cycle.specs.Orders.{settled};
+ghost use Rattle.blocks.specs.Records.{modelOf};
+ghost use Rattle.cycle.specs.View.{viewOf, Valid, Answers};
+ghost use Rattle.expressions.specs.Reading.{Runs};
+ghost use Rattle.rules.specs.Orders.{settled};
 use crate::config::Config;
-use crate::due::any_standing;
-use crate::effect::Effect;
-use crate::effect::does;
 use crate::orders::Answered;
-use crate::step::next_place;
+use blocks::index::Index;
+use expressions::effect::does;
+use expressions::effect::next_place;
+use rules::effect::Effect;
+use steps::due::any_standing;
 
 fn bit(b: bool) -> usize
     ensures { λ r. ⌜ r ≡ (b ⇒ 1 ∣ 0) ⌝ }
@@ -19,7 +21,7 @@ fn bit(b: bool) -> usize
 
 impl Config {
     // Picks of the lowest ready process until none is ready or count picks are made.
-    pub fn settle<'a>(mut self, m: &'a [u8], index: &'a [u16; 1376], count: usize) -> Answered
+    pub fn settle<'a>(mut self, m: &'a [u8], index: &'a Index, count: usize) -> Answered
         requires { ⌜ Runs (now m) (now index) ⌝ }
         requires { ⌜ Valid (modelOf (now m)) self ⌝ }
         ensures { λ r. ⌜ Answers (modelOf (now (m .entry))) r (settled (modelOf (now (m .entry))) count (viewOf self)) ⌝ }

@@ -1,35 +1,20 @@
 // One statement of a process.
 ghost use mathlib.Core.Path.{_≡_};
 ghost use Prim.Native.Nat.{_<_};
-ghost use lib.ListN.{length, getD};
-ghost use Rattle.model.specs.Records.{modelOf};
-ghost use Rattle.model.specs.Facts.{Spans};
-ghost use Rattle.cycle.specs.Statements.{nextPlace};
-ghost use Rattle.cycle.specs.View.{Runs, Valid, StepsTo};
+ghost use lib.ListN.{getD};
+ghost use Rattle.blocks.specs.Records.{modelOf};
+ghost use Rattle.expressions.specs.Reading.{Runs};
+ghost use Rattle.cycle.specs.View.{Valid, StepsTo};
 use crate::config::Config;
-use crate::effect::Effect;
-use crate::effect::does;
-use model::index::process_at;
-
-// The place after i in process p: the last statement is followed by the first.
-pub fn next_place<'a>(m: &'a [u8], index: &'a [u16; 1376], p: usize, i: usize) -> usize
-    requires { ⌜ Runs (now m) (now index) ⌝ }
-    requires { ⌜ p < length (modelOf (now m) .processes) ⌝ }
-    requires { ⌜ Spans (modelOf (now m)) p i ⌝ }
-    ensures { λ r. ⌜ r ≡ nextPlace (modelOf (now (m .entry))) p i ⌝ }
-{
-    let r = process_at(m, index, p);
-    if i + 1 < r.first + r.count {
-        i + 1
-    } else {
-        r.first
-    }
-}
+use blocks::index::Index;
+use expressions::effect::does;
+use expressions::effect::next_place;
+use rules::effect::Effect;
 
 impl Config {
     // Process p, which is ready, runs one statement. Settle has the same arms in its loop, in place: a call by value there would copy
     // the configuration for each statement.
-    pub fn step<'a>(mut self, m: &'a [u8], index: &'a [u16; 1376], p: usize) -> Config
+    pub fn step<'a>(mut self, m: &'a [u8], index: &'a Index, p: usize) -> Config
         requires { ⌜ Runs (now m) (now index) ⌝ }
         requires { ⌜ Valid (modelOf (now m)) self ⌝ }
         requires { ⌜ p < self .nprocesses ⌝ }

@@ -2,21 +2,22 @@
 use mathlib.Core.Path.{_≡_, sym}
 use mathlib.Core.Bool.{Bool}
 use mathlib.Core.List.{List, [], _++_, append-nil}
-use Prim.Native.Nat.{ℕ, _+_, _-_, _/_, _%_, _≤_, _<_}
+use Prim.Native.Nat.{ℕ, zero, _+_, _-_, _/_, _%_, _≤_, _<_}
 use native.Mathlib.Nat.{le-antisymm}
 use native.Mathlib.Omega.{arith}
 use borrow.Author.Tests.{lt-ltb, le-ltb, ne-eqb}
 use lib.Dec.{ltb, eqb}
 use lib.ListN.{length, getD, take, drop, drop-of-length-le, List·getD-eq-default}
 use Rattle.base.specs.Below.{listBelow}
-use Rattle.base.specs.Cases.{}
 use Rattle.base.proofs.Below.{list-length, list-at, NoneOf, none-of}
+use Rattle.base.specs.Cases.{_∣_, _⇒_}
 use Rattle.base.proofs.Cases.{either}
-use Rattle.cycle.specs.Configuration.{Transaction, Configuration, driverIn, pastOf}
-use Rattle.cycle.specs.Invariant.{lastTime}
-use Rattle.cycle.specs.View.{never, pendingOf, noDriver, driverView, processView, viewOf}
+use Rattle.rules.specs.Configuration.{Transaction, Configuration, driverIn, pastOf}
+use Rattle.rules.specs.Invariant.{lastTime}
+use Rattle.waveforms.specs.Pending.{never, pendingOf, noDriver}
+use Rattle.cycle.specs.View.{driverView, processView, viewOf}
 use Rattle.cycle.specs.declared.config.Config.{Config}
-use Rattle.cycle.specs.declared.driver.Driver.{Driver}
+use Rattle.waveforms.specs.declared.driver.Driver.{Driver}
 use Rattle.cycle.proofs.ViewLaws.{signals-long, drivers-long, processes-long, variables-long, driver-in}
 use Rattle.exports.specs.Dump.{noProcess, noTransaction, totalWord, driverWord, processWord, wordOf}
 

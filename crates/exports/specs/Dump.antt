@@ -4,7 +4,7 @@ use Prim.Native.Nat.{ℕ, _-_, _/_, _%_}
 use lib.Dec.{ltb}
 use lib.ListN.{length, getD}
 use Rattle.base.specs.Cases.{_∣_, _⇒_, _is_⇒_}
-use Rattle.cycle.specs.Configuration.{Transaction, DriverState, ProcessState, Configuration, driverIn, pastOf}
+use Rattle.rules.specs.Configuration.{Transaction, DriverState, ProcessState, Configuration, driverIn, pastOf}
 
 -- what stands for a process and a transaction that are not there
 abbrev pub noProcess : ProcessState

@@ -3,12 +3,13 @@ ghost use mathlib.Core.Path.{_≡_};
 ghost use Prim.Native.Nat.{_≤_, _<_};
 ghost use lib.ListN.{length, getD};
 ghost use Rattle.base.specs.Below.{listBelow};
-ghost use Rattle.cycle.specs.Configuration.{driverIn, pastOf};
-ghost use Rattle.cycle.specs.Invariant.{lastTime};
-ghost use Rattle.cycle.specs.View.{pendingOf, viewOf};
+ghost use Rattle.rules.specs.Configuration.{driverIn, pastOf};
+ghost use Rattle.rules.specs.Invariant.{lastTime};
+ghost use Rattle.waveforms.specs.Pending.{pendingOf};
+ghost use Rattle.cycle.specs.View.{viewOf};
 ghost use Rattle.exports.specs.Dump.{noProcess, totalWord, driverWord, processWord, wordOf};
 use cycle::config::Config;
-use cycle::driver::Driver;
+use waveforms::driver::Driver;
 
 fn total_word(c: Config, j: usize) -> u64
     ensures { λ r. ⌜ r ≡ totalWord (viewOf c) j ⌝ }

@@ -11,14 +11,13 @@ use lib.Dec.{eqb, ltb}
 use lib.ListN.{length}
 use Rattle.base.specs.Cases.{_∣_, _⇒_}
 use Rattle.base.specs.Course.{firstWith}
-use Rattle.base.proofs.Below.{every-at, all-at, and-left, and-right, sum-below}
+use Rattle.base.proofs.Below.{every-at, all-at, and-left, and-right, sum-below, or-cases}
 use Rattle.base.proofs.Course.{first-found, first-at, first-within}
-use Rattle.model.specs.Records.{Model, signalAt, driverAt}
-use Rattle.model.specs.Fields.{driverOk, fieldsOk}
-use Rattle.model.specs.Trees.{integer}
+use Rattle.blocks.specs.Records.{Model, signalAt, driverAt}
+use Rattle.fields.specs.Fields.{driverOk, fieldsOk}
+use Rattle.trees.specs.Trees.{integer}
 use Rattle.model.specs.Owners.{pairBelow, driversRise, driversOf, singleOk, driverFor, ownersOk}
 use Rattle.model.specs.Facts.{Drives, PairsRise}
-use Rattle.model.proofs.NodeTypes.{or-cases}
 
 and-fails : (a b : Bool) → (a ≡ true → b ≡ true → ⊥) → (a && b) ≡ false
 and-fails true true h = absurd (h refl refl)

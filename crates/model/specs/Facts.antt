@@ -1,13 +1,14 @@
 -- What acceptance says of each part of a model, as plain facts: all that the layers above know of an accepted model.
 use mathlib.Core.Path.{_≡_}
 use mathlib.Core.Bool.{true}
-use Prim.Native.Nat.{ℕ, _+_, _^_, _≤_, _<_}
+use Prim.Native.Nat.{ℕ, _^_, _≤_, _<_}
 use lib.ListN.{length}
-use Rattle.model.specs.Records.{Model, signalAt, variableAt, processAt, driverAt, nodeAt, statementAt}
-use Rattle.model.specs.Fields.{absent, endOf, ownerOf, valueOk}
-use Rattle.model.specs.Trees.{integer, logic, boolean, sizeOf, typeOf}
+use Rattle.blocks.specs.Records.{Model, signalAt, variableAt, driverAt, nodeAt, statementAt}
+use Rattle.fields.specs.Fields.{absent, ownerOf, valueOk}
+use Rattle.fields.specs.Facts.{SignalFits, VariableFits, Spans, ProcessFits}
+use Rattle.trees.specs.Trees.{integer, logic, boolean, sizeOf, typeOf}
 use Rattle.model.specs.Owners.{driverFor, readsOwn}
-use Rattle.model.specs.declared.records.StatementRecord.{StatementRecord}
+use Rattle.blocks.specs.declared.records.StatementRecord.{StatementRecord}
 
 -- the totals are within their limits
 pub record TotalsFit (M : Model) : Type 0 where
@@ -19,30 +20,6 @@ pub record TotalsFit (M : Model) : Type 0 where
   pub nodes : length (M .nodes) ≤ 400
   pub someStatement : 1 ≤ length (M .statements)
   pub statements : length (M .statements) ≤ 200
-
--- signal n: its type, and a starting value of that type
-pub record SignalFits (M : Model) (n : ℕ) : Type 0 where
-  pub ty : signalAt M n .ty ≤ 1
-  pub start : valueOk (signalAt M n .ty) (signalAt M n .start) ≡ true
-
--- variable n: its type, a starting value of that type, and its process
-pub record VariableFits (M : Model) (n : ℕ) : Type 0 where
-  pub ty : variableAt M n .ty ≤ 2
-  pub start : valueOk (variableAt M n .ty) (variableAt M n .start) ≡ true
-  pub process : variableAt M n .process < length (M .processes)
-
--- statement i belongs to process p
-pub record Spans (M : Model) (p i : ℕ) : Type 0 where
-  pub from : processAt M p .first ≤ i
-  pub below : i < endOf M p
-
--- process p: its statements are there and are its own; the first is one of them, and so is the next of each but the last
-pub record ProcessFits (M : Model) (p : ℕ) : Type 0 where
-  pub some : 1 ≤ processAt M p .count
-  pub within : endOf M p ≤ length (M .statements)
-  pub owner : (i : ℕ) → Spans M p i → ownerOf M i ≡ p
-  pub first : Spans M p (processAt M p .first)
-  pub next : (i : ℕ) → Spans M p i → i + 1 < endOf M p → Spans M p (i + 1)
 
 -- driver k names a process and a signal, and is the driver of that process for that signal
 pub record DriverFits (M : Model) (k : ℕ) : Type 0 where

@@ -1,7 +1,4 @@
-pub mod Blocks
-pub mod Records
-pub mod Fields
-pub mod Trees
-pub mod Owners
-pub mod Index
 pub mod Facts
+pub mod Index
+pub mod Owners
+pub mod Rules

@@ -1,20 +1,18 @@
--- Refusal 8: drivers and the owners of variables; and the number of a refused model.
-use mathlib.Core.Path.{_≡_}
+-- Refusal 8: drivers and the owners of variables.
 use Prim.Native.Nat.{ℕ, _+_, _-_}
-use mathlib.Core.Bool.{Bool, true, false, not, _&&_, _||_}
+use mathlib.Core.Bool.{Bool, true, false, _&&_, _||_}
 use mathlib.Core.List.{List, [], _∷_}
 use lib.Dec.{eqb, leb, ltb}
 use lib.ListN.{length, getD}
-use Rattle.base.specs.Below.{allBelow, sumBelow, every, firstFailing}
+use Rattle.base.specs.Below.{allBelow, sumBelow, every}
 use Rattle.base.specs.Cases.{_∣_, _⇒_, _is_⇒_}
 use Rattle.base.specs.Course.{course, firstWith}
-use Rattle.model.specs.Blocks.{lengthOk, sumsOk, headsOk}
-use Rattle.model.specs.Records.{Model, modelOf, signalAt, variableAt, driverAt, nodeAt, statementAt}
-use Rattle.model.specs.Fields.{absent, ownerOf, totalsOk, fieldsOk}
-use Rattle.model.specs.Trees.{operandsOf, treesOk, typesOk}
-use Rattle.model.specs.declared.records.DriverRecord.{DriverRecord}
-use Rattle.model.specs.declared.records.NodeRecord.{NodeRecord}
-use Rattle.model.specs.declared.records.StatementRecord.{StatementRecord}
+use Rattle.blocks.specs.Records.{Model, signalAt, variableAt, driverAt, nodeAt, statementAt}
+use Rattle.fields.specs.Fields.{absent, ownerOf}
+use Rattle.trees.specs.Trees.{operandsOf}
+use Rattle.blocks.specs.declared.records.DriverRecord.{DriverRecord}
+use Rattle.blocks.specs.declared.records.NodeRecord.{NodeRecord}
+use Rattle.blocks.specs.declared.records.StatementRecord.{StatementRecord}
 
 -- by process, then by signal
 unfoldable pub pairBelow : DriverRecord → DriverRecord → Bool
@@ -68,28 +66,3 @@ ownersOk M =
     ∷ allBelow (singleOk M) (length (M .signals))
     ∷ allBelow (λ n. statementOwned M (ownerOf M n) (statementAt M n)) (length (M .statements))
     ∷ [])
-
--- the rules in checking order, from 1 on
-unfoldable pub rulesOf : List ℕ → List Bool
-rulesOf m =
-    lengthOk m
-    ∷ sumsOk m
-    ∷ headsOk m
-    ∷ totalsOk (modelOf m)
-    ∷ fieldsOk (modelOf m)
-    ∷ treesOk (modelOf m)
-    ∷ typesOk (modelOf m)
-    ∷ ownersOk (modelOf m)
-    ∷ []
-
--- "1 to 10: each over the whole input before the next": the first of 1 to 8 that applies, or 0
-unfoldable pub refusalOf : List ℕ → ℕ
-refusalOf m = firstFailing 1 (rulesOf m)
-
--- what the rules 4 to 8 together say: "A model is accepted when no refusal that concerns the model alone applies."
-pub record Accepted (M : Model) : Type 0 where
-  pub totals : totalsOk M ≡ true
-  pub fields : fieldsOk M ≡ true
-  pub trees : treesOk M ≡ true
-  pub types : typesOk M ≡ true
-  pub owners : ownersOk M ≡ true

@@ -1,9 +1,3 @@
-// The model layer: blocks of bytes, the records they hold, and the rules 1 to 8 that accept or refuse a model.
-pub mod blocks;
-pub mod fields;
-pub mod index;
+// The model layer: rule 8, and loading a model: the first rule that it breaks, or its totals and index.
 pub mod load;
 pub mod owners;
-pub mod records;
-pub mod trees;
-pub mod types;

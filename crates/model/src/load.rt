@@ -1,46 +1,32 @@
 // Loading a model: the first of the rules 1 to 8 that it breaks, or its totals and index.
 ghost use mathlib.Core.Path.{_≡_};
-ghost use Rattle.base.specs.Below.{firstFailing};
-ghost use Rattle.model.specs.Records.{modelOf};
-ghost use Rattle.model.specs.Owners.{rulesOf, refusalOf};
-ghost use Rattle.model.specs.Index.{Starts, TotalsOf, Judged, LoadedIs};
-ghost use lib.ListN.{length, take};
-use crate::blocks::heads_ok;
-use crate::blocks::length_ok;
-use crate::blocks::put_index;
-use crate::blocks::sums_ok;
-use crate::blocks::totals;
-use crate::blocks::totals_ok;
-use crate::fields::fields_ok;
-use crate::index::Loaded;
-use crate::index::Totals;
+ghost use Rattle.blocks.specs.Records.{modelOf};
+ghost use Rattle.model.specs.Rules.{refusalOf};
+ghost use Rattle.blocks.specs.Index.{indexSize, Starts};
+ghost use Rattle.blocks.specs.Totals.{TotalsOf};
+ghost use Rattle.model.specs.Index.{Judged, LoadedIs};
+ghost use lib.ListN.{length};
 use crate::owners::owners_ok;
-use crate::trees::trees_ok;
-use crate::types::types_ok;
+use blocks::blocks::blocks_refusal;
+use blocks::blocks::put_index;
+use blocks::blocks::totals;
+use blocks::index::INDEX_SIZE;
+use blocks::index::Index;
+use blocks::index::Totals;
+use fields::fields_ok;
+use trees::trees::trees_ok;
+use trees::types::types_ok;
 
-// The first of the rules 1 to 4 that fails, or 0: t has the model's totals.
-fn blocks_refusal(m: &[u8], t: Totals) -> usize
-    requires { ⌜ TotalsOf (modelOf (now m)) t ⌝ }
-    ensures { λ r. ⌜ r ≡ firstFailing 1 (take 4 (rulesOf (now (m .entry)))) ⌝ }
-{
-    if !length_ok(m) {
-        return 1;
-    }
-    if !sums_ok(m) {
-        return 2;
-    }
-    if !heads_ok(m) {
-        return 3;
-    }
-    if !totals_ok(t) {
-        return 4;
-    }
-    0
+// What loading gives: the refusal's number or 0, and with 0 the totals and the index (specs/Index).
+pub struct Loaded {
+    pub refusal: usize,
+    pub totals: Totals,
+    pub index: Index,
 }
 
 // The first of the rules 5 to 8 that fails, or 0, and then an index to use.
-fn model_refusal(m: &[u8], index: &mut [u16; 1376], t: Totals) -> usize
-    requires { ⌜ length (now index) ≡ 1376 ⌝ }
+fn model_refusal(m: &[u8], index: &mut Index, t: Totals) -> usize
+    requires { ⌜ length (now index) ≡ indexSize ⌝ }
     requires { ⌜ Starts (now m) (now index) ⌝ }
     requires { ⌜ TotalsOf (modelOf (now m)) t ⌝ }
     ensures { λ r. ⌜ Judged (now (m .entry)) (now (index .exit)) r ⌝ }
@@ -65,7 +51,7 @@ pub fn load(m: &[u8]) -> Loaded
     ensures { λ r. ⌜ LoadedIs (now (m .entry)) r ⌝ }
 {
     let t = totals(m);
-    let mut index = [0u16; 1376];
+    let mut index = [0u16; INDEX_SIZE];
     let mut refusal = blocks_refusal(m, t);
     if refusal == 0 {
         put_index(m, &mut index);

@@ -5,22 +5,29 @@ ghost use Prim.Native.Nat.{_≤_, _<_};
 ghost use lib.Dec.{eqb};
 ghost use lib.ListN.{length};
 ghost use Rattle.base.specs.Below.{allBelow};
-ghost use Rattle.model.specs.Records.{modelOf, variableAt, statementAt};
-ghost use Rattle.model.specs.Fields.{absent, isNodeOrAbsent, ownerOf, fieldsOk};
-ghost use Rattle.model.specs.Trees.{treesOk};
+ghost use Rattle.blocks.specs.Records.{modelOf, variableAt, statementAt};
+ghost use Rattle.fields.specs.Fields.{absent, isNodeOrAbsent, ownerOf, fieldsOk};
+ghost use Rattle.trees.specs.Trees.{treesOk};
 ghost use Rattle.model.specs.Owners.{pairBelow, driversRise, driversOf, singleOk, driverFor, readsOwn, statementOwned, ownersOk};
-ghost use Rattle.model.specs.Index.{Starts, TotalsOf, TypesIn, DriversIn};
-use crate::fields::owner_of;
-use crate::index::Totals;
-use crate::index::assignment_driver;
-use crate::index::driver_at;
-use crate::index::node_at;
-use crate::index::statement_at;
-use crate::index::variable_at;
-use crate::records::DriverRecord;
-use crate::trees::operands_of;
-use crate::types::signal_type;
+ghost use Rattle.blocks.specs.Index.{Starts};
+ghost use Rattle.blocks.specs.Totals.{TotalsOf};
+ghost use Rattle.trees.specs.Types.{TypesIn};
+ghost use Rattle.model.specs.Index.{DriversBelow, DriversIn};
 use base::choose;
+use blocks::index::ASSIGNMENTS_AT;
+use blocks::index::Index;
+use blocks::index::Totals;
+use blocks::index::driver_at;
+use blocks::index::entry;
+use blocks::index::node_at;
+use blocks::index::statement_at;
+use blocks::index::variable_at;
+use blocks::records::DriverRecord;
+use fields::ABSENT;
+use fields::owner_of;
+use trees::trees::operands_of;
+use trees::types::LOGIC;
+use trees::types::signal_type;
 
 // Whether the first driver's pair is below the second's: by process, then by signal.
 fn pair_below(d: DriverRecord, e: DriverRecord) -> bool
@@ -30,7 +37,7 @@ fn pair_below(d: DriverRecord, e: DriverRecord) -> bool
 }
 
 // Whether the driver pairs strictly rise.
-fn drivers_rise<'a>(m: &'a [u8], index: &'a [u16; 1376], t: Totals) -> bool
+fn drivers_rise<'a>(m: &'a [u8], index: &'a Index, t: Totals) -> bool
     requires { ⌜ Starts (now m) (now index) ⌝ }
     requires { ⌜ TotalsOf (modelOf (now m)) t ⌝ }
     ensures { λ r. ⌜ r ≡ driversRise (modelOf (now (m .entry))) ⌝ }
@@ -45,7 +52,7 @@ fn drivers_rise<'a>(m: &'a [u8], index: &'a [u16; 1376], t: Totals) -> bool
 }
 
 // How many drivers signal s has.
-fn drivers_of<'a>(m: &'a [u8], index: &'a [u16; 1376], t: Totals, s: usize) -> usize
+fn drivers_of<'a>(m: &'a [u8], index: &'a Index, t: Totals, s: usize) -> usize
     requires { ⌜ Starts (now m) (now index) ⌝ }
     requires { ⌜ TotalsOf (modelOf (now m)) t ⌝ }
     ensures { λ r. ⌜ r ≡ driversOf (modelOf (now (m .entry))) s ⌝ }
@@ -61,16 +68,16 @@ fn drivers_of<'a>(m: &'a [u8], index: &'a [u16; 1376], t: Totals, s: usize) -> u
 }
 
 // Whether signal s is logic or has at most one driver.
-fn single_ok<'a>(m: &'a [u8], index: &'a [u16; 1376], t: Totals, s: usize) -> bool
+fn single_ok<'a>(m: &'a [u8], index: &'a Index, t: Totals, s: usize) -> bool
     requires { ⌜ Starts (now m) (now index) ⌝ }
     requires { ⌜ TotalsOf (modelOf (now m)) t ⌝ }
     requires { ⌜ s < length (modelOf (now m) .signals) ⌝ }
     ensures { λ r. ⌜ r ≡ singleOk (modelOf (now (m .entry))) s ⌝ }
 {
-    (signal_type(m, index, s) == 1) | (drivers_of(m, index, t, s) <= 1)
+    (signal_type(m, index, s) == LOGIC) | (drivers_of(m, index, t, s) <= 1)
 }
 
-fn singles_ok<'a>(m: &'a [u8], index: &'a [u16; 1376], t: Totals) -> bool
+fn singles_ok<'a>(m: &'a [u8], index: &'a Index, t: Totals) -> bool
     requires { ⌜ Starts (now m) (now index) ⌝ }
     requires { ⌜ TotalsOf (modelOf (now m)) t ⌝ }
     ensures { λ r. ⌜ r ≡ allBelow (singleOk (modelOf (now (m .entry)))) (length (modelOf (now (m .entry)) .signals)) ⌝ }
@@ -85,7 +92,7 @@ fn singles_ok<'a>(m: &'a [u8], index: &'a [u16; 1376], t: Totals) -> bool
 }
 
 // The driver of process p for signal s, or how many drivers there are where it has none.
-fn driver_for<'a>(m: &'a [u8], index: &'a [u16; 1376], t: Totals, p: usize, s: usize) -> usize
+fn driver_for<'a>(m: &'a [u8], index: &'a Index, t: Totals, p: usize, s: usize) -> usize
     requires { ⌜ Starts (now m) (now index) ⌝ }
     requires { ⌜ TotalsOf (modelOf (now m)) t ⌝ }
     ensures { λ r. ⌜ r ≡ driverFor (modelOf (now (m .entry))) p s ⌝ }
@@ -102,7 +109,7 @@ fn driver_for<'a>(m: &'a [u8], index: &'a [u16; 1376], t: Totals, p: usize, s: u
 }
 
 // The driver of the process of statement n for its signal, where it is a signal assignment.
-fn statement_driver<'a>(m: &'a [u8], index: &'a [u16; 1376], t: Totals, n: usize) -> usize
+fn statement_driver<'a>(m: &'a [u8], index: &'a Index, t: Totals, n: usize) -> usize
     requires { ⌜ Starts (now m) (now index) ⌝ }
     requires { ⌜ TotalsOf (modelOf (now m)) t ⌝ }
     requires { ⌜ n < length (modelOf (now m) .statements) ⌝ }
@@ -114,8 +121,19 @@ fn statement_driver<'a>(m: &'a [u8], index: &'a [u16; 1376], t: Totals, n: usize
     driver_for(m, index, t, p, s.a)
 }
 
+// The driver of statement n, a signal assignment.
+pub fn assignment_driver<'a>(m: &'a [u8], index: &'a Index, n: usize) -> usize
+    requires { ⌜ Starts (now m) (now index) ⌝ }
+    requires { ⌜ DriversBelow (now m) (now index) (length (modelOf (now m) .statements)) ⌝ }
+    requires { ⌜ n < length (modelOf (now m) .statements) ⌝ }
+    requires { ⌜ statementAt (modelOf (now m)) n .kind ≡ 2 ⌝ }
+    ensures { λ r. ⌜ r ≡ driverFor (modelOf (now (m .entry))) (ownerOf (modelOf (now (m .entry))) n) (statementAt (modelOf (now (m .entry))) n .a) ⌝ }
+{
+    entry(index, ASSIGNMENTS_AT + n)
+}
+
 // Writes the driver of each statement into the index.
-fn fill_drivers(m: &[u8], index: &mut [u16; 1376], t: Totals)
+fn fill_drivers(m: &[u8], index: &mut Index, t: Totals)
     requires { ⌜ TypesIn (now m) (now index) ⌝ }
     requires { ⌜ TotalsOf (modelOf (now m)) t ⌝ }
     ensures { λ r. ⌜ DriversIn (now (m .entry)) (now (index .exit)) ⌝ }
@@ -123,13 +141,13 @@ fn fill_drivers(m: &[u8], index: &mut [u16; 1376], t: Totals)
     let mut n = 0;
     while n < t.statements {
         let k = statement_driver(m, index, t, n);
-        index[1176 + n] = k as u16;
+        index[ASSIGNMENTS_AT + n] = k as u16;
         n += 1;
     }
 }
 
 // The process of variable n.
-fn variable_process<'a>(m: &'a [u8], index: &'a [u16; 1376], n: usize) -> usize
+fn variable_process<'a>(m: &'a [u8], index: &'a Index, n: usize) -> usize
     requires { ⌜ Starts (now m) (now index) ⌝ }
     requires { ⌜ n < length (modelOf (now m) .variables) ⌝ }
     ensures { λ r. ⌜ r ≡ variableAt (modelOf (now (m .entry))) n .process ⌝ }
@@ -139,7 +157,7 @@ fn variable_process<'a>(m: &'a [u8], index: &'a [u16; 1376], n: usize) -> usize
 }
 
 // Whether node n's tree reads variables of process p alone. Trees have at most 64 nodes, so there are at most 64 calls.
-fn reads_own<'a>(m: &'a [u8], index: &'a [u16; 1376], n: usize, p: usize) -> bool
+fn reads_own<'a>(m: &'a [u8], index: &'a Index, n: usize, p: usize) -> bool
     requires { ⌜ Starts (now m) (now index) ⌝ }
     requires { ⌜ fieldsOk (modelOf (now m)) ≡ true ⌝ }
     requires { ⌜ treesOk (modelOf (now m)) ≡ true ⌝ }
@@ -161,14 +179,14 @@ fn reads_own<'a>(m: &'a [u8], index: &'a [u16; 1376], n: usize, p: usize) -> boo
 }
 
 // Whether node n is absent or reads variables of process p alone.
-fn own_or_absent<'a>(m: &'a [u8], index: &'a [u16; 1376], n: usize, p: usize) -> bool
+fn own_or_absent<'a>(m: &'a [u8], index: &'a Index, n: usize, p: usize) -> bool
     requires { ⌜ Starts (now m) (now index) ⌝ }
     requires { ⌜ fieldsOk (modelOf (now m)) ≡ true ⌝ }
     requires { ⌜ treesOk (modelOf (now m)) ≡ true ⌝ }
     requires { ⌜ isNodeOrAbsent (modelOf (now m)) n ≡ true ⌝ }
     ensures { λ r. ⌜ r ≡ (eqb n absent || readsOwn (modelOf (now (m .entry))) p n) ⌝ }
 {
-    if n == 65535 {
+    if n == ABSENT {
         true
     } else {
         reads_own(m, index, n, p)
@@ -176,7 +194,7 @@ fn own_or_absent<'a>(m: &'a [u8], index: &'a [u16; 1376], n: usize, p: usize) ->
 }
 
 // Whether statement n has its driver, and assigns and reads variables of its process alone.
-fn statement_owned<'a>(m: &'a [u8], index: &'a [u16; 1376], t: Totals, n: usize) -> bool
+fn statement_owned<'a>(m: &'a [u8], index: &'a Index, t: Totals, n: usize) -> bool
     requires { ⌜ DriversIn (now m) (now index) ⌝ }
     requires { ⌜ TotalsOf (modelOf (now m)) t ⌝ }
     requires { ⌜ fieldsOk (modelOf (now m)) ≡ true ⌝ }
@@ -198,7 +216,7 @@ fn statement_owned<'a>(m: &'a [u8], index: &'a [u16; 1376], t: Totals, n: usize)
     }
 }
 
-fn statements_owned<'a>(m: &'a [u8], index: &'a [u16; 1376], t: Totals) -> bool
+fn statements_owned<'a>(m: &'a [u8], index: &'a Index, t: Totals) -> bool
     requires { ⌜ DriversIn (now m) (now index) ⌝ }
     requires { ⌜ TotalsOf (modelOf (now m)) t ⌝ }
     requires { ⌜ fieldsOk (modelOf (now m)) ≡ true ⌝ }
@@ -215,7 +233,7 @@ fn statements_owned<'a>(m: &'a [u8], index: &'a [u16; 1376], t: Totals) -> bool
 }
 
 // 8. Whether drivers and variables have their processes. Writes the driver of each signal assignment into the index.
-pub fn owners_ok(m: &[u8], index: &mut [u16; 1376], t: Totals) -> bool
+pub fn owners_ok(m: &[u8], index: &mut Index, t: Totals) -> bool
     requires { ⌜ TypesIn (now m) (now index) ⌝ }
     requires { ⌜ TotalsOf (modelOf (now m)) t ⌝ }
     requires { ⌜ fieldsOk (modelOf (now m)) ≡ true ⌝ }

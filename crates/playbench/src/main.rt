@@ -1,6 +1,5 @@
 // Plays the file `orders` on the file `model`, and prints a line for each answer, or the number of a refused session.
 ghost use mathlib.Core.Path.{_≡_};
-ghost use Prim.Native.Nat.{_≤_};
 ghost use lib.ListN.{length};
 ghost use Rattle.io.specs.Counts.{Counts};
 use libc::STDOUT_FILENO;

@@ -8,8 +8,8 @@ use lib.ListN.{take, drop}
 use lib.Seq.{getD-take, getD-drop}
 use Rattle.base.specs.Below.{listBelow}
 use Rattle.base.specs.Bytes.{byteAt, wordAt}
-use Rattle.cycle.specs.Orders.{Outcome}
-use Rattle.cycle.proofs.Lists.{All, all-append}
+use Rattle.rules.specs.Orders.{Outcome}
+use Rattle.rules.proofs.Lists.{All, all-append}
 use Rattle.session.specs.Lists.{Order, orderOf, ordersOf, answerOf}
 use Rattle.session.specs.Demand3.{Bytes}
 

@@ -9,16 +9,17 @@ use Rattle.values.specs.Operators.{notOf}
 use Rattle.values.specs.Resolve.{standard, inRow, pairIn, pairOf, resolutionBy, resolutionOf}
 use Rattle.values.specs.Bench as Values
 use Rattle.values.specs.Bench.{holds, Holds}
-use Rattle.model.specs.Blocks.{startsOf, startsIn, countIn}
-use Rattle.model.specs.Records.{zerosAt, signalOf, variableOf, processOf, driverOf, nodeOf, statementOf, recordsOf, modelOf}
-use Rattle.model.specs.Fields.{totalsOk, valueOk, signalOk, variableOk, processOk, covered, driverOk, nodeOk, ownerOf, inSpan, statementOk, fieldsOk}
-use Rattle.model.specs.Trees.{operandsOf, lowerOk, sizeBy, nextSize, sizeOf, treeOk, treesOk, typeBy, nextType, typeOf, statementTyped, typesOk}
+use Rattle.blocks.specs.Blocks.{startsOf, startsIn, countIn}
+use Rattle.blocks.specs.Records.{zerosAt, signalOf, variableOf, processOf, driverOf, nodeOf, statementOf, recordsOf, modelOf}
+use Rattle.blocks.specs.Totals.{totalsOk}
+use Rattle.fields.specs.Fields.{valueOk, signalOk, variableOk, processOk, covered, driverOk, nodeOk, ownerOf, inSpan, statementOk, fieldsOk}
+use Rattle.trees.specs.Trees.{operandsOf, lowerOk, sizeBy, nextSize, sizeOf, treeOk, treesOk, typeBy, nextType, typeOf, statementTyped, typesOk}
 use Rattle.model.specs.Owners.{pairBelow, driversRise, driversOf, singleOk, driverFor, readsBy, nextReads, readsOwn, statementOwned, ownersOk}
-use Rattle.cycle.specs.Configuration.{drivingOf, firstDrivers, firstSignal, first}
-use Rattle.cycle.specs.Evaluation.{ranged, negateOf, sumOf, differenceOf, equalOf, lessOf, valueBy, nextValue, evalOf}
-use Rattle.cycle.specs.Statements.{withDelay, effectBy, effectOf, before, scheduled, overflows, nextPlace, driverAfter, applied, stepped}
-use Rattle.cycle.specs.Steps.{transactionDue, taken, deadlineDue, active, signalAfter, signalsAfter, inSet, changedIn, wokenIf, wokenAt, processAfterDelta, deltaStep, shifted, timeStep}
-use Rattle.cycle.specs.Orders.{isReady, isStopped, picked, dueTimes, dueNow, advanced, lowestReady, settledFrom, settled, readOf}
+use Rattle.rules.specs.Configuration.{drivingOf, firstDrivers, firstSignal, first}
+use Rattle.rules.specs.Evaluation.{ranged, negateOf, sumOf, differenceOf, equalOf, lessOf, valueBy, nextValue, evalOf}
+use Rattle.rules.specs.Statements.{withDelay, effectBy, effectOf, before, scheduled, overflows, nextPlace, driverAfter, applied, stepped}
+use Rattle.rules.specs.Steps.{transactionDue, taken, deadlineDue, active, signalAfter, signalsAfter, inSet, changedIn, wokenIf, wokenAt, processAfterDelta, deltaStep, shifted, timeStep}
+use Rattle.rules.specs.Orders.{isReady, isStopped, picked, dueTimes, dueNow, advanced, lowestReady, settledFrom, settled, readOf}
 use Rattle.session.specs.Lists.{orderOf, ordersOf, isKnown, performed, answerOf, played}
 use Rattle.session.specs.Bench.{rows, sumRows, settleRows, pendingRows, BenchPlayed}
 

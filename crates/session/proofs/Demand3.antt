@@ -3,25 +3,23 @@
 use mathlib.Core.Path.{_≡_, refl, sym, ap, _∙_}
 use mathlib.Core.Bool.{true, false, true≢false}
 use mathlib.Core.Logic.{_≢_}
-use mathlib.Core.List.{List}
 use Prim.Native.Nat.{ℕ, _<_}
 use native.Mathlib.Omega.{arith}
 use borrow.Author.Tests.{ne-eqb}
 use lib.Dec.{eqb}
 use lib.ListN.{length}
-use Rattle.base.proofs.Below.{none-fails}
-use Rattle.model.specs.Records.{Model, modelOf}
-use Rattle.model.specs.Owners.{rulesOf, refusalOf, Accepted}
+use Rattle.model.proofs.Rules.{accepted}
+use Rattle.blocks.specs.Records.{Model, modelOf}
 use Rattle.model.specs.Facts.{Facts}
 use Rattle.model.proofs.Facts.{facts}
-use Rattle.cycle.specs.Configuration.{Configuration, first}
-use Rattle.cycle.specs.Statements.{stepped}
-use Rattle.cycle.specs.Invariant.{Reachable}
-use Rattle.cycle.specs.Orders.{Outcome, isReady, picked}
-use Rattle.cycle.proofs.Outcomes.{Pick, pick-refused, pick-done, pick-is, pick-of-ready, NoneReady, Advance, advance-refused, delta-done, time-done, advance-is}
-use Rattle.cycle.proofs.FirstReachable.{first-reachable}
-use Rattle.cycle.proofs.Invariant.{picked-reachable, advanced-reachable}
-use Rattle.cycle.proofs.Picks.{steps-commute, standing-stays}
+use Rattle.rules.specs.Configuration.{Configuration, first}
+use Rattle.rules.specs.Statements.{stepped}
+use Rattle.rules.specs.Invariant.{Reachable}
+use Rattle.rules.specs.Orders.{Outcome, isReady, picked}
+use Rattle.rules.proofs.Outcomes.{Pick, pick-refused, pick-done, pick-is, pick-of-ready, NoneReady, Advance, advance-refused, delta-done, time-done, advance-is}
+use Rattle.rules.proofs.FirstReachable.{first-reachable}
+use Rattle.rules.proofs.Invariant.{picked-reachable, advanced-reachable}
+use Rattle.rules.proofs.Picks.{steps-commute, standing-stays}
 use Rattle.determinacy.specs.Kernel.{Laws, NormalForm}
 use Rattle.determinacy.specs.Determinacy.{Determinacy}
 use Rattle.determinacy.proofs.Run.{determinate as by-runs}
@@ -88,18 +86,6 @@ module _ (M : Model) (facts : Facts M) where
   unfolding laws
   determinate-of =
       by-runs (kernelOf M) laws (tallyOf M) (first M) (first-reachable M facts) (λ xs. played-run M _ (orders-small xs) (first M))
-
--- rules 4 to 8 hold of an accepted model
-pub accepted : (m : List ℕ) → refusalOf m ≡ 0 → Accepted (modelOf m)
-unfolding refusalOf rulesOf
-accepted m h =
-    record {
-      totals = none-fails 1 (rulesOf m) (omega arith) h 3;
-      fields = none-fails 1 (rulesOf m) (omega arith) h 4;
-      trees = none-fails 1 (rulesOf m) (omega arith) h 5;
-      types = none-fails 1 (rulesOf m) (omega arith) h 6;
-      owners = none-fails 1 (rulesOf m) (omega arith) h 7;
-    }
 
 -- demand 3
 pub determinate : Determinate

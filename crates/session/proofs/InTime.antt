@@ -8,19 +8,19 @@ use native.Mathlib.Omega.{arith}
 use borrow.Author.Tests.{eqb-true}
 use lib.Dec.{eqb}
 use Rattle.base.proofs.Cases.{by-test}
-use Rattle.model.specs.Records.{Model, modelOf}
+use Rattle.blocks.specs.Records.{Model, modelOf}
 use Rattle.model.specs.Facts.{Facts}
-use Rattle.model.specs.Owners.{refusalOf}
+use Rattle.model.specs.Rules.{refusalOf}
 use Rattle.model.proofs.Facts.{facts}
-use Rattle.cycle.specs.Configuration.{Configuration, first}
-use Rattle.cycle.specs.Invariant.{lastTime, Reachable}
-use Rattle.cycle.specs.Orders.{Outcome}
-use Rattle.cycle.proofs.FirstReachable.{first-reachable}
-use Rattle.cycle.proofs.Invariant.{picked-reachable, advanced-reachable, settled-reachable, read-reachable}
+use Rattle.rules.specs.Configuration.{Configuration, first}
+use Rattle.rules.specs.Invariant.{lastTime, Reachable}
+use Rattle.rules.specs.Orders.{Outcome}
+use Rattle.rules.proofs.FirstReachable.{first-reachable}
+use Rattle.rules.proofs.Invariant.{picked-reachable, advanced-reachable, settled-reachable, read-reachable}
 use Rattle.session.specs.Lists.{Order, isKnown, ordersOf, performed, played}
 use Rattle.session.specs.Sessions.{Session, numberOf, sessionOf}
 use Rattle.session.proofs.SessionLaws.{model-refused}
-use Rattle.session.proofs.Demand3.{accepted}
+use Rattle.model.proofs.Rules.{accepted}
 
 module _ (M : Model) (fs : Facts M) where
   abbrev Keeps : Outcome → Type 0

@@ -7,11 +7,11 @@ use borrow.Author.Tests.{eq-eqb}
 use lib.Dec.{eqb}
 use Rattle.base.specs.Below.{listBelow}
 use Rattle.base.proofs.Cases.{by-test}
-use Rattle.model.specs.Records.{Model, modelOf}
-use Rattle.model.specs.Owners.{refusalOf}
-use Rattle.cycle.specs.Configuration.{Configuration, first}
-use Rattle.cycle.specs.Orders.{Outcome, refused, settled}
-use Rattle.cycle.proofs.Outcomes.{Pick, pick-refused, pick-done, pick-is, Advance, advance-refused, delta-done, time-done, advance-is, Read, read-refused, read-done, read-is}
+use Rattle.blocks.specs.Records.{Model, modelOf}
+use Rattle.model.specs.Rules.{refusalOf}
+use Rattle.rules.specs.Configuration.{Configuration, first}
+use Rattle.rules.specs.Orders.{Outcome, refused, settled}
+use Rattle.rules.proofs.Outcomes.{Pick, pick-refused, pick-done, pick-is, Advance, advance-refused, delta-done, time-done, advance-is, Read, read-refused, read-done, read-is}
 use Rattle.session.specs.Lists.{Order, isKnown, performed, answered, ordersOf, played}
 use Rattle.session.specs.Sessions.{ordersOk, bufferOk, numberOf, sessionOf}
 use Rattle.session.specs.ListLaws.{ListLaws}

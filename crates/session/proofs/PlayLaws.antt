@@ -14,9 +14,9 @@ use lib.Seq.{take-all, take-at, drop-cons, getD-take, getD-drop}
 use Rattle.base.specs.Below.{listBelow}
 use Rattle.base.specs.Bytes.{byteAt, wordAt}
 use Rattle.base.proofs.Below.{list-length, list-at}
-use Rattle.model.specs.Records.{Model}
-use Rattle.cycle.specs.Configuration.{Configuration}
-use Rattle.cycle.specs.Orders.{Outcome, refused, picked, advanced, settled, readOf}
+use Rattle.blocks.specs.Records.{Model}
+use Rattle.rules.specs.Configuration.{Configuration}
+use Rattle.rules.specs.Orders.{Outcome, refused, picked, advanced, settled, readOf}
 use Rattle.cycle.specs.View.{Valid, Answers, viewOf, outcomeOf}
 use Rattle.cycle.specs.declared.config.Config.{Config}
 use Rattle.cycle.specs.declared.orders.Answered.{Answered}

@@ -7,18 +7,20 @@ use native.Mathlib.Omega.{arith}
 use borrow.Author.Tests.{eqb-true, leb-true, eq-eqb, ne-eqb}
 use lib.Dec.{eqb, leb}
 use lib.ListN.{length}
-use Rattle.base.specs.Below.{firstFailing}
-use Rattle.base.proofs.Below.{and-left, and-right, none-left, passes, fails, none-fails, later-decide, first-decides}
-use Rattle.model.specs.Records.{modelOf}
-use Rattle.model.specs.Owners.{rulesOf, refusalOf}
-use Rattle.cycle.specs.Configuration.{first, empty}
+use Rattle.base.specs.Rules.{firstFailing}
+use Rattle.base.proofs.Below.{and-left, and-right}
+use Rattle.base.proofs.Rules.{none-left, passes, fails, none-fails, later-decide, first-decides}
+use Rattle.blocks.specs.Records.{modelOf}
+use Rattle.model.specs.Rules.{rulesOf, refusalOf}
+use Rattle.model.proofs.Rules.{rules-numbered}
+use Rattle.rules.specs.Configuration.{first, empty}
 use Rattle.cycle.specs.View.{viewOf}
 use Rattle.session.specs.declared.Ended.{Ended}
 use Rattle.session.specs.Sessions.{ordersOk, bufferOk, lengthRules, numberOf, sessionOf, PlayedTo, SessionIs}
 
 module _ (orders buffer : List ℕ) where
   -- 9 applies
-  pub nine : ordersOk orders ≡ false → 9 ≡ firstFailing 9 (lengthRules orders buffer)
+  pub nine : ordersOk orders ≡ false → 9 ≡ firstFailing (lengthRules orders buffer)
   nine h = fails 9 _ _ refl h
 
   module _ (h : ordersOk orders ≡ true) where
@@ -27,30 +29,30 @@ module _ (orders buffer : List ℕ) where
     orders-few = leb-true _ _ (and-right (eqb (length orders % 4) 0) _ h)
 
     -- 10 applies
-    pub ten : bufferOk orders buffer ≡ false → 10 ≡ firstFailing 9 (lengthRules orders buffer)
+    pub ten : bufferOk orders buffer ≡ false → 10 ≡ firstFailing (lengthRules orders buffer)
     ten k = fails 10 _ _ refl k ∙ sym (passes 9 _ _ refl h)
 
-    pub neither : bufferOk orders buffer ≡ true → 0 ≡ firstFailing 9 (lengthRules orders buffer)
-    neither k = none-left 11 ∙ sym (passes 10 _ _ refl k) ∙ sym (passes 9 _ _ refl h)
+    pub neither : bufferOk orders buffer ≡ true → 0 ≡ firstFailing (lengthRules orders buffer)
+    neither k = none-left ∙ sym (passes 10 _ _ refl k) ∙ sym (passes 9 _ _ refl h)
 
   -- neither applies: there are 16 bytes for each order
-  pub room : firstFailing 9 (lengthRules orders buffer) ≡ 0 → length buffer ≡ 16 * (length orders / 4)
+  pub room : firstFailing (lengthRules orders buffer) ≡ 0 → length buffer ≡ 16 * (length orders / 4)
   unfolding ordersOk bufferOk
   room h =
-      let p : length orders % 4 ≡ 0 = eqb-true _ _ (and-left (eqb (length orders % 4) 0) (leb (length orders) 16384) (none-fails 9 (lengthRules orders buffer) (omega arith) h 0)) in
-      let q : length buffer ≡ 4 * length orders = eqb-true _ _ (none-fails 9 (lengthRules orders buffer) (omega arith) h 1) in
+      let p : length orders % 4 ≡ 0 = eqb-true _ _ (and-left (eqb (length orders % 4) 0) (leb (length orders) 16384) (none-fails 10 (lengthRules orders buffer) refl h 0)) in
+      let q : length buffer ≡ 4 * length orders = eqb-true _ _ (none-fails 10 (lengthRules orders buffer) refl h 1) in
       omega arith
 
 module _ (m orders old : List ℕ) where
   -- a refusal of the model decides
   pub model-refused : (refusalOf m ≡ 0 → ⊥) → numberOf m orders old ≡ refusalOf m
   unfolding numberOf refusalOf
-  model-refused h = first-decides 1 (rulesOf m) (lengthRules orders old) h
+  model-refused h = first-decides (rulesOf m) (lengthRules orders old) h
 
   -- the model is accepted: 9 and 10 decide
-  pub model-accepted : refusalOf m ≡ 0 → numberOf m orders old ≡ firstFailing 9 (lengthRules orders old)
-  unfolding numberOf refusalOf rulesOf
-  model-accepted h = later-decide 0 (rulesOf m) (lengthRules orders old) h
+  pub model-accepted : refusalOf m ≡ 0 → numberOf m orders old ≡ firstFailing (lengthRules orders old)
+  unfolding numberOf refusalOf
+  model-accepted h = later-decide 8 (rulesOf m) (lengthRules orders old) (rules-numbered m) h
 
   -- "a refused one writes no answer and returns the empty configuration"
   pub refused-session : (r : Ended) → r .number ≡ numberOf m orders old → (r .number ≡ 0 → ⊥) → viewOf (r .config) ≡ empty → SessionIs m orders old old r

@@ -9,17 +9,17 @@ use lib.ListN.{length, getD, replicate}
 use Rattle.base.specs.Bytes.{byteAt, wordAt, longAt}
 use Rattle.values.specs.Bench as Values
 use Rattle.values.specs.Bench.{Row, _gives_}
-use Rattle.model.specs.Records.{Model, modelOf}
-use Rattle.model.specs.Fields.{absent}
-use Rattle.model.specs.Owners.{Accepted}
-use Rattle.model.specs.Trees.{integer, logic}
-use Rattle.model.specs.declared.records.SignalRecord.{SignalRecord}
-use Rattle.model.specs.declared.records.VariableRecord.{VariableRecord}
-use Rattle.model.specs.declared.records.ProcessRecord.{ProcessRecord}
-use Rattle.model.specs.declared.records.DriverRecord.{DriverRecord}
-use Rattle.model.specs.declared.records.NodeRecord.{NodeRecord}
-use Rattle.model.specs.declared.records.StatementRecord.{StatementRecord}
-use Rattle.cycle.specs.Configuration.{Configuration, driverIn, first}
+use Rattle.blocks.specs.Records.{Model, modelOf}
+use Rattle.fields.specs.Fields.{absent}
+use Rattle.model.specs.Rules.{Accepted}
+use Rattle.trees.specs.Trees.{integer, logic}
+use Rattle.blocks.specs.declared.records.SignalRecord.{SignalRecord}
+use Rattle.blocks.specs.declared.records.VariableRecord.{VariableRecord}
+use Rattle.blocks.specs.declared.records.ProcessRecord.{ProcessRecord}
+use Rattle.blocks.specs.declared.records.DriverRecord.{DriverRecord}
+use Rattle.blocks.specs.declared.records.NodeRecord.{NodeRecord}
+use Rattle.blocks.specs.declared.records.StatementRecord.{StatementRecord}
+use Rattle.rules.specs.Configuration.{Configuration, driverIn, first}
 use Rattle.session.specs.Lists.{Order, ordersOf, played}
 use Rattle.session.specs.Text.{timeIn}
 

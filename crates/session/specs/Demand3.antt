@@ -11,10 +11,10 @@ use Rattle.base.specs.Bytes.{byteAt, wordAt}
 use Rattle.base.specs.Cases.{_∣_, _⇒_}
 use Rattle.determinacy.specs.Kernel.{Kernel}
 use Rattle.determinacy.specs.Determinacy.{Tally, Determinacy}
-use Rattle.model.specs.Records.{Model, modelOf}
-use Rattle.model.specs.Owners.{refusalOf}
-use Rattle.cycle.specs.Configuration.{Configuration, first}
-use Rattle.cycle.specs.Orders.{picked, advanced}
+use Rattle.blocks.specs.Records.{Model, modelOf}
+use Rattle.model.specs.Rules.{refusalOf}
+use Rattle.rules.specs.Configuration.{Configuration, first}
+use Rattle.rules.specs.Orders.{picked, advanced}
 use Rattle.session.specs.Lists.{Order, Played, ordersOf, played}
 
 -- a list's picks

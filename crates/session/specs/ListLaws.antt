@@ -3,10 +3,10 @@ use mathlib.Core.Path.{_≡_}
 use mathlib.Core.Logic.{_≢_}
 use mathlib.Core.List.{List, [], _∷_}
 use Prim.Native.Nat.{ℕ}
-use Rattle.model.specs.Records.{Model, modelOf}
-use Rattle.model.specs.Owners.{refusalOf}
-use Rattle.cycle.specs.Configuration.{Configuration, first}
-use Rattle.cycle.specs.Orders.{refused}
+use Rattle.blocks.specs.Records.{Model, modelOf}
+use Rattle.model.specs.Rules.{refusalOf}
+use Rattle.rules.specs.Configuration.{Configuration, first}
+use Rattle.rules.specs.Orders.{refused}
 use Rattle.session.specs.Lists.{Order, performed, answered, played}
 use Rattle.session.specs.Sessions.{sessionOf}
 

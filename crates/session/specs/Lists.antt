@@ -7,9 +7,9 @@ use lib.ListN.{length, take, drop}
 use Rattle.base.specs.Below.{listBelow}
 use Rattle.base.specs.Bytes.{byteAt, wordAt}
 use Rattle.base.specs.Cases.{_∣_, _⇒_, _is_⇒_}
-use Rattle.model.specs.Records.{Model}
-use Rattle.cycle.specs.Configuration.{Configuration}
-use Rattle.cycle.specs.Orders.{Outcome, refused, picked, advanced, settled, readOf}
+use Rattle.blocks.specs.Records.{Model}
+use Rattle.rules.specs.Configuration.{Configuration}
+use Rattle.rules.specs.Orders.{Outcome, refused, picked, advanced, settled, readOf}
 
 -- "An order is 4 bytes: kind, argument, 16-bit count."
 pub record Order : Type 0 where

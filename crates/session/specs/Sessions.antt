@@ -5,11 +5,11 @@ use mathlib.Core.Path.{_≡_}
 use Prim.Native.Nat.{ℕ, _*_, _%_}
 use lib.Dec.{eqb, leb}
 use lib.ListN.{length}
-use Rattle.base.specs.Below.{firstFailing}
+use Rattle.base.specs.Rules.{Rule, _needs_, firstFailing}
 use Rattle.base.specs.Cases.{_∣_, _⇒_}
-use Rattle.model.specs.Records.{Model, modelOf}
-use Rattle.model.specs.Owners.{rulesOf}
-use Rattle.cycle.specs.Configuration.{Configuration, first, empty}
+use Rattle.blocks.specs.Records.{Model, modelOf}
+use Rattle.model.specs.Rules.{rulesOf}
+use Rattle.rules.specs.Configuration.{Configuration, first, empty}
 use Rattle.cycle.specs.View.{viewOf}
 use Rattle.session.specs.Lists.{Played, ordersOf, played}
 use Rattle.session.specs.declared.Ended.{Ended}
@@ -23,12 +23,12 @@ unfoldable pub bufferOk : List ℕ → List ℕ → Bool
 bufferOk orders buffer = eqb (length buffer) (4 * length orders)
 
 -- 9 and 10, in checking order
-abbrev pub lengthRules : List ℕ → List ℕ → List Bool
-lengthRules orders buffer = ordersOk orders ∷ bufferOk orders buffer ∷ []
+abbrev pub lengthRules : List ℕ → List ℕ → List Rule
+lengthRules orders buffer = (9 needs ordersOk orders) ∷ (10 needs bufferOk orders buffer) ∷ []
 
 -- the first of 1 to 10 that applies, or 0
 unfoldable pub numberOf : List ℕ → List ℕ → List ℕ → ℕ
-numberOf model orders buffer = firstFailing 1 (rulesOf model ++ lengthRules orders buffer)
+numberOf model orders buffer = firstFailing (rulesOf model ++ lengthRules orders buffer)
 
 -- the bytes of some answers, one after the other
 abbrev pub bytesOf : List (List ℕ) → List ℕ

@@ -1,6 +1,5 @@
 // One answer of 16 bytes, written into its own part of the answer buffer.
 ghost use mathlib.Core.Path.{_≡_};
-ghost use Prim.Native.Nat.{_<_};
 ghost use lib.ListN.{length};
 ghost use Rattle.session.specs.Lists.{answerBytes};
 

@@ -5,7 +5,7 @@ pub mod text;
 
 ghost use mathlib.Core.Path.{_≡_};
 ghost use lib.ListN.{length};
-ghost use Rattle.base.specs.Below.{firstFailing};
+ghost use Rattle.base.specs.Rules.{firstFailing};
 ghost use Rattle.values.specs.Bench.{Holds};
 ghost use Rattle.session.specs.Bench.{rows, BenchPlayed};
 ghost use Rattle.session.specs.Demand3.{Determinate};
@@ -23,7 +23,7 @@ pub struct Ended {
 
 // The first of 9 and 10 that applies, or 0.
 fn lengths_refusal(orders: &[u8], answers: &[u8]) -> usize
-    ensures { λ r. ⌜ r ≡ firstFailing 9 (lengthRules (now (orders .entry)) (now (answers .entry))) ⌝ }
+    ensures { λ r. ⌜ r ≡ firstFailing (lengthRules (now (orders .entry)) (now (answers .entry))) ⌝ }
 {
     let n = orders.len();
     let whole = (n % 4 == 0) & (n <= 16384);

@@ -2,13 +2,15 @@
 ghost use mathlib.Core.Path.{_≡_};
 ghost use Prim.Native.Nat.{_*_, _/_};
 ghost use lib.ListN.{length};
-ghost use Rattle.model.specs.Records.{modelOf};
-ghost use Rattle.cycle.specs.View.{Runs, Valid, viewOf};
+ghost use Rattle.blocks.specs.Records.{modelOf};
+ghost use Rattle.expressions.specs.Reading.{Runs};
+ghost use Rattle.cycle.specs.View.{Valid, viewOf};
 ghost use Rattle.session.specs.Lists.{isKnown, order};
 ghost use Rattle.session.specs.Sessions.{PlayedTo};
 use crate::encode::put_answer;
 use base::byte;
 use base::word;
+use blocks::index::Index;
 use cycle::config::Config;
 
 // The kind is known, and the bytes that it does not use are zero.
@@ -28,7 +30,7 @@ fn known(kind: usize, argument: usize, count: usize) -> bool
 pub fn play<'a>(
     c: Config,
     m: &'a [u8],
-    index: &'a [u16; 1376],
+    index: &'a Index,
     orders: &[u8],
     answers: &mut [u8],
 ) -> Config

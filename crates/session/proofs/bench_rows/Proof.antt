@@ -1,6 +1,5 @@
 -- The rows hold by computation.
 use mathlib.Core.Path.{refl}
-use mathlib.Core.List.{_++_}
 use Rattle.values.specs.Bench as Values
 use Rattle.session.specs.Bench.{rows, sumRows, settleRows, pendingRows}
 use Rattle.session.proofs.Bench.{table, played-as-printed}

@@ -1,11 +1,11 @@
 -- Each answer by the laws of a session, from what loading, the length rules and the play say. Assumes nothing.
 use mathlib.Core.Path.{_≡_, refl, sym, _∙_}
 use borrow.Author.Needs.{needs}
-use Rattle.model.specs.Owners.{refusalOf}
+use Rattle.model.specs.Rules.{refusalOf}
 use Rattle.session.proofs.SessionLaws.{room, model-refused, model-accepted, refused-session, played-session}
 use Rattle.session.proofs.Demand3.{determinate}
 use Rattle.session.proofs.ListLaws.{list-laws}
-use Rattle.cycle.proofs.Runs.{runs}
+use Rattle.expressions.proofs.Runs.{runs}
 use Rattle.session.proofs.session.Statement.{statement}
 use Rattle.session.proofs.session.Tie as tie
 

@@ -2,7 +2,7 @@ use mathlib.Core.Path.{refl}
 use Prim.Native.Nat.{_≤_, _-_, zero-le}
 use borrow.Author.Count.{falls}
 use Rattle.base.proofs.Turns.{turn-there, turn-room, turn-fours, turn-next, turn-most}
-use Rattle.model.specs.Records.{modelOf}
+use Rattle.blocks.specs.Records.{modelOf}
 use Rattle.cycle.specs.Arrays.{firstValue}
 use Rattle.cycle.proofs.Arrays.{Filled, filled-none, filled-more, filled-all}
 use Rattle.cycle.proofs.config.first_values.Statement.{statement}

@@ -1,7 +1,6 @@
 use mathlib.Core.Path.{_≡_, refl, sym, _∙_}
-use lib.ListN.{take}
-use Rattle.base.specs.Below.{firstFailing}
-use Rattle.model.specs.Owners.{rulesOf}
+use Rattle.base.specs.Rules.{firstFailing}
+use Rattle.blocks.specs.Totals.{blockRules}
 use Rattle.model.proofs.Rules.{blocks-refused, blocks-passed, length-holds, heads-hold, totals-hold}
 use borrow.Author.Needs.{needs}
 use Rattle.model.proofs.load.load.Statement.{statement}
@@ -17,7 +16,7 @@ slice-aggregate-put-index : tie.Need-slice-aggregate-put-index
 slice-aggregate-put-index c = search needs
 
 -- the rules of the blocks hold
-passed : (c : tie.Then1) → firstFailing 1 (take 4 (rulesOf (c .before .before .before .before .args .m .now))) ≡ 0
+passed : (c : tie.Then1) → firstFailing (blockRules (c .before .before .before .before .args .m .now)) ≡ 0
 passed c = sym (c .before .blocks-refusal .ensures) ∙ c .if1 .taken
 
 put-index-requires : tie.Need-put-index-requires

@@ -1,9 +1,9 @@
 use mathlib.Core.Path.{_≡_, sym, _∙_}
 use mathlib.Core.Bool.{true}
 use borrow.Author.Tests.{not-true, not-false}
-use Rattle.model.specs.Records.{modelOf}
-use Rattle.model.specs.Fields.{fieldsOk}
-use Rattle.model.specs.Trees.{treesOk, typesOk}
+use Rattle.blocks.specs.Records.{modelOf}
+use Rattle.fields.specs.Fields.{fieldsOk}
+use Rattle.trees.specs.Trees.{treesOk, typesOk}
 use Rattle.model.proofs.Rules.{fields-fail, trees-fail, types-fail, owners-fail, all-hold}
 use Rattle.model.proofs.load.model_refusal.Statement.{statement}
 use Rattle.model.proofs.load.model_refusal.Tie as tie

@@ -3,9 +3,9 @@ use Prim.Native.Nat.{_+_, _-_, _≤_, zero-le}
 use borrow.Author.Count.{falls}
 use Rattle.base.specs.Below.{allBelow}
 use Rattle.base.proofs.Turns.{first-below, pair-most, pair-fits, pair-ended, all-begun, all-turn}
-use Rattle.model.specs.Records.{modelOf, driverAt}
+use Rattle.blocks.specs.Records.{modelOf, driverAt}
 use Rattle.model.specs.Owners.{pairBelow, driversRise}
-use Rattle.model.proofs.Lookup.{drivers-most}
+use Rattle.blocks.proofs.Lookup.{drivers-most}
 use Rattle.model.proofs.owners.drivers_rise.Statement.{statement}
 use Rattle.model.proofs.owners.drivers_rise.Tie as tie
 

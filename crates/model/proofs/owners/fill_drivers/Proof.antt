@@ -6,11 +6,15 @@ use native.Mathlib.Nat.{le-antisymm}
 use borrow.Author.Count.{falls, below-none}
 use denote.Ref.{now}
 use lib.ListN.{length, length-set}
+use Rattle.blocks.specs.Index.{assignmentsAt}
 use Rattle.base.proofs.Turns.{turn-next, turn-most}
-use Rattle.model.specs.Records.{modelOf}
-use Rattle.model.specs.Index.{TypesIn, DriversBelow}
-use Rattle.model.proofs.Lookup.{nodes-most, statements-most}
-use Rattle.model.proofs.Entries.{entry-place, entry-fits, entry-scaled, value-fits, past, types-before, starts-set, types-kept, drivers-next}
+use Rattle.blocks.specs.Records.{modelOf}
+use Rattle.trees.specs.Types.{TypesIn}
+use Rattle.model.specs.Index.{DriversBelow}
+use Rattle.blocks.proofs.Lookup.{nodes-most, statements-most}
+use Rattle.blocks.proofs.Entries.{entry-place, entry-fits, entry-scaled, value-fits, past, starts-set}
+use Rattle.trees.proofs.TypeEntries.{types-before, types-kept}
+use Rattle.model.proofs.Entries.{drivers-next}
 use Rattle.model.proofs.owners.fill_drivers.Statement.{statement}
 use Rattle.model.proofs.owners.fill_drivers.Tie as tie
 
@@ -39,13 +43,13 @@ cast-index : tie.Need-cast-index Inv-loop μ-loop
 cast-index c = value-fits 64 tt _ (c .statement-driver .ensures .1)
 
 add-index : tie.Need-add-index Inv-loop μ-loop
-add-index c = entry-fits 1176 200 tt _ _ (there (c .before .before)) (most (c .before .before))
+add-index c = entry-fits assignmentsAt 200 tt _ _ (there (c .before .before)) (most (c .before .before))
 
 mul-index : tie.Need-mul-index Inv-loop μ-loop
-mul-index c = entry-scaled 1176 200 tt _ _ (there (c .before .before)) (most (c .before .before))
+mul-index c = entry-scaled assignmentsAt 200 tt _ _ (there (c .before .before)) (most (c .before .before))
 
 element-write-index : tie.Need-element-write-index Inv-loop μ-loop
-element-write-index c = entry-place 1176 200 tt _ _ (there (c .before .before)) (most (c .before .before))
+element-write-index c = entry-place assignmentsAt 200 tt _ _ (there (c .before .before)) (most (c .before .before))
 
 add-n : tie.Need-add-n Inv-loop μ-loop
 add-n c = let d = c .before .before in turn-next 200 _ _ _ (d .before .before .before .before .pre .1 .statements) (most d) (d .if1 .taken) tt
@@ -58,14 +62,14 @@ loop-again c =
     let d = c .before .before in
     let h = d .before .before .loop in
     let s = d .before .before .before .before in
-    let i = 1176 + h .n in
+    let i = assignmentsAt + h .n in
     let k = c .statement-driver .result in
     let types = h .inv .1 in
-    let place = entry-place 1176 200 tt _ _ (there d) (most d) in (
+    let place = entry-place assignmentsAt 200 tt _ _ (there d) (most d) in (
       turn-most _ _ (d .if1 .taken),
       record {
         size = simp length-set (types .size);
-        starts = starts-set _ (h .index) i k (past 1176 tt (h .n)) (types .starts);
+        starts = starts-set _ (h .index) i k (past assignmentsAt tt (h .n)) (types .starts);
         type = types-kept _ (h .index) i k _ (types-before _ (h .n) (nodes-most (modelOf (now (s .args .m))) (types .starts .totals))) (types .type);
       },
       drivers-next _ (h .index) (h .n) k (rw (types .size) place) (λ e. c .statement-driver .ensures .0) (h .inv .2),

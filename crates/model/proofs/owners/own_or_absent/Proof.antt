@@ -1,7 +1,7 @@
 use borrow.Author.Tests.{eq-eqb, ne-eqb}
 use denote.Ref.{now}
-use Rattle.model.specs.Records.{modelOf}
-use Rattle.model.proofs.StatementFields.{present}
+use Rattle.blocks.specs.Records.{modelOf}
+use Rattle.fields.proofs.StatementFields.{present}
 use Rattle.model.proofs.owners.own_or_absent.Statement.{statement}
 use Rattle.model.proofs.owners.own_or_absent.Tie as tie
 

@@ -3,9 +3,9 @@ use Prim.Native.Nat.{_-_, _≤_, zero-le}
 use borrow.Author.Count.{falls}
 use Rattle.base.specs.Below.{allBelow}
 use Rattle.base.proofs.Turns.{turn-next, turn-most, all-begun, all-turn, all-ended}
-use Rattle.model.specs.Records.{modelOf}
+use Rattle.blocks.specs.Records.{modelOf}
 use Rattle.model.specs.Owners.{singleOk}
-use Rattle.model.proofs.Lookup.{signals-most}
+use Rattle.blocks.proofs.Lookup.{signals-most}
 use Rattle.model.proofs.owners.singles_ok.Statement.{statement}
 use Rattle.model.proofs.owners.singles_ok.Tie as tie
 

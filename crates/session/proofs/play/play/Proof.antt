@@ -2,7 +2,7 @@
 use Prim.Native.Nat.{_+_, _*_, _-_, _<_}
 use native.Mathlib.Omega.{arith}
 use borrow.Author.Needs.{needs}
-use Rattle.model.specs.Records.{modelOf}
+use Rattle.blocks.specs.Records.{modelOf}
 use Rattle.cycle.specs.View.{viewOf}
 use Rattle.cycle.proofs.Advances.{few-signals}
 use Rattle.cycle.proofs.OrderLaws.{refused-each}

@@ -5,11 +5,11 @@ use Prim.Native.Nat.{_+_, _-_, _<_}
 use native.Mathlib.Omega.{arith}
 use lib.ListN.{length, getD}
 use borrow.Author.Needs.{needs}
-use Rattle.model.specs.Records.{modelOf}
-use Rattle.model.specs.Facts.{Spans}
-use Rattle.cycle.specs.View.{Runs}
+use Rattle.blocks.specs.Records.{modelOf}
+use Rattle.fields.specs.Facts.{Spans}
+use Rattle.expressions.specs.Reading.{Runs}
 use Rattle.cycle.specs.declared.config.Config.{Config}
-use Rattle.cycle.proofs.Lists.{length-mapped}
+use Rattle.rules.proofs.Lists.{length-mapped}
 use Rattle.cycle.proofs.Changes.{Sized}
 use Rattle.cycle.proofs.Turning.{Turning, Turn, Stepped, statement-there, is-ready, turning-next, goes-on, turning-none, turning-past, settle-end, early, in-16, process-in-model, place-spans, in-variables, wait-small, skip-turn, store-turn, jump-turn, wait-turn, wait-for-turn, stop-turn, in-drivers, waveform, full-turn, schedule-turn}
 use Rattle.cycle.proofs.config.Config.settle.Statement.{statement}

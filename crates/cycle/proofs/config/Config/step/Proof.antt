@@ -4,10 +4,10 @@ use native.Mathlib.Omega.{arith}
 use lib.ListN.{length, getD}
 use Prim.Native.Nat.{_<_}
 use borrow.Author.Needs.{needs}
-use Rattle.model.specs.Records.{modelOf}
-use Rattle.model.specs.Facts.{Spans}
-use Rattle.cycle.specs.View.{Runs}
-use Rattle.cycle.proofs.Lists.{length-mapped}
+use Rattle.blocks.specs.Records.{modelOf}
+use Rattle.fields.specs.Facts.{Spans}
+use Rattle.expressions.specs.Reading.{Runs}
+use Rattle.rules.proofs.Lists.{length-mapped}
 use Rattle.cycle.proofs.Advances.{few-processes}
 use Rattle.cycle.proofs.Changes.{Sized}
 use Rattle.cycle.proofs.Turning.{Turn, statement-there, early, in-16, process-in-model, place-spans, in-variables, wait-small, skip-turn, store-turn, jump-turn, wait-turn, wait-for-turn, stop-turn, in-drivers, waveform, full-turn, schedule-turn}

@@ -1,0 +1,4 @@
+pub mod Blocks
+pub mod Index
+pub mod Records
+pub mod Totals

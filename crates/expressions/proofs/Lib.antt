@@ -1,0 +1,4 @@
+pub mod Logical
+pub mod Recursion
+pub mod Runs
+pub mod Statements

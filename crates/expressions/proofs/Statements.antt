@@ -1,0 +1,68 @@
+-- What the program finds of a statement: its operands, its driver and its delay. Assumes nothing.
+use mathlib.Core.Path.{_≡_}
+use mathlib.Core.Bool.{true, false}
+use Prim.Native.Nat.{ℕ, _+_, _-_, _≤_, _<_}
+use native.Mathlib.Omega.{arith}
+use lib.ListN.{length}
+use borrow.Author.Tests.{lt-ltb, le-ltb}
+use Rattle.blocks.specs.Records.{Model, processAt, statementAt, modelOf}
+use Rattle.fields.specs.Fields.{endOf, ownerOf}
+use Rattle.model.specs.Facts.{Facts, StatementFits}
+use Rattle.blocks.specs.declared.records.ProcessRecord.{ProcessRecord}
+use Rattle.rules.specs.Statements.{nextPlace, withDelay}
+use Rattle.rules.specs.declared.effect.Effect.{Effect}
+use Rattle.rules.specs.declared.effect.Effect.the-variants.{Stop}
+use mathlib.Core.List.{List}
+use lib.IntN.{ℤ, pos}
+use lib.Signed.{ltZ}
+use mir.Syntax.{w64}
+use mir.Val.{toZ, ofZ}
+use Rattle.base.proofs.Below.{NoneOf, none-of}
+use Rattle.blocks.specs.Index.{Starts}
+use Rattle.model.specs.Index.{DriversBelow}
+use Rattle.blocks.specs.declared.records.StatementRecord.{StatementRecord}
+use Rattle.rules.specs.declared.value.Value.{Value}
+use Rattle.rules.specs.declared.value.Value.the-variants.{Of, Fault}
+use Rattle.rules.specs.Evaluation.{int}
+use Rattle.expressions.specs.Reading.{Runs}
+use Rattle.rules.proofs.Signed.{not-negative, int-read}
+
+-- a delay, r being what `int` returned
+pub delay-fault : {v : Value} {f : ℕ} (next : ℕ → Effect) → v ≡ Fault f → Stop f ≡ withDelay v next
+unfolding withDelay
+delay-fault next h = rw h
+
+module _ {v : Value} {x : ℕ} {r : ℤ} (next : ℕ → Effect) (h : v ≡ Of x) (l : x < 4294967296) (e : r ≡ int x) where
+  pub delay-negative : ltZ (toZ w64 (ofZ w64 r)) (pos 0) ≡ true → Stop 2 ≡ withDelay v next
+  unfolding withDelay
+  delay-negative t = rw (h, simp (int-read x l e) at t)
+
+  pub delay-kept : ltZ (toZ w64 (ofZ w64 r)) (pos 0) ≡ false → next x ≡ withDelay v next
+  unfolding withDelay
+  delay-kept t = let s : ltZ (int x) (pos 0) ≡ false = rw (int-read x l e) at t in rw (h, s, not-negative x s)
+
+-- statement n, which the program read as s
+module _ {m index : List ℕ} {n : ℕ} (call : Runs m index × (n < length (modelOf m .statements))) {s : StatementRecord} (read : s ≡ statementAt (modelOf m) n) where
+  pub statement-fits : StatementFits (modelOf m) (ownerOf (modelOf m) n) s
+  statement-fits = rw read (call .0 .facts .statement n (call .1) .fits)
+
+  -- what the call that reads the driver asks, and what it gives
+  pub driver-call : s .kind ≡ 2 → Starts m index × (DriversBelow m index (length (modelOf m .statements)) × ((n < length (modelOf m .statements)) × (statementAt (modelOf m) n .kind ≡ 2)))
+  driver-call e = let u = call .0 .usable in (u .starts, (u .driver, (call .1, rw read at e)))
+
+  -- the last arm is never taken
+  pub no-statement : {A : Type 0} → NoneOf (s .kind) 0 6 → A
+  no-statement h = absurd (none-of 0 6 (s .kind) h (omega arith) (omega (arith, statement-fits .kind)))
+
+-- the place after i, r being the record of process p
+module _ (M : Model) (p i : ℕ) (r : ProcessRecord) (e : r ≡ processAt M p) where
+  pub next-inside : i + 1 < r .first + r .count → i + 1 ≡ nextPlace M p i
+  unfolding nextPlace
+  next-inside h = rw (← e, lt-ltb (i + 1) (r .first + r .count) h)
+
+  pub next-first : r .first + r .count ≤ i + 1 → r .first ≡ nextPlace M p i
+  unfolding nextPlace
+  next-first h = rw (← e, le-ltb (i + 1) (r .first + r .count) h)
+
+pub few-statements : (M : Model) → Facts M → (p : ℕ) → p < length (M .processes) → endOf M p ≤ 200
+few-statements M fs p h = omega (arith, fs .process p h .within, fs .totals .statements)

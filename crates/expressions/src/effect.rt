@@ -1,0 +1,130 @@
+// What a statement does.
+ghost use mathlib.Core.Path.{_≡_};
+ghost use Prim.Native.Nat.{_<_};
+ghost use lib.Dec.{eqb};
+ghost use lib.ListN.{length};
+ghost use Rattle.base.specs.Cases.{_∣_, _⇒_};
+ghost use Rattle.blocks.specs.Records.{modelOf, statementAt};
+ghost use Rattle.fields.specs.Fields.{ownerOf};
+ghost use Rattle.rules.specs.declared.effect.Effect.the-variants.{Skip, Store, Schedule, Jump, WaitFor};
+ghost use Rattle.rules.specs.Statements.{withValue, withDelay, effectBy, nextPlace};
+ghost use Rattle.expressions.specs.Reading.{arrays, Runs};
+ghost use Rattle.fields.specs.Facts.{Spans};
+use crate::eval::eval;
+use crate::operators::int;
+use blocks::index::Index;
+use blocks::index::process_at;
+use blocks::index::statement_at;
+use model::owners::assignment_driver;
+use rules::effect::Effect;
+use rules::value::Value;
+
+fn store(a: usize, v: Value) -> Effect
+    ensures { λ r. ⌜ r ≡ withValue v (λ x. Store a x) ⌝ }
+{
+    match v {
+        Value::Fault(f) => Effect::Stop(f),
+        Value::Of(x) => Effect::Store(a, x),
+    }
+}
+
+fn branch(a: usize, v: Value) -> Effect
+    ensures { λ r. ⌜ r ≡ withValue v (λ x. eqb x 0 ⇒ Jump a ∣ Skip) ⌝ }
+{
+    match v {
+        Value::Fault(f) => Effect::Stop(f),
+        Value::Of(x) => {
+            if x == 0 {
+                Effect::Jump(a)
+            } else {
+                Effect::Skip
+            }
+        }
+    }
+}
+
+// A schedule on driver k: fault 2 for a negative delay.
+fn send(k: usize, v: Value, c: Value) -> Effect
+    ensures { λ r. ⌜ r ≡ withValue v (λ x. withDelay c (λ d. Schedule k d x)) ⌝ }
+{
+    match v {
+        Value::Fault(f) => Effect::Stop(f),
+        Value::Of(x) => match c {
+            Value::Fault(f) => Effect::Stop(f),
+            Value::Of(d) => {
+                if int(d) < 0 {
+                    Effect::Stop(2)
+                } else {
+                    Effect::Schedule(k, d, x)
+                }
+            }
+        },
+    }
+}
+
+fn wait_for(c: Value) -> Effect
+    ensures { λ r. ⌜ r ≡ withDelay c WaitFor ⌝ }
+{
+    match c {
+        Value::Fault(f) => Effect::Stop(f),
+        Value::Of(d) => {
+            if int(d) < 0 {
+                Effect::Stop(2)
+            } else {
+                Effect::WaitFor(d)
+            }
+        }
+    }
+}
+
+// What statement n does.
+pub fn does<'a>(
+    m: &'a [u8],
+    index: &'a Index,
+    variables: &'a [u32; 64],
+    signals: &'a [u32; 1024],
+    n: usize,
+) -> Effect
+    requires { ⌜ Runs (now m) (now index) ⌝ }
+    requires { ⌜ n < length (modelOf (now m) .statements) ⌝ }
+    ensures { λ r. ⌜ r ≡ effectBy (modelOf (now (m .entry))) (arrays (now (variables .entry)) (now (signals .entry))) (ownerOf (modelOf (now (m .entry))) n) (statementAt (modelOf (now (m .entry))) n) ⌝ }
+{
+    let s = statement_at(m, index, n);
+    let kind = s.kind;
+    match kind {
+        0 => Effect::Skip,
+        1 => store(s.a, eval(m, index, variables, signals, s.b)),
+        2 => {
+            let v = eval(m, index, variables, signals, s.b);
+            send(
+                assignment_driver(m, index, n),
+                v,
+                eval(m, index, variables, signals, s.c),
+            )
+        }
+        3 => branch(s.a, eval(m, index, variables, signals, s.b)),
+        4 => Effect::Jump(s.a),
+        5 => {
+            if s.c == 65535 {
+                return Effect::Wait;
+            }
+            wait_for(eval(m, index, variables, signals, s.c))
+        }
+        _ => Effect::Skip,
+    }
+}
+
+// The place after i in process p: the last statement is followed by the first.
+pub fn next_place<'a>(m: &'a [u8], index: &'a Index, p: usize, i: usize) -> usize
+    requires { ⌜ Runs (now m) (now index) ⌝ }
+    requires { ⌜ p < length (modelOf (now m) .processes) ⌝ }
+    requires { ⌜ Spans (modelOf (now m)) p i ⌝ }
+    ensures { λ r. ⌜ r ≡ nextPlace (modelOf (now (m .entry))) p i ⌝ }
+{
+    let r = process_at(m, index, p);
+    if i + 1 < r.first + r.count {
+        i + 1
+    } else {
+        r.first
+    }
+}

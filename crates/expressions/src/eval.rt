@@ -1,0 +1,111 @@
+// The value of an expression.
+ghost use mathlib.Core.Path.{_≡_};
+ghost use Prim.Native.Nat.{_+_, _*_, _≤_, _<_};
+ghost use lib.ListN.{length, getD};
+ghost use Rattle.blocks.specs.Records.{modelOf};
+ghost use Rattle.rules.specs.declared.value.Value.the-variants.{Of};
+ghost use Rattle.rules.specs.Evaluation.{evalOf};
+ghost use Rattle.expressions.specs.Reading.{arrays, Runs};
+use crate::operators::and;
+use crate::operators::decided;
+use crate::operators::equal;
+use crate::operators::less;
+use crate::operators::minus;
+use crate::operators::negate;
+use crate::operators::not;
+use crate::operators::or;
+use crate::operators::plus;
+use crate::operators::xor;
+use blocks::index::Index;
+use blocks::index::node_at;
+use rules::value::Value;
+use trees::types::type_at;
+
+fn variable_of(variables: &[u32; 64], a: usize) -> Value
+    requires { ⌜ a < 64 ⌝ }
+    ensures { λ r. ⌜ r ≡ Of (getD (now (variables .entry)) a 0) ⌝ }
+{
+    Value::Of(variables[a])
+}
+
+fn wide32(x: u32) -> usize
+    ensures { λ r. ⌜ r ≡ x ⌝ }
+{
+    x as usize
+}
+
+// Signal a, k units ago.
+fn signal_of(signals: &[u32; 1024], a: usize, k: u32) -> Value
+    requires { ⌜ (a < 32) × (k ≤ 31) ⌝ }
+    ensures { λ r. ⌜ r ≡ Of (getD (now (signals .entry)) (32 * a + k) 0) ⌝ }
+{
+    Value::Of(signals[32 * a + wide32(k)])
+}
+
+// The value of node n. Operands are evaluated by this function, a before b.
+pub fn eval<'a>(
+    m: &'a [u8],
+    index: &'a Index,
+    variables: &'a [u32; 64],
+    signals: &'a [u32; 1024],
+    n: usize,
+) -> Value
+    requires { ⌜ Runs (now m) (now index) ⌝ }
+    requires { ⌜ n < length (modelOf (now m) .nodes) ⌝ }
+    ensures { λ r. ⌜ r ≡ evalOf (modelOf (now (m .entry))) (arrays (now (variables .entry)) (now (signals .entry))) n ⌝ }
+{
+    let d = node_at(m, index, n);
+    let kind = d.kind;
+    let a = d.a;
+    let b = d.b;
+    match kind {
+        1 => Value::Of(d.k),
+        2 => Value::Of(d.k),
+        3 => variable_of(variables, a),
+        4 => signal_of(signals, a, 0),
+        5 => signal_of(signals, a, d.k),
+        6 => not(type_at(m, index, n), eval(m, index, variables, signals, a)),
+        7 => {
+            let p = eval(m, index, variables, signals, a);
+            let ty = type_at(m, index, n);
+            if decided(ty, p, 0) {
+                return p;
+            }
+            and(ty, p, eval(m, index, variables, signals, b))
+        }
+        8 => {
+            let p = eval(m, index, variables, signals, a);
+            let ty = type_at(m, index, n);
+            if decided(ty, p, 1) {
+                return p;
+            }
+            or(ty, p, eval(m, index, variables, signals, b))
+        }
+        9 => {
+            let p = eval(m, index, variables, signals, a);
+            xor(
+                type_at(m, index, n),
+                p,
+                eval(m, index, variables, signals, b),
+            )
+        }
+        10 => negate(eval(m, index, variables, signals, a)),
+        11 => {
+            let p = eval(m, index, variables, signals, a);
+            plus(p, eval(m, index, variables, signals, b))
+        }
+        12 => {
+            let p = eval(m, index, variables, signals, a);
+            minus(p, eval(m, index, variables, signals, b))
+        }
+        13 => {
+            let p = eval(m, index, variables, signals, a);
+            equal(p, eval(m, index, variables, signals, b))
+        }
+        14 => {
+            let p = eval(m, index, variables, signals, a);
+            less(p, eval(m, index, variables, signals, b))
+        }
+        _ => Value::Of(0),
+    }
+}

@@ -1,0 +1,191 @@
+// The operators of expressions on values and faults.
+ghost use mathlib.Core.Path.{_≡_};
+ghost use mathlib.Core.Bool.{false};
+ghost use Prim.Native.Nat.{_<_};
+ghost use lib.IntN.{natAbs};
+ghost use mir.Syntax.{w32};
+ghost use mir.Val.{ofZ};
+ghost use Rattle.rules.specs.Evaluation.{truth, int, ranged, negateOf, sumOf, differenceOf, equalOf, lessOf, one, two, decidedBy, notBy, andBy, orBy, xorBy};
+use rules::value::Value;
+
+// The integer that 32 bits hold.
+pub fn int(x: u32) -> i64
+    ensures { λ r. ⌜ r ≡ int x ⌝ }
+{
+    if x < 2147483648 {
+        x as i64
+    } else {
+        (x as i64) - 4294967296
+    }
+}
+
+// The 32 bits of an integer in range.
+fn bits_of(z: i64) -> u32
+    requires { ⌜ natAbs z < 2147483648 ⌝ }
+    ensures { λ r. ⌜ r ≡ ofZ w32 z ⌝ }
+{
+    if z < 0 {
+        (z + 4294967296) as u32
+    } else {
+        z as u32
+    }
+}
+
+// An integer's 32 bits, or fault 1 if it is out of range.
+fn in_range(z: i64) -> Value
+    ensures { λ r. ⌜ r ≡ ranged z ⌝ }
+{
+    if z < -2147483647 {
+        return Value::Fault(1);
+    }
+    if 2147483647 < z {
+        return Value::Fault(1);
+    }
+    Value::Of(bits_of(z))
+}
+
+fn truth(t: bool) -> u32
+    ensures { λ r. ⌜ r ≡ truth t ⌝ }
+{
+    if t { 1 } else { 0 }
+}
+
+pub fn negate(p: Value) -> Value
+    ensures { λ r. ⌜ r ≡ one p negateOf ⌝ }
+{
+    match p {
+        Value::Fault(e) => Value::Fault(e),
+        Value::Of(x) => in_range(0 - int(x)),
+    }
+}
+
+pub fn plus(p: Value, q: Value) -> Value
+    ensures { λ r. ⌜ r ≡ two p q sumOf ⌝ }
+{
+    match p {
+        Value::Fault(e) => Value::Fault(e),
+        Value::Of(x) => match q {
+            Value::Fault(e) => Value::Fault(e),
+            Value::Of(y) => in_range(int(x) + int(y)),
+        },
+    }
+}
+
+pub fn minus(p: Value, q: Value) -> Value
+    ensures { λ r. ⌜ r ≡ two p q differenceOf ⌝ }
+{
+    match p {
+        Value::Fault(e) => Value::Fault(e),
+        Value::Of(x) => match q {
+            Value::Fault(e) => Value::Fault(e),
+            Value::Of(y) => in_range(int(x) - int(y)),
+        },
+    }
+}
+
+pub fn equal(p: Value, q: Value) -> Value
+    ensures { λ r. ⌜ r ≡ two p q equalOf ⌝ }
+{
+    match p {
+        Value::Fault(e) => Value::Fault(e),
+        Value::Of(x) => match q {
+            Value::Fault(e) => Value::Fault(e),
+            Value::Of(y) => Value::Of(truth(x == y)),
+        },
+    }
+}
+
+pub fn less(p: Value, q: Value) -> Value
+    ensures { λ r. ⌜ r ≡ two p q lessOf ⌝ }
+{
+    match p {
+        Value::Fault(e) => Value::Fault(e),
+        Value::Of(x) => match q {
+            Value::Fault(e) => Value::Fault(e),
+            Value::Of(y) => Value::Of(truth(int(x) < int(y))),
+        },
+    }
+}
+
+// The operators of logic and boolean values, by the type: 2 boolean, else logic.
+pub fn not(ty: usize, p: Value) -> Value
+    ensures { λ r. ⌜ r ≡ notBy ty p ⌝ }
+{
+    match p {
+        Value::Fault(e) => Value::Fault(e),
+        Value::Of(x) => {
+            if ty == 2 {
+                Value::Of(truth(x == 0))
+            } else {
+                Value::Of(values::not(x))
+            }
+        }
+    }
+}
+
+// Whether p is a fault, or a boolean that decides, so that the second operand is not evaluated.
+pub fn decided(ty: usize, p: Value, decides: u32) -> bool
+    ensures { λ r. ⌜ r ≡ decidedBy ty p decides ⌝ }
+{
+    match p {
+        Value::Fault(_) => true,
+        Value::Of(x) => (ty == 2) & (x == decides),
+    }
+}
+
+// `and` and `or` where the first operand did not decide: of booleans the second one is the value.
+pub fn and(ty: usize, p: Value, q: Value) -> Value
+    requires { ⌜ decidedBy ty p 0 ≡ false ⌝ }
+    ensures { λ r. ⌜ r ≡ andBy ty p q ⌝ }
+{
+    match p {
+        Value::Fault(e) => Value::Fault(e),
+        Value::Of(x) => match q {
+            Value::Fault(e) => Value::Fault(e),
+            Value::Of(y) => {
+                if ty == 2 {
+                    Value::Of(y)
+                } else {
+                    Value::Of(values::and(x, y))
+                }
+            }
+        },
+    }
+}
+
+pub fn or(ty: usize, p: Value, q: Value) -> Value
+    requires { ⌜ decidedBy ty p 1 ≡ false ⌝ }
+    ensures { λ r. ⌜ r ≡ orBy ty p q ⌝ }
+{
+    match p {
+        Value::Fault(e) => Value::Fault(e),
+        Value::Of(x) => match q {
+            Value::Fault(e) => Value::Fault(e),
+            Value::Of(y) => {
+                if ty == 2 {
+                    Value::Of(y)
+                } else {
+                    Value::Of(values::or(x, y))
+                }
+            }
+        },
+    }
+}
+
+pub fn xor(ty: usize, p: Value, q: Value) -> Value
+    ensures { λ r. ⌜ r ≡ xorBy ty p q ⌝ }
+{
+    match p {
+        Value::Fault(e) => Value::Fault(e),
+        Value::Of(x) => match q {
+            Value::Fault(e) => Value::Fault(e),
+            Value::Of(y) => {
+                if ty == 2 {
+                    Value::Of(truth(x != y))
+                } else {
+                    Value::Of(values::xor(x, y))
+                }
+            }
+        },
+    }
+}

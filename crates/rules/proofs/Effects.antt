@@ -1,0 +1,105 @@
+-- What an effect of a process can be: `EffectFits`. Assumes nothing.
+use mathlib.Core.Path.{_≡_, refl}
+use mathlib.Core.Bool.{true}
+use Prim.Native.Nat.{ℕ, _<_}
+use native.Mathlib.Omega.{arith}
+use lib.Dec.{eqb}
+use lib.ListN.{length}
+use lib.IntN.{pos, natAbs}
+use lib.Signed.{ltZ}
+use borrow.Author.Tests.{eqb-false}
+use Rattle.base.specs.Cases.{_∣_, _⇒_}
+use Rattle.base.proofs.Below.{_and_, among}
+use Rattle.base.proofs.Cases.{by-test}
+use Rattle.blocks.specs.Records.{Model, signalAt, statementAt}
+use Rattle.fields.specs.Fields.{valueOk, absent}
+use Rattle.trees.specs.Trees.{integer}
+use Rattle.model.specs.Owners.{driverFor}
+use Rattle.model.specs.Facts as Facts
+use Rattle.model.specs.Facts.{Facts, StatementFits, SignalAssignment, Expression}
+use Rattle.fields.specs.Facts.{Spans}
+use Rattle.blocks.specs.declared.records.StatementRecord.{StatementRecord}
+use Rattle.rules.specs.declared.value.Value.{Value}
+use Rattle.rules.specs.declared.value.Value.the-variants.{Of, Fault}
+use Rattle.rules.specs.declared.effect.Effect.{Effect}
+use Rattle.rules.specs.declared.effect.Effect.the-variants.{Wait, WaitFor, Stop}
+use Rattle.rules.specs.Configuration.{Configuration, processIn}
+use Rattle.rules.specs.Evaluation.{Environment, environmentOf, int, evalOf}
+use Rattle.rules.specs.Statements.{withValue, withDelay, effectBy, effectOf}
+use Rattle.rules.specs.Invariant.{EffectFits, ScheduleFits, Reachable}
+use Rattle.rules.proofs.Evaluation.{Typed, EnvironmentFits, value-typed}
+use Rattle.rules.proofs.Signed.{below-half, not-negative}
+
+-- what holds after any value of the type, and of the stop with fault 1, holds after a value
+value-then : (P : Effect → Type 0) (ty : ℕ) (v : Value) (next : ℕ → Effect) → Typed ty v → P (Stop 1) → ((x : ℕ) → valueOk ty x ≡ true → P (next x)) → P (withValue v next)
+value-then P ty (Of x) next h s g = g x h
+value-then P ty (Fault f) next h s g = rw h s
+
+-- the same after a delay
+delay-then : (P : Effect → Type 0) (v : Value) (next : ℕ → Effect) → Typed integer v → P (Stop 1) → P (Stop 2) → ((d : ℕ) → d < 2147483648 → P (next d)) → P (withDelay v next)
+unfolding withDelay
+delay-then P v next h s t g =
+    value-then P integer v _ h s (λ x _. by-test P (ltZ (int x) (pos 0)) _ _ (λ e. t) (λ e. g (natAbs (int x)) (rw (not-negative x e) (below-half x e))))
+
+module _ (M : Model) (fs : Facts M) (p : ℕ) where
+  module _ (e : Environment) (ok : EnvironmentFits M e) where
+    expression : (P : Effect → Type 0) (ty n : ℕ) (next : ℕ → Effect) → Expression M p ty n → P (Stop 1) → ((x : ℕ) → valueOk ty x ≡ true → P (next x)) → P (withValue (evalOf M e n) next)
+    expression P ty n next x s g = value-then P ty (evalOf M e n) next (rw (x .type) at (value-typed M fs e ok n (x .node))) s g
+
+    delay : (P : Effect → Type 0) (n : ℕ) (next : ℕ → Effect) → Expression M p integer n → P (Stop 1) → P (Stop 2) → ((d : ℕ) → d < 2147483648 → P (next d)) → P (withDelay (evalOf M e n) next)
+    delay P n next x s t g = delay-then P (evalOf M e n) next (rw (x .type) at (value-typed M fs e ok n (x .node))) s t g
+
+    module _ (s : StatementRecord) (f : StatementFits M p s) where
+      abbrev Fits : Effect → Type 0
+      Fits = EffectFits M p (s .kind)
+
+      assigned : SignalAssignment M p s → (v d : ℕ) → valueOk (signalAt M (s .a) .ty) v ≡ true → d < 2147483648 → ScheduleFits M p (driverFor M p (s .a)) d v
+      assigned g v d h l =
+          let r = fs .drives p (s .a) (g .driver) in
+          record { driver = g .driver; own = r .process; delay = l; value = rw (r .signal) h }
+
+      waits : Facts.Wait M p s → EffectFits M p 5 (eqb (s .c) absent ⇒ Wait ∣ withDelay (evalOf M e (s .c)) WaitFor)
+      waits g =
+          by-test (EffectFits M p 5) (eqb (s .c) absent) _ _ (λ t. refl)
+          (λ t. delay (EffectFits M p 5) (s .c) WaitFor (g .delay (eqb-false (s .c) absent t)) (omega arith) (omega arith) (λ d l. (refl, l)))
+
+      -- what a statement of process p does
+      pub effect-by : Fits (effectBy M e p s)
+      unfolding effectBy
+      effect-by =
+          among (λ k. s .kind ≡ k → Fits (effectBy M e p s)) 0 6 (s .kind)
+          ((λ k. rw k tt)
+          and (λ k. let g = f .variableAssignment k in
+          rw k (expression (EffectFits M p 1) _ (s .b) _ (g .value) (omega arith) (λ v h. record { variable = g .variable; own = g .own; value = h })))
+          and (λ k. let g = f .signalAssignment k in
+          rw k (expression (EffectFits M p 2) _ (s .b) _ (g .value) (omega arith)
+          (λ v h. delay (EffectFits M p 2) (s .c) _ (g .delay) (omega arith) (omega arith) (λ d l. assigned g v d h l))))
+          and (λ k. let g = f .branch k in
+          rw k (expression (EffectFits M p 3) _ (s .b) _ (g .condition) (omega arith)
+          (λ v h. by-test (EffectFits M p 3) (eqb v 0) _ _ (λ t. g .target) (λ t. tt))))
+          and (λ k. rw k (f .jump k))
+          and (λ k. rw k (waits (f .wait k)))
+          and tt)
+          (omega arith) (omega (arith, f .kind)) refl
+
+  -- a statement of process p fits it
+  pub own-statement : p < length (M .processes) → (i : ℕ) → Spans M p i → StatementFits M p (statementAt M i)
+  own-statement h i s =
+      let g = fs .process p h in
+      let t = fs .statement i (omega (arith, g .within, s .below)) in
+      rw (g .owner i s) at (t .fits)
+
+module _ (M : Model) (c : Configuration) (r : Reachable M c) where
+  pub environment-fits : EnvironmentFits M (environmentOf (c .variables) (c .signals))
+  environment-fits = record { variable = r .variable-values; signal = λ s k h l. r .signal-values s k h (omega arith) }
+
+  -- the place of a process is one of its statements
+  pub placed : (p : ℕ) → p < length (M .processes) → Spans M p (processIn (c .processes) p .place)
+  placed p h = record { from = r .each-process p h .from; below = r .each-process p h .within }
+
+  -- what a process does at its place
+  pub effect-fits : Facts M → (p : ℕ) → p < length (M .processes) → EffectFits M p (statementAt M (processIn (c .processes) p .place) .kind) (effectOf M c p)
+  unfolding effectOf
+  effect-fits fs p h =
+      effect-by M fs p (environmentOf (c .variables) (c .signals)) environment-fits (statementAt M (processIn (c .processes) p .place))
+      (own-statement M fs p h (processIn (c .processes) p .place) (placed p h))

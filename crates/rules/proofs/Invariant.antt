@@ -1,0 +1,58 @@
+-- Each order hands back a reachable configuration. Assumes nothing.
+use Prim.Native.Nat.{ℕ, zero, suc}
+use borrow.Author.Tests.{ltb-true}
+use lib.Dec.{ltb}
+use lib.ListN.{length}
+use Rattle.base.proofs.Cases.{by-test}
+use Rattle.base.proofs.Course.{first-at}
+use Rattle.blocks.specs.Records.{Model}
+use Rattle.model.specs.Facts.{Facts}
+use Rattle.rules.specs.Configuration.{Configuration}
+use Rattle.rules.specs.Statements.{stepped}
+use Rattle.rules.specs.Orders.{Outcome, isReady, picked, advanced, lowestReady, Settled, settledFrom, settled, readOf}
+use Rattle.rules.specs.Invariant.{Reachable}
+use Rattle.rules.proofs.Outcomes.{Pick, pick-refused, pick-done, pick-is, Advance, advance-refused, delta-done, time-done, advance-is, Read, read-refused, read-done, read-is}
+use Rattle.rules.proofs.StepReachable.{stepped-reachable}
+use Rattle.rules.proofs.AdvanceReachable.{delta-reachable, time-reachable}
+
+-- of the picks of a settle each is of the lowest ready process
+settled-from : (M : Model) → Facts M → (n k : ℕ) (c : Configuration) → Reachable M c → Reachable M (settledFrom M k n c .end)
+unfolding settledFrom lowestReady
+settled-from M fs zero k c r = r
+settled-from M fs (suc n) k c r =
+    by-test (λ (s : Settled). Reachable M (s .end)) (ltb (lowestReady M c) (length (M .processes))) _ _
+    (λ there.
+    let p = lowestReady M c in
+    let below = ltb-true _ _ there in
+    settled-from M fs n (suc k) (stepped M p c) (stepped-reachable M fs c r p below (first-at (λ p. isReady p c) (length (M .processes)) below)))
+    (λ none. r)
+
+module _ (M : Model) (fs : Facts M) (c : Configuration) (r : Reachable M c) where
+  abbrev Keeps : Outcome → Type 0
+  Keeps o = Reachable M (o .after)
+
+  pick-keeps : (p : ℕ) (o : Outcome) → Pick M c p o → Keeps o
+  pick-keeps p o (pick-refused n f) = r
+  pick-keeps p o (pick-done h i) = stepped-reachable M fs c r p h i
+
+  pub picked-reachable : (p : ℕ) → Keeps (picked M p c)
+  picked-reachable p = pick-keeps p (picked M p c) (pick-is M c p)
+
+  advance-keeps : (o : Outcome) → Advance M c o → Keeps o
+  advance-keeps o (advance-refused n f) = r
+  advance-keeps o (delta-done quiet due few) = delta-reachable M fs c r few
+  advance-keeps o (time-done t quiet due e low) = time-reachable M c r t e low
+
+  pub advanced-reachable : Keeps (advanced M c)
+  advanced-reachable = advance-keeps (advanced M c) (advance-is M c)
+
+  pub settled-reachable : (n : ℕ) → Keeps (settled M n c)
+  unfolding settled
+  settled-reachable n = settled-from M fs n 0 c r
+
+  read-keeps : (s : ℕ) (o : Outcome) → Read M c s o → Keeps o
+  read-keeps s o (read-refused n f) = r
+  read-keeps s o (read-done there) = r
+
+  pub read-reachable : (s : ℕ) → Keeps (readOf M s c)
+  read-reachable s = read-keeps s (readOf M s c) (read-is M c s)

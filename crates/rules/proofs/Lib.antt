@@ -1,0 +1,15 @@
+pub mod AdvanceReachable
+pub mod Driving
+pub mod DueTimes
+pub mod Earliest
+pub mod Effects
+pub mod Evaluation
+pub mod FirstReachable
+pub mod Invariant
+pub mod Lists
+pub mod Outcomes
+pub mod Picks
+pub mod Settling
+pub mod Signed
+pub mod StepReachable
+pub mod Waves

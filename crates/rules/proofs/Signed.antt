@@ -1,0 +1,148 @@
+-- Signed arithmetic: what the machine's sums ask, from bounds on the operands, and the two ways between a word and its integer.
+-- Assumes nothing.
+use mathlib.Core.Path.{_≡_, refl, sym, _∙_}
+use mathlib.Core.Bool.{true, false, true≢false, false≢true}
+use Prim.Native.Nat.{ℕ, zero, suc, _+_, _<_, _≤_, _^_}
+use native.Mathlib.Omega.{arith}
+use lib.IntN.{ℤ, pos, negsuc, natAbs, negℤ, subℕ, +ℤ-idl, _+ℤ_, _-ℤ_}
+use lib.Signed.{ltZ, nonNeg}
+use lib.Dec.{T, ltb}
+use borrow.Author.Tests.{ltb-true, ltb-false, le-ltb, lt-ltb}
+use mir.Syntax.{w32, w64}
+use mir.Val.{Fits, SFits, toZ, ofZ}
+use mir.Facts.{toZ-ofZ, toZ-pos, sfits-toZ, sfits-widen, fits-ofZ}
+use Rattle.base.proofs.Cases.{either-way}
+use Rattle.rules.specs.Evaluation.{int}
+
+-- what `in_range` tests
+pub too-low : (z : ℤ) → ltZ z (negsuc 2147483646) ≡ true → ltb (natAbs z) 2147483648 ≡ false
+too-low (pos n) e = absurd (false≢true e)
+too-low (negsuc n) e = le-ltb (suc n) 2147483648 (omega (arith, ltb-true 2147483646 n e))
+
+pub too-high : (z : ℤ) → ltZ (pos 2147483647) z ≡ true → ltb (natAbs z) 2147483648 ≡ false
+too-high (pos n) e = le-ltb n 2147483648 (omega (arith, ltb-true 2147483647 n e))
+too-high (negsuc n) e = absurd (false≢true e)
+
+pub inside : (z : ℤ) → ltZ z (negsuc 2147483646) ≡ false → ltZ (pos 2147483647) z ≡ false → natAbs z < 2147483648
+inside (pos n) e f = omega (arith, ltb-false 2147483647 n f)
+inside (negsuc n) e f = omega (arith, ltb-false 2147483646 n e)
+
+-- the size of a sum and of a negation
+sub-abs : (m n : ℕ) → natAbs (subℕ m n) ≤ m + n
+sub-abs m n = either-way (ltb m n) (λ e. rw e (omega (arith, ltb-true m n e))) (λ e. rw e (omega arith))
+
+add-abs : (x y : ℤ) → natAbs (x +ℤ y) ≤ natAbs x + natAbs y
+add-abs (pos m) (pos n) = omega arith
+add-abs (pos m) (negsuc n) = sub-abs m (suc n)
+add-abs (negsuc m) (pos n) = omega (arith, sub-abs n (suc m))
+add-abs (negsuc m) (negsuc n) = omega arith
+
+neg-abs : (x : ℤ) → natAbs (negℤ x) ≡ natAbs x
+neg-abs (pos zero) = refl
+neg-abs (pos (suc n)) = refl
+neg-abs (negsuc n) = refl
+
+-- from a size to a fit, and back
+small : (z : ℤ) → natAbs z < 2 ^ 63 → SFits w64 z
+small (pos n) h = record { sfits = h }
+small (negsuc n) h = record { sfits = omega arith }
+
+small32 : (z : ℤ) → natAbs z < 2147483648 → SFits w32 z
+small32 (pos n) h = record { sfits = h }
+small32 (negsuc n) h = record { sfits = omega arith }
+
+size : (z : ℤ) → SFits w32 z → natAbs z ≤ 2147483648
+size (pos n) h = omega (arith, h .sfits)
+size (negsuc n) h = omega (arith, h .sfits)
+
+-- the integer of 32 bits fits 64 bits
+pub int-fits : (x : ℕ) → Fits w32 x → SFits w64 (int x)
+int-fits x h = sfits-widen tt (sfits-toZ h)
+
+-- r and s being what `int` returned for x and y: what the machine reads of r, and its negation, sum and difference, which fit
+-- 64 bits, are those of the integers
+module _ (x : ℕ) (h : x < 4294967296) {r : ℤ} (e : r ≡ int x) where
+  abbrev read : ℤ → ℤ
+  read z = toZ w64 (ofZ w64 z)
+
+  fits : Fits w32 x
+  fits = record { fits = h }
+
+  small-int : natAbs (int x) ≤ 2147483648
+  small-int = size (int x) (sfits-toZ fits)
+
+  pub int-read : read r ≡ int x
+  int-read = rw e (toZ-ofZ (int-fits x fits))
+
+  negation : pos 0 -ℤ read r ≡ negℤ (int x)
+  negation = rw int-read (+ℤ-idl (negℤ (int x)))
+
+  pub negation-fits : SFits w64 (pos 0 -ℤ read r)
+  negation-fits = rw negation (small (negℤ (int x)) (omega (arith, neg-abs (int x), small-int)))
+
+  pub negation-is : read (pos 0 -ℤ read r) ≡ negℤ (int x)
+  negation-is = toZ-ofZ negation-fits ∙ negation
+
+  module _ (y : ℕ) (k : y < 4294967296) {s : ℤ} (f : s ≡ int y) where
+    other-read : read s ≡ int y
+    other-read = rw f (toZ-ofZ (int-fits y record { fits = k }))
+
+    small-other : natAbs (int y) ≤ 2147483648
+    small-other = size (int y) (sfits-toZ record { fits = k })
+
+    pub sum-fits : SFits w64 (read r +ℤ read s)
+    sum-fits = rw (int-read, other-read) (small (int x +ℤ int y) (omega (arith, add-abs (int x) (int y), small-int, small-other)))
+
+    pub sum-is : read (read r +ℤ read s) ≡ int x +ℤ int y
+    sum-is = toZ-ofZ sum-fits ∙ rw (int-read, other-read)
+
+    pub difference-fits : SFits w64 (read r -ℤ read s)
+    difference-fits =
+        rw (int-read, other-read)
+        (small (int x -ℤ int y) (omega (arith, add-abs (int x) (negℤ (int y)), neg-abs (int y), small-int, small-other)))
+
+    pub difference-is : read (read r -ℤ read s) ≡ int x -ℤ int y
+    difference-is = toZ-ofZ difference-fits ∙ rw (int-read, other-read)
+
+    pub less-is : ltZ (read r) (read s) ≡ ltZ (int x) (int y)
+    less-is = rw (int-read, other-read)
+
+-- an integer of 0 or more is its 32 bits, and these are fewer than 2 ^ 31
+module _ (x : ℕ) (h : ltZ (int x) (pos 0) ≡ false) where
+  pub below-half : x < 2147483648
+  below-half = either-way (ltb x 2147483648) (ltb-true x 2147483648) (λ e. absurd (true≢false (rw e at h)))
+
+  pub not-negative : natAbs (int x) ≡ x
+  not-negative = rw (lt-ltb x 2147483648 below-half)
+
+-- `int`: a word below half is its integer, and any other is 2 ^ 32 above it
+pub int-low : (x : ℕ) → x < 2147483648 → toZ w64 x ≡ int x
+int-low x h = toZ-pos w64 (omega arith) ∙ sym (toZ-pos w32 h)
+
+pub int-high : (x : ℕ) → 2147483648 ≤ x → Fits w32 x → toZ w64 x -ℤ pos 4294967296 ≡ int x
+int-high x g h =
+    let p : toZ w64 x ≡ pos x = toZ-pos w64 (omega (arith, h .fits)) in
+    let l : x < 4294967296 = h .fits in
+    rw p (simp (lt-ltb x 4294967296 l, le-ltb x 2147483648 g))
+
+-- `word_of`: the integer, or that 2 ^ 32 above it, is the word
+lifted : (z : ℤ) → ltZ z (pos 0) ≡ true → natAbs z < 2147483648 → z +ℤ pos 4294967296 ≡ pos (ofZ w32 z)
+lifted (pos n) e h = absurd (omega (arith, ltb-true n 0 e))
+lifted (negsuc n) e h = simp (le-ltb 4294967296 (suc n) (omega arith))
+
+kept : (z : ℤ) → ltZ z (pos 0) ≡ false → z ≡ pos (ofZ w32 z)
+kept (pos n) e = refl
+kept (negsuc n) e = absurd (true≢false e)
+
+module _ (z : ℤ) (f : SFits w64 z) (h : natAbs z < 2147483648) where
+  pub lift-fits : SFits w64 (toZ w64 (ofZ w64 z) +ℤ pos 4294967296)
+  lift-fits = rw (toZ-ofZ f) (small (z +ℤ pos 4294967296) (omega (arith, add-abs z (pos 4294967296))))
+
+  pub lift-word : ltZ (toZ w64 (ofZ w64 z)) (pos 0) ≡ true → toZ w64 (ofZ w64 (toZ w64 (ofZ w64 z) +ℤ pos 4294967296)) ≡ pos (ofZ w32 z)
+  lift-word e = toZ-ofZ lift-fits ∙ rw (toZ-ofZ f) (lifted z (simp (toZ-ofZ f) at e) h)
+
+  pub keep-word : ltZ (toZ w64 (ofZ w64 z)) (pos 0) ≡ false → toZ w64 (ofZ w64 z) ≡ pos (ofZ w32 z)
+  keep-word e = toZ-ofZ f ∙ kept z (simp (toZ-ofZ f) at e)
+
+  pub cast-word : (y : ℤ) → y ≡ pos (ofZ w32 z) → T (nonNeg y) × Fits w32 (natAbs y)
+  cast-word y e = rw e (tt, fits-ofZ (small32 z h))

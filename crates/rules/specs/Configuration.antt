@@ -1,0 +1,100 @@
+-- The configuration: "It holds the time, the count of delta steps at this time, and per signal the current value and those of
+-- 1 to 31 time units ago; per driver a current value and a waveform of at most eight pending transactions (time, value),
+-- rising in time; per process variables, place, standing (0 ready, 1 waiting, 2 stopped), deadline and fault."
+-- A value is 32 bits: an integer in two's complement, a logic value as its code 0 to 8, a boolean as 0 or 1.
+use mathlib.Core.List.{List, [], _∷_, map}
+use mathlib.Core.Option.{Option, none}
+use Prim.Native.Nat.{ℕ}
+use lib.Dec.{eqb}
+use lib.ListN.{length, getD, replicate}
+use Rattle.base.specs.Below.{joinBelow, listBelow}
+use Rattle.base.specs.Cases.{_∣_, _⇒_}
+use Rattle.values.specs.Resolve.{resolutionOf}
+use Rattle.blocks.specs.Records.{Model, signalAt, driverAt}
+
+pub record Transaction : Type 0 where
+  pub time : ℕ
+  pub value : ℕ
+
+pub record DriverState : Type 0 where
+  pub current : ℕ
+  pub pending : List Transaction
+
+-- standings
+abbrev pub ready : ℕ
+ready = 0
+
+abbrev pub waiting : ℕ
+waiting = 1
+
+abbrev pub stopped : ℕ
+stopped = 2
+
+pub record ProcessState : Type 0 where
+  pub place : ℕ
+  pub standing : ℕ
+  pub deadline : Option ℕ
+  pub fault : ℕ
+
+pub record Configuration : Type 0 where
+  pub time : ℕ
+  -- the delta steps done at this time
+  pub deltas : ℕ
+  -- per signal the values of 0 to 31 units ago
+  pub signals : List (List ℕ)
+  pub drivers : List DriverState
+  pub processes : List ProcessState
+  -- the variables of all processes, as the model numbers them
+  pub variables : List ℕ
+
+-- entry n of each, and what stands for one that is not there
+abbrev pub driverIn : List DriverState → ℕ → DriverState
+driverIn ds n = getD ds n (record { current = 0; pending = [] })
+
+abbrev pub processIn : List ProcessState → ℕ → ProcessState
+processIn ps n = getD ps n (record { place = 0; standing = stopped; deadline = none; fault = 0 })
+
+-- signal s of k units ago
+abbrev pub pastOf : List (List ℕ) → ℕ → ℕ → ℕ
+pastOf ss s k = getD (getD ss s []) k 0
+
+abbrev pub currentOf : List (List ℕ) → ℕ → ℕ
+currentOf ss s = pastOf ss s 0
+
+-- "the empty configuration: no signals, drivers or processes, time and count 0"
+abbrev pub empty : Configuration
+empty = record { time = 0; deltas = 0; signals = []; drivers = []; processes = []; variables = [] }
+
+-- the current value of driver k, where it drives signal s
+abbrev pub drivingBy : Model → List DriverState → ℕ → ℕ → List ℕ
+drivingBy M ds s k = eqb (driverAt M k .signal) s ⇒ (driverIn ds k .current ∷ []) ∣ []
+
+-- the driving values of signal s: "all its drivers' current values"
+unfoldable pub drivingOf : Model → List DriverState → ℕ → List ℕ
+drivingOf M ds s = joinBelow (drivingBy M ds s) (length (M .drivers))
+
+-- the resolution of the driving values, or other where there are none
+abbrev pub resolvedOr : ℕ → List ℕ → ℕ
+resolvedOr other [] = other
+resolvedOr other (v ∷ vs) = resolutionOf (v ∷ vs)
+
+-- "drivers have their signal's starting value"
+unfoldable pub firstDrivers : Model → List DriverState
+firstDrivers M = map (λ d. record { current = signalAt M (d .signal) .start; pending = [] }) (M .drivers)
+
+-- "a signal is the resolution of its drivers (its starting value if it has none)"
+unfoldable pub firstSignal : Model → ℕ → ℕ
+firstSignal M s = resolvedOr (signalAt M s .start) (drivingOf M (firstDrivers M) s)
+
+-- "At first time and count are 0, all processes are ready at their first statement with no deadline and fault 0, variables have
+-- their starting values [..] Values before time 0 are that first current value."
+unfoldable pub first : Model → Configuration
+first M =
+    record {
+      time = 0;
+      deltas = 0;
+      signals = listBelow (λ s. replicate 32 (firstSignal M s)) (length (M .signals));
+      drivers = firstDrivers M;
+      processes = map (λ p. record { place = p .first; standing = ready; deadline = none; fault = 0 }) (M .processes);
+      variables = map (λ v. v .start) (M .variables);
+    }

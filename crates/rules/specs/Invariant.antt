@@ -1,0 +1,93 @@
+-- What holds of every configuration that a session can reach.
+use mathlib.Core.Path.{_≡_}
+use mathlib.Core.Bool.{true}
+use mathlib.Core.List.{List, [], _∷_}
+use mathlib.Core.Option.{Option, none, some}
+use Prim.Native.Nat.{ℕ, _+_, _≤_, _<_}
+use lib.ListN.{length, getD}
+use Rattle.blocks.specs.Records.{Model, signalAt, variableAt, driverAt, processAt, statementAt}
+use Rattle.fields.specs.Fields.{endOf, valueOk}
+use Rattle.fields.specs.Facts.{Spans}
+use Rattle.rules.specs.declared.effect.Effect.{Effect}
+use Rattle.rules.specs.declared.effect.Effect.the-variants.{Skip, Store, Schedule, Jump, Wait, WaitFor, Stop}
+use Rattle.rules.specs.Configuration.{Transaction, DriverState, ProcessState, Configuration, driverIn, processIn, pastOf, ready, waiting}
+
+-- a value of the type
+abbrev pub ValueOf : ℕ → ℕ → Type 0
+ValueOf ty v = valueOk ty v ≡ true
+
+-- the latest time that a session reaches, and the latest that a transaction or a deadline can have: a delay more
+abbrev pub lastTime : ℕ
+lastTime = 1000000000000
+
+abbrev pub lastDue : ℕ
+lastDue = 1002147483647
+
+-- a waveform: each transaction is later than the one before it, the first not before t, and none past lastDue
+abbrev pub Rising : ℕ → List Transaction → Type 0
+Rising t [] = Unit {0}
+Rising t (x ∷ w) = (t ≤ x .time) × (x .time ≤ lastDue) × Rising (x .time + 1) w
+
+abbrev pub Values : ℕ → List Transaction → Type 0
+Values ty [] = Unit {0}
+Values ty (x ∷ w) = ValueOf ty (x .value) × Values ty w
+
+pub record DriverValid (ty t : ℕ) (d : DriverState) : Type 0 where
+  pub current : ValueOf ty (d .current)
+  pub few : length (d .pending) ≤ 8
+  pub rising : Rising t (d .pending)
+  pub values : Values ty (d .pending)
+
+abbrev pub DeadlineValid : ℕ → Option ℕ → Type 0
+DeadlineValid t none = Unit {0}
+DeadlineValid t (some d) = (t ≤ d) × (d ≤ lastDue)
+
+pub record ProcessValid (M : Model) (p t : ℕ) (q : ProcessState) : Type 0 where
+  -- its place is one of its statements
+  pub from : processAt M p .first ≤ q .place
+  pub within : q .place < endOf M p
+  pub standing : q .standing ≤ 2
+  pub fault : q .fault ≤ 3
+  -- it waits at a wait
+  pub at-wait : q .standing ≡ waiting → statementAt M (q .place) .kind ≡ 5
+  -- a ready process has no deadline
+  pub no-deadline : q .standing ≡ ready → q .deadline ≡ none
+  pub deadline : DeadlineValid t (q .deadline)
+
+pub record Reachable (M : Model) (c : Configuration) : Type 0 where
+  pub time : c .time ≤ lastTime
+  pub deltas : c .deltas ≤ 1000
+  pub signals : length (c .signals) ≡ length (M .signals)
+  pub histories : (s : ℕ) → s < length (M .signals) → length (getD (c .signals) s []) ≡ 32
+  pub signal-values : (s k : ℕ) → s < length (M .signals) → k < 32 → ValueOf (signalAt M s .ty) (pastOf (c .signals) s k)
+  pub drivers : length (c .drivers) ≡ length (M .drivers)
+  pub each-driver : (k : ℕ) → k < length (M .drivers) → DriverValid (signalAt M (driverAt M k .signal) .ty) (c .time) (driverIn (c .drivers) k)
+  pub processes : length (c .processes) ≡ length (M .processes)
+  pub each-process : (p : ℕ) → p < length (M .processes) → ProcessValid M p (c .time) (processIn (c .processes) p)
+  pub variables : length (c .variables) ≡ length (M .variables)
+  pub variable-values : (a : ℕ) → a < length (M .variables) → ValueOf (variableAt M a .ty) (getD (c .variables) a 0)
+
+-- What holds of every effect that process p works out.
+
+-- a store to a variable of p, of a value of its type
+pub record StoreFits (M : Model) (p a v : ℕ) : Type 0 where
+  pub variable : a < length (M .variables)
+  pub own : variableAt M a .process ≡ p
+  pub value : ValueOf (variableAt M a .ty) v
+
+-- a transaction on driver k, one of p, of a value of its signal's type
+pub record ScheduleFits (M : Model) (p k d v : ℕ) : Type 0 where
+  pub driver : k < length (M .drivers)
+  pub own : driverAt M k .process ≡ p
+  pub delay : d < 2147483648
+  pub value : ValueOf (signalAt M (driverAt M k .signal) .ty) v
+
+-- a jump to a statement of p; a wait at a wait, kind being that of the statement; a fault 1 or 2
+abbrev pub EffectFits : Model → ℕ → ℕ → Effect → Type 0
+EffectFits M p kind Skip = Unit {0}
+EffectFits M p kind (Store a v) = StoreFits M p a v
+EffectFits M p kind (Schedule k d v) = ScheduleFits M p k d v
+EffectFits M p kind (Jump a) = Spans M p a
+EffectFits M p kind Wait = kind ≡ 5
+EffectFits M p kind (WaitFor d) = (kind ≡ 5) × (d < 2147483648)
+EffectFits M p kind (Stop f) = f ≤ 2

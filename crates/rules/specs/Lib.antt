@@ -1,0 +1,6 @@
+pub mod Configuration
+pub mod Evaluation
+pub mod Invariant
+pub mod Orders
+pub mod Statements
+pub mod Steps

@@ -1,0 +1,130 @@
+-- Pick, advance, settle and read: what each answers and the configuration it hands back.
+use mathlib.Core.Bool.{Bool, not, _||_}
+use mathlib.Core.List.{List, [], _∷_, _++_}
+use mathlib.Core.Option.{Option, none, some}
+use Prim.Native.Nat.{ℕ, zero, suc, _+_, min}
+use lib.Dec.{eqb, ltb, leb}
+use lib.ListN.{length}
+use Rattle.base.specs.Below.{anyBelow, joinBelow}
+use Rattle.base.specs.Cases.{_∣_, _⇒_}
+use Rattle.base.specs.Course.{firstWith}
+use Rattle.blocks.specs.Records.{Model}
+use Rattle.rules.specs.Configuration.{Transaction, Configuration, driverIn, processIn, currentOf, ready, stopped}
+use Rattle.rules.specs.Statements.{stepped}
+use Rattle.rules.specs.Steps.{transactionDue, deadlineDue, deltaStep, timeStep}
+
+-- an order's answer and the configuration it hands back: the refusal or 0, byte 1, the picks made, the value
+pub record Outcome : Type 0 where
+  pub refusal : ℕ
+  pub byte : ℕ
+  pub picks : ℕ
+  pub value : ℕ
+  pub after : Configuration
+
+-- a refused order hands back the configuration that it took
+abbrev pub refused : ℕ → Configuration → Outcome
+refused n c = record { refusal = n; byte = 0; picks = 0; value = 0; after = c }
+
+-- process p is ready
+unfoldable pub isReady : ℕ → Configuration → Bool
+isReady p c = eqb (processIn (c .processes) p .standing) ready
+
+unfoldable pub isStopped : ℕ → Configuration → Bool
+isStopped p c = eqb (processIn (c .processes) p .standing) stopped
+
+-- a done pick: "for a pick the new standing [..] picks made [..] a pick's fault"
+abbrev pub pickDone : ℕ → Configuration → Outcome
+pickDone p c =
+    record { refusal = 0; byte = processIn (c .processes) p .standing; picks = 1; value = processIn (c .processes) p .fault; after = c }
+
+-- 12. "Pick: no such process." 13. "Pick: not ready."
+unfoldable pub picked : Model → ℕ → Configuration → Outcome
+picked M p c =
+    leb (length (M .processes)) p ⇒ refused 12 c
+    ∣ not (isReady p c) ⇒ refused 13 c
+    ∣ pickDone p (stepped M p c)
+
+-- the times at which a transaction or a deadline is due: a driver's first transaction is its earliest
+abbrev pub timesIn : List Transaction → List ℕ
+timesIn [] = []
+timesIn (x ∷ w) = x .time ∷ []
+
+abbrev pub optional : Option ℕ → List ℕ
+optional none = []
+optional (some t) = t ∷ []
+
+unfoldable pub dueTimes : Model → Configuration → List ℕ
+dueTimes M c =
+    joinBelow (λ k. timesIn (driverIn (c .drivers) k .pending)) (length (M .drivers))
+    ++ joinBelow (λ p. optional (processIn (c .processes) p .deadline)) (length (M .processes))
+
+abbrev pub least : ℕ → List ℕ → ℕ
+least t [] = t
+least t (u ∷ us) = least (min t u) us
+
+-- the earliest of some times
+abbrev pub earliest : List ℕ → Option ℕ
+earliest [] = none
+earliest (t ∷ ts) = some (least t ts)
+
+-- "If a transaction or deadline is due at this time"
+unfoldable pub dueNow : Model → Configuration → Bool
+dueNow M c =
+    anyBelow (λ k. transactionDue (c .time) (driverIn (c .drivers) k)) (length (M .drivers))
+    || anyBelow (λ p. deadlineDue (c .time) (processIn (c .processes) p)) (length (M .processes))
+
+-- "for an advance 1 delta or 2 time"
+abbrev pub advanceDone : ℕ → Configuration → Outcome
+advanceDone n c = record { refusal = 0; byte = n; picks = 0; value = 0; after = c }
+
+-- 16. "Something due now after 1,000 delta steps at this time."
+abbrev pub deltaOrder : Model → Configuration → Outcome
+deltaOrder M c = leb 1000 (c .deltas) ⇒ refused 16 c ∣ advanceDone 1 (deltaStep M c)
+
+-- 17. "Nothing is ever due." 18. "The time step would pass 1,000,000,000,000."
+abbrev pub timeOrder : Option ℕ → Configuration → Outcome
+timeOrder none c = refused 17 c
+timeOrder (some t) c = ltb 1000000000000 t ⇒ refused 18 c ∣ advanceDone 2 (timeStep t c)
+
+-- 14. "Advance: a process is ready." 15. "Advance: one is stopped."
+unfoldable pub advanced : Model → Configuration → Outcome
+advanced M c =
+    anyBelow (λ p. isReady p c) (length (M .processes)) ⇒ refused 14 c
+    ∣ anyBelow (λ p. isStopped p c) (length (M .processes)) ⇒ refused 15 c
+    ∣ dueNow M c ⇒ deltaOrder M c
+    ∣ timeOrder (earliest (dueTimes M c)) c
+
+-- the lowest ready process, or the number of processes where none is ready
+unfoldable pub lowestReady : Model → Configuration → ℕ
+lowestReady M c = firstWith (λ p. isReady p c) (length (M .processes))
+
+pub record Settled : Type 0 where
+  pub picks : ℕ
+  pub end : Configuration
+
+-- "pick the lowest ready process until none is ready or count picks are made", k having been made
+unfoldable pub settledFrom : Model → ℕ → ℕ → Configuration → Settled
+settledFrom M k zero c = record { picks = k; end = c }
+settledFrom M k (suc n) c =
+    ltb (lowestReady M c) (length (M .processes)) ⇒ settledFrom M (suc k) n (stepped M (lowestReady M c) c)
+    ∣ record { picks = k; end = c }
+
+-- "for settle 0 when none is ready, else 1"
+abbrev pub settleDone : Model → Settled → Outcome
+settleDone M s =
+    record {
+      refusal = 0;
+      byte = ltb (lowestReady M (s .end)) (length (M .processes)) ⇒ 1 ∣ 0;
+      picks = s .picks;
+      value = 0;
+      after = s .end;
+    }
+
+unfoldable pub settled : Model → ℕ → Configuration → Outcome
+settled M n c = settleDone M (settledFrom M 0 n c)
+
+-- 19. "Read: no such signal." Else the value read.
+unfoldable pub readOf : Model → ℕ → Configuration → Outcome
+readOf M s c =
+    leb (length (M .signals)) s ⇒ refused 19 c
+    ∣ record { refusal = 0; byte = 0; picks = 0; value = currentOf (c .signals) s; after = c }

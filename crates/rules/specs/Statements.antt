@@ -1,0 +1,138 @@
+-- What a pick does: "A pick runs one statement of a ready process and moves the place on".
+-- "Statement kinds: 0 null; 1 variable a := b; 2 signal a <= b after c; 3 unless b go to statement a; 4 go to a; 5 wait on the
+-- set until b for c, where b or c 65,535 means absent."
+use mathlib.Core.Bool.{Bool, false}
+use mathlib.Core.List.{List, [], _∷_, _++_}
+use mathlib.Core.Option.{Option, none, some}
+use Prim.Native.Nat.{ℕ, _+_}
+use lib.Dec.{eqb, ltb}
+use lib.ListN.{length, set}
+use lib.IntN.{pos, natAbs}
+use lib.Signed.{ltZ}
+use Rattle.base.specs.Cases.{_∣_, _⇒_, _is_⇒_}
+use Rattle.blocks.specs.Records.{Model, processAt, statementAt}
+use Rattle.fields.specs.Fields.{absent, endOf}
+use Rattle.model.specs.Owners.{driverFor}
+use Rattle.blocks.specs.declared.records.StatementRecord.{StatementRecord}
+use Rattle.rules.specs.declared.value.Value.{Value}
+use Rattle.rules.specs.declared.value.Value.the-variants.{Of, Fault}
+use Rattle.rules.specs.declared.effect.Effect.{Effect}
+use Rattle.rules.specs.declared.effect.Effect.the-variants.{Skip, Store, Schedule, Jump, Wait, WaitFor, Stop}
+use Rattle.rules.specs.Configuration.{Transaction, DriverState, ProcessState, Configuration, driverIn, processIn, waiting, stopped}
+use Rattle.rules.specs.Evaluation.{Environment, environmentOf, int, evalOf}
+
+-- what follows a value, or stop with its fault
+abbrev pub withValue : Value → (ℕ → Effect) → Effect
+withValue (Fault f) next = Stop f
+withValue (Of x) next = next x
+
+-- what follows a delay of 0 or more; fault 2: "c negative"
+unfoldable pub withDelay : Value → (ℕ → Effect) → Effect
+withDelay v next = withValue v (λ x. ltZ (int x) (pos 0) ⇒ Stop 2 ∣ next (natAbs (int x)))
+
+-- what statement s of process p does. Kind 2 "works out b, then c"; kind 5 "works out c once".
+unfoldable pub effectBy : Model → Environment → ℕ → StatementRecord → Effect
+effectBy M e p s =
+    s .kind is 0 ⇒ Skip
+    ∣ s .kind is 1 ⇒ withValue (evalOf M e (s .b)) (λ v. Store (s .a) v)
+    ∣ s .kind is 2 ⇒ withValue (evalOf M e (s .b)) (λ v. withDelay (evalOf M e (s .c)) (λ c. Schedule (driverFor M p (s .a)) c v))
+    ∣ s .kind is 3 ⇒ withValue (evalOf M e (s .b)) (λ v. eqb v 0 ⇒ Jump (s .a) ∣ Skip)
+    ∣ s .kind is 4 ⇒ Jump (s .a)
+    ∣ s .kind is 5 ⇒ (eqb (s .c) absent ⇒ Wait ∣ withDelay (evalOf M e (s .c)) WaitFor)
+    ∣ Skip
+
+-- the effect of the statement at process p's place
+unfoldable pub effectOf : Model → Configuration → ℕ → Effect
+effectOf M c p =
+    effectBy M (environmentOf (c .variables) (c .signals)) p (statementAt M (processIn (c .processes) p .place))
+
+-- the pending transactions before the time at
+unfoldable pub before : ℕ → List Transaction → List Transaction
+before at [] = []
+before at (x ∷ w) = ltb (x .time) at ⇒ (x ∷ before at w) ∣ before at w
+
+-- "removes pending transactions at time + c or later, and adds one there"
+unfoldable pub scheduled : List Transaction → ℕ → ℕ → List Transaction
+scheduled w at v = before at w ++ (record { time = at; value = v } ∷ [])
+
+-- fault 3: "a ninth transaction"
+unfoldable pub overflows : List Transaction → Bool
+overflows w = ltb 8 (length w)
+
+-- "the last statement is followed by the first"
+unfoldable pub nextPlace : Model → ℕ → ℕ → ℕ
+nextPlace M p i = ltb (i + 1) (endOf M p) ⇒ (i + 1) ∣ processAt M p .first
+
+abbrev pub moved : ProcessState → ℕ → ProcessState
+moved q to = record { place = to; standing = q .standing; deadline = q .deadline; fault = q .fault }
+
+-- "sets the deadline time + c (none if absent) and waits, its place staying on the wait"
+abbrev pub waits : ProcessState → Option ℕ → ProcessState
+waits q deadline = record { place = q .place; standing = waiting; deadline = deadline; fault = q .fault }
+
+-- "A fault stops the process; its other fields and its drivers stay."
+abbrev pub stops : ProcessState → ℕ → ProcessState
+stops q f = record { place = q .place; standing = stopped; deadline = q .deadline; fault = f }
+
+-- process q after an effect at the time t, next being the place after its own. `full` says that a schedule overflows.
+abbrev pub processAfter : Effect → Bool → ℕ → ℕ → ProcessState → ProcessState
+processAfter Skip full t next q = moved q next
+processAfter (Store a v) full t next q = moved q next
+processAfter (Schedule k d v) full t next q = full ⇒ stops q 3 ∣ moved q next
+processAfter (Jump a) full t next q = moved q a
+processAfter Wait full t next q = waits q none
+processAfter (WaitFor d) full t next q = waits q (some (t + d))
+processAfter (Stop f) full t next q = stops q f
+
+abbrev pub variablesAfter : Effect → List ℕ → List ℕ
+variablesAfter Skip vs = vs
+variablesAfter (Store a v) vs = set vs a v
+variablesAfter (Schedule k d v) vs = vs
+variablesAfter (Jump a) vs = vs
+variablesAfter Wait vs = vs
+variablesAfter (WaitFor d) vs = vs
+variablesAfter (Stop f) vs = vs
+
+-- a schedule overflows the waveform of its driver
+abbrev pub fullAfter : Effect → ℕ → List DriverState → Bool
+fullAfter Skip t ds = false
+fullAfter (Store a v) t ds = false
+fullAfter (Schedule k d v) t ds = overflows (scheduled (driverIn ds k .pending) (t + d) v)
+fullAfter (Jump a) t ds = false
+fullAfter Wait t ds = false
+fullAfter (WaitFor d) t ds = false
+fullAfter (Stop f) t ds = false
+
+abbrev pub withPending : DriverState → List Transaction → DriverState
+withPending d w = record { current = d .current; pending = w }
+
+-- driver k with the transaction, unless that overflows
+unfoldable pub driverAfter : ℕ → ℕ → DriverState → DriverState
+driverAfter at v d = overflows (scheduled (d .pending) at v) ⇒ d ∣ withPending d (scheduled (d .pending) at v)
+
+abbrev pub driversAfter : Effect → ℕ → List DriverState → List DriverState
+driversAfter Skip t ds = ds
+driversAfter (Store a v) t ds = ds
+driversAfter (Schedule k d v) t ds = set ds k (driverAfter (t + d) v (driverIn ds k))
+driversAfter (Jump a) t ds = ds
+driversAfter Wait t ds = ds
+driversAfter (WaitFor d) t ds = ds
+driversAfter (Stop f) t ds = ds
+
+-- the configuration after an effect of process p
+unfoldable pub applied : Model → ℕ → Effect → Configuration → Configuration
+applied M p e c =
+    record {
+      time = c .time;
+      deltas = c .deltas;
+      signals = c .signals;
+      drivers = driversAfter e (c .time) (c .drivers);
+      processes =
+          set (c .processes) p
+          (processAfter e (fullAfter e (c .time) (c .drivers)) (c .time) (nextPlace M p (processIn (c .processes) p .place)) (processIn (c .processes) p));
+      variables = variablesAfter e (c .variables);
+    }
+
+-- one statement of process p
+unfoldable pub stepped : Model → ℕ → Configuration → Configuration
+stepped M p c = applied M p (effectOf M c p) c

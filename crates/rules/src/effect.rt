@@ -1,0 +1,19 @@
+// The effect of a statement.
+
+// What one statement does to its process, its variables and its drivers.
+pub enum Effect {
+    // nothing but to move on
+    Skip,
+    // variable := value
+    Store(usize, u32),
+    // driver, delay, value: a transaction
+    Schedule(usize, u32, u32),
+    // the next place
+    Jump(usize),
+    // waits, with no deadline
+    Wait,
+    // waits, with a deadline after that many units
+    WaitFor(u32),
+    // stops with a fault
+    Stop(u32),
+}

@@ -1,0 +1,11 @@
+// The rules of configurations, statements and orders (specs/), and their laws (proofs/). Code has only the forms that the rules name:
+// a value or a fault, and what a statement does.
+pub mod effect;
+pub mod value;
+
+// Standings of a process.
+pub const READY: usize = 0;
+
+pub const WAITING: usize = 1;
+
+pub const STOPPED: usize = 2;

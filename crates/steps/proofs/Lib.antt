@@ -1,0 +1,5 @@
+pub mod DeltaProcesses
+pub mod DeltaSignals
+pub mod Resolving
+pub mod Shifts
+pub mod SignalSets

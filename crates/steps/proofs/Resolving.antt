@@ -1,0 +1,68 @@
+-- The driving values as the array of current values has them, and the loop that resolves them. Assumes nothing.
+use mathlib.Core.Path.{_≡_, refl}
+use mathlib.Core.Bool.{Bool, true, false, _||_, or-true, or-false}
+use mathlib.Core.List.{List, [], _∷_, _++_, append-nil, foldl-append}
+use Prim.Native.Nat.{ℕ, _+_, _≤_, _<_}
+use native.Mathlib.Nat.{le-antisymm}
+use lib.Dec.{eqb}
+use lib.ListN.{length, getD}
+use Rattle.base.specs.Cases.{_∣_, _⇒_}
+use Rattle.base.proofs.Below.{join-none, join-more, join-same}
+use Rattle.values.specs.Resolve.{pairOf, resolutionBy, resolutionOf}
+use Rattle.blocks.specs.Records.{Model, driverAt}
+use Rattle.rules.specs.Configuration.{DriverState, driverIn, drivingBy, drivingOf, resolvedOr}
+use Rattle.steps.specs.Entries.{drivingIn}
+
+-- the array has each driver's current value
+pub driving-is : (M : Model) (cs : List ℕ) (ds : List DriverState) (n s : ℕ) → n ≡ length (M .drivers) → ((k : ℕ) → k < n → getD cs k 0 ≡ driverIn ds k .current) → drivingIn M cs s n ≡ drivingOf M ds s
+unfolding drivingIn drivingOf
+driving-is M cs ds n s e h = rw (← e) (join-same _ (drivingBy M ds s) n (λ k l. rw (h k l)))
+
+-- there is a value
+abbrev pub some : List ℕ → Bool
+some [] = false
+some (v ∷ vs) = true
+
+-- one value more
+resolved-more : (other : ℕ) (vs : List ℕ) (x : ℕ) → resolvedOr other (vs ++ (x ∷ [])) ≡ (some vs ⇒ pairOf (resolvedOr other vs) x ∣ x)
+unfolding resolutionOf resolutionBy
+resolved-more other [] x = refl
+resolved-more other (v ∷ vs) x = foldl-append pairOf v vs (x ∷ [])
+
+some-more : (vs : List ℕ) (x : ℕ) → some (vs ++ (x ∷ [])) ≡ true
+some-more [] x = refl
+some-more (v ∷ vs) x = refl
+
+-- v is the resolution of the values of the first k drivers, and b says that there is one
+pub record Resolving (M : Model) (cs : List ℕ) (s other k : ℕ) (b : Bool) (v : ℕ) : Type 0 where
+  pub value : v ≡ resolvedOr other (drivingIn M cs s k)
+  pub found : b ≡ some (drivingIn M cs s k)
+
+module _ (M : Model) (cs : List ℕ) (s other : ℕ) where
+  pub resolving-none : Resolving M cs s other 0 false other
+  unfolding drivingIn
+  resolving-none = record { value = rw join-none; found = rw join-none }
+
+  -- x is the current value of driver k, which drives s or not
+  with : (k : ℕ) (b : Bool) → eqb (driverAt M k .signal) s ≡ b → drivingIn M cs s (k + 1) ≡ drivingIn M cs s k ++ (b ⇒ (getD cs k 0 ∷ []) ∣ [])
+  unfolding drivingIn
+  with k b e = rw (join-more, e)
+
+  turn : (k : ℕ) (found : Bool) (v : ℕ) (b : Bool) → eqb (driverAt M k .signal) s ≡ b → Resolving M cs s other k found v → Resolving M cs s other (k + 1) (found || b) (b ⇒ (found ⇒ pairOf v (getD cs k 0) ∣ getD cs k 0) ∣ v)
+  turn k found v true e r =
+      record {
+        value = rw (with k true e, resolved-more, r .found, r .value);
+        found = rw (with k true e, some-more, or-true);
+      }
+  turn k found v false e r =
+      record {
+        value = rw (with k false e, append-nil) (r .value);
+        found = rw (with k false e, append-nil, or-false) (r .found);
+      }
+
+  pub resolving-more : (k d : ℕ) (found : Bool) (v r : ℕ) → d ≡ driverAt M k .signal → r ≡ (eqb d s ⇒ (found ⇒ pairOf v (getD cs k 0) ∣ getD cs k 0) ∣ v) → Resolving M cs s other k found v → Resolving M cs s other (k + 1) (found || eqb d s) r
+  resolving-more k d found v r e q h = rw (q, e) (turn k found v (eqb (driverAt M k .signal) s) refl h)
+
+  -- all drivers are done
+  pub resolving-all : (k n : ℕ) (found : Bool) (v : ℕ) → k ≤ n → n ≤ k → Resolving M cs s other k found v → v ≡ resolvedOr other (drivingIn M cs s n)
+  resolving-all k n found v h l r = rw (le-antisymm h l) at (r .value)

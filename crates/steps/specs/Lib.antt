@@ -1,0 +1,4 @@
+pub mod Delta
+pub mod Due
+pub mod Entries
+pub mod Shift

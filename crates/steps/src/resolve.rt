@@ -1,0 +1,51 @@
+// The resolution of a signal over its drivers.
+ghost use mathlib.Core.Path.{_≡_};
+ghost use Prim.Native.Nat.{_<_};
+ghost use lib.ListN.{length};
+ghost use Rattle.base.specs.Cases.{_∣_, _⇒_};
+ghost use Rattle.values.specs.Resolve.{pairOf};
+ghost use Rattle.blocks.specs.Records.{modelOf};
+ghost use Rattle.rules.specs.Configuration.{resolvedOr};
+ghost use Rattle.expressions.specs.Reading.{Runs};
+ghost use Rattle.steps.specs.Entries.{drivingIn};
+use blocks::index::Index;
+use blocks::index::driver_at;
+
+// The resolution v of the values found so far, with x where it drives.
+fn joined(drives: bool, found: bool, v: u32, x: u32) -> u32
+    ensures { λ r. ⌜ r ≡ (drives ⇒ (found ⇒ pairOf v x ∣ x) ∣ v) ⌝ }
+{
+    if drives {
+        if found {
+            return values::pair(v, x);
+        }
+        return x;
+    }
+    v
+}
+
+// The resolution of the current values of the drivers of signal s, or other where it has none.
+pub fn resolved<'a>(
+    m: &'a [u8],
+    index: &'a Index,
+    currents: &'a [u32; 64],
+    ndrivers: usize,
+    s: usize,
+    other: u32,
+) -> u32
+    requires { ⌜ Runs (now m) (now index) ⌝ }
+    requires { ⌜ ndrivers ≡ length (modelOf (now m) .drivers) ⌝ }
+    ensures { λ r. ⌜ r ≡ resolvedOr other (drivingIn (modelOf (now (m .entry))) (now (currents .entry)) s ndrivers) ⌝ }
+{
+    let mut found = false;
+    let mut v = other;
+    let mut k = 0;
+    while k < ndrivers {
+        let d = driver_at(m, index, k);
+        let drives = d.signal == s;
+        v = joined(drives, found, v, currents[k]);
+        found = found | drives;
+        k += 1;
+    }
+    v
+}

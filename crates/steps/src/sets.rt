@@ -1,0 +1,31 @@
+// Sets of signals: bit n for signal n.
+ghost use mathlib.Core.Path.{_≡_};
+ghost use mathlib.Core.Bool.{_&&_, _||_};
+ghost use Prim.Native.Nat.{_<_};
+ghost use lib.Dec.{eqb};
+ghost use Rattle.base.specs.Below.{anyBelow};
+ghost use Rattle.rules.specs.Steps.{inSet};
+ghost use Rattle.steps.specs.Delta.{SetOf};
+
+// Whether signal n is in the set.
+pub fn has(set: u32, n: usize) -> bool
+    requires { ⌜ n < 32 ⌝ }
+    ensures { λ r. ⌜ r ≡ inSet set n ⌝ }
+{
+    (set >> n) % 2 == 1
+}
+
+// The set, with signal n where b holds.
+pub fn with(set: u32, n: usize, b: bool) -> u32
+    requires { ⌜ n < 32 ⌝ }
+    ensures { λ r. ⌜ SetOf (λ s. inSet set s || (eqb n s && b)) r ⌝ }
+{
+    if b { set | (1 << n) } else { set }
+}
+
+// Whether a signal is in both sets.
+pub fn meet(a: u32, b: u32) -> bool
+    ensures { λ r. ⌜ r ≡ anyBelow (λ s. inSet a s && inSet b s) 32 ⌝ }
+{
+    a & b != 0
+}

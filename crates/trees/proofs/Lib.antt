@@ -1,0 +1,5 @@
+pub mod NodeTypes
+pub mod Operands
+pub mod TreeLaws
+pub mod TypeEntries
+pub mod TypeForms

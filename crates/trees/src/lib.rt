@@ -1,0 +1,3 @@
+// Rules 6 and 7: operands, tree sizes and types.
+pub mod trees;
+pub mod types;

@@ -1,0 +1,137 @@
+// A driver's waveform: at most eight pending transactions, rising in time. times[j] is in how many units transaction j is due.
+ghost use mathlib.Core.Path.{_≡_};
+ghost use mathlib.Core.List.{[], _∷_, _++_};
+ghost use Prim.Native.Nat.{ℕ, _≤_};
+ghost use lib.ListN.{drop};
+ghost use Rattle.rules.specs.Invariant.{lastTime};
+ghost use Rattle.waveforms.specs.Pending.{pendingOf, firstTime, NoneBefore};
+ghost use Rattle.waveforms.specs.Waveform.{Waveform, Kept, Nearer, ScheduledTo, Ahead, Elapsed};
+
+pub struct Driver {
+    pub times: [u32; 8],
+    pub values: [u32; 8],
+    pub count: usize,
+}
+
+// A driver, and whether a ninth transaction was refused.
+pub struct Scheduled {
+    pub driver: Driver,
+    pub full: bool,
+}
+
+// How many of the first count times lie before the time at: the place of the first that does not.
+fn kept(times: [u32; 8], count: usize, at: u32) -> usize
+    requires { ⌜ count ≤ 8 ⌝ }
+    ensures { λ r. ⌜ Kept times count at r ⌝ }
+{
+    let mut n: usize = 0;
+    while n < count {
+        if times[n] >= at {
+            return n;
+        }
+        n += 1;
+    }
+    n
+}
+
+// The first count times, n units later.
+fn nearer(mut times: [u32; 8], count: usize, n: u64) -> [u32; 8]
+    requires { ⌜ count ≤ 8 ⌝ }
+    requires { ⌜ NoneBefore n times count ⌝ }
+    ensures { λ r. ⌜ Nearer times count n r ⌝ }
+{
+    let mut i = 0;
+    while i < count {
+        times[i] = times[i] - n as u32;
+        i += 1;
+    }
+    times
+}
+
+fn drop_first(a: [u32; 8]) -> [u32; 8]
+    ensures { λ r. ⌜ r ≡ drop 1 a ++ 0 ∷ [] ⌝ }
+{
+    [a[1], a[2], a[3], a[4], a[5], a[6], a[7], 0]
+}
+
+impl Driver {
+    // No pending transaction.
+    pub fn none() -> Driver
+        ensures { λ r. ⌜ ((t : ℕ) → pendingOf t r ≡ []) ⌝ }
+    {
+        Driver {
+            times: [0; 8],
+            values: [0; 8],
+            count: 0,
+        }
+    }
+
+    // Removes the pending transactions in delay units or later, and adds one there. A ninth is refused: the driver stays.
+    pub fn schedule(mut self, delay: u32, value: u32) -> Scheduled
+        requires { ⌜ Waveform self ⌝ }
+        ensures { λ r. ⌜ ScheduledTo self delay value r ⌝ }
+    {
+        let ts = self.times;
+        let n = kept(ts, self.count, delay);
+        if n < 8 {
+            self.times[n] = delay;
+            self.values[n] = value;
+            self.count = n + 1;
+            Scheduled {
+                driver: self,
+                full: false,
+            }
+        } else {
+            Scheduled {
+                driver: self,
+                full: true,
+            }
+        }
+    }
+
+    // The first transaction leaves.
+    pub fn without_first(self) -> Driver
+        requires { ⌜ 1 ≤ self .count ⌝ }
+        requires { ⌜ self .count ≤ 8 ⌝ }
+        ensures { λ r. ⌜ ((t : ℕ) → pendingOf t r ≡ drop 1 (pendingOf t self)) ⌝ }
+    {
+        let n = self.count;
+        let ts = self.times;
+        let us = drop_first(ts);
+        let vs = self.values;
+        let ws = drop_first(vs);
+        Driver {
+            times: us,
+            values: ws,
+            count: n - 1,
+        }
+    }
+
+    // The time of the first transaction, or the largest number where there is none.
+    pub fn first_time(self, now: u64) -> u64
+        requires { ⌜ now ≤ lastTime ⌝ }
+        ensures { λ r. ⌜ r ≡ firstTime (pendingOf now self) ⌝ }
+    {
+        let n = self.count;
+        if n == 0 {
+            return 18446744073709551615;
+        }
+        now + self.times[0] as u64
+    }
+
+    // The same transactions, n units later.
+    pub fn elapsed(self, n: u64) -> Driver
+        requires { ⌜ Ahead n self ⌝ }
+        ensures { λ r. ⌜ Elapsed n self r ⌝ }
+    {
+        let count = self.count;
+        let ts = self.times;
+        let times = nearer(ts, count, n);
+        let values = self.values;
+        Driver {
+            times,
+            values,
+            count,
+        }
+    }
+}

@@ -1,0 +1,2 @@
+// A driver's pending transactions.
+pub mod driver;
