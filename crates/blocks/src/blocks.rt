@@ -20,7 +20,7 @@ use base::byte;
 use base::word;
 
 // 1. Whether the length is a multiple of 512 from 512 to 32,768.
-pub fn length_ok(m: &[u8]) -> bool
+fn length_ok(m: &[u8]) -> bool
     ensures { λ r. ⌜ r ≡ lengthOk (now (m .entry)) ⌝ }
 {
     let n = m.len();
@@ -42,7 +42,7 @@ fn block_sum(m: &[u8], b: usize) -> usize
 }
 
 // 2. Whether the sum of each block is 1.
-pub fn sums_ok(m: &[u8]) -> bool
+fn sums_ok(m: &[u8]) -> bool
     ensures { λ r. ⌜ r ≡ sumsOk (now (m .entry)) ⌝ }
 {
     let blocks = m.len() / 512;
@@ -93,7 +93,7 @@ fn head_ok(m: &[u8], b: usize) -> bool
 }
 
 // 3. Whether the number, kind, count, kind order and trailing zeros of each block are right.
-pub fn heads_ok(m: &[u8]) -> bool
+fn heads_ok(m: &[u8]) -> bool
     ensures { λ r. ⌜ r ≡ headsOk (now (m .entry)) ⌝ }
 {
     let blocks = m.len() / 512;
@@ -147,7 +147,7 @@ pub fn totals(m: &[u8]) -> Totals
 }
 
 // 4. Whether the totals are within their limits.
-pub fn totals_ok(t: Totals) -> bool
+fn totals_ok(t: Totals) -> bool
     ensures { λ r. ⌜ ((M : Model) → TotalsOf M t → r ≡ totalsOk M) ⌝ }
 {
     (t.signals <= 32)

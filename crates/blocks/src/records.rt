@@ -65,7 +65,7 @@ fn zeros(r: &[u8], i: usize, n: usize) -> bool
 }
 
 // A signal's record from its 12 bytes.
-pub fn read_signal(r: &[u8]) -> SignalRecord
+pub(crate) fn read_signal(r: &[u8]) -> SignalRecord
     requires { ⌜ length (now r) ≡ 12 ⌝ }
     ensures { λ d. ⌜ d ≡ signalOf (now (r .entry)) ⌝ }
 {
@@ -76,7 +76,7 @@ pub fn read_signal(r: &[u8]) -> SignalRecord
     }
 }
 
-pub fn read_variable(r: &[u8]) -> VariableRecord
+pub(crate) fn read_variable(r: &[u8]) -> VariableRecord
     requires { ⌜ length (now r) ≡ 12 ⌝ }
     ensures { λ d. ⌜ d ≡ variableOf (now (r .entry)) ⌝ }
 {
@@ -88,7 +88,7 @@ pub fn read_variable(r: &[u8]) -> VariableRecord
     }
 }
 
-pub fn read_process(r: &[u8]) -> ProcessRecord
+pub(crate) fn read_process(r: &[u8]) -> ProcessRecord
     requires { ⌜ length (now r) ≡ 12 ⌝ }
     ensures { λ d. ⌜ d ≡ processOf (now (r .entry)) ⌝ }
 {
@@ -99,7 +99,7 @@ pub fn read_process(r: &[u8]) -> ProcessRecord
     }
 }
 
-pub fn read_driver(r: &[u8]) -> DriverRecord
+pub(crate) fn read_driver(r: &[u8]) -> DriverRecord
     requires { ⌜ length (now r) ≡ 12 ⌝ }
     ensures { λ d. ⌜ d ≡ driverOf (now (r .entry)) ⌝ }
 {
@@ -110,7 +110,7 @@ pub fn read_driver(r: &[u8]) -> DriverRecord
     }
 }
 
-pub fn read_node(r: &[u8]) -> NodeRecord
+pub(crate) fn read_node(r: &[u8]) -> NodeRecord
     requires { ⌜ length (now r) ≡ 12 ⌝ }
     ensures { λ d. ⌜ d ≡ nodeOf (now (r .entry)) ⌝ }
 {
@@ -123,7 +123,7 @@ pub fn read_node(r: &[u8]) -> NodeRecord
     }
 }
 
-pub fn read_statement(r: &[u8]) -> StatementRecord
+pub(crate) fn read_statement(r: &[u8]) -> StatementRecord
     requires { ⌜ length (now r) ≡ 12 ⌝ }
     ensures { λ d. ⌜ d ≡ statementOf (now (r .entry)) ⌝ }
 {

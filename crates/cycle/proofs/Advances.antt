@@ -11,7 +11,7 @@ use Rattle.base.proofs.Cases.{by-test}
 use Rattle.blocks.specs.Records.{Model}
 use Rattle.rules.specs.Steps.{deltaStep, timeStep}
 use Rattle.rules.specs.Orders.{refused, earliest, dueTimes, advanceDone, timeOrder, isReady, isStopped, advanced}
-use Rattle.rules.specs.Invariant.{lastTime}
+use Rattle.rules.specs.Configuration.{lastTime}
 use Rattle.waveforms.specs.Pending.{never}
 use Rattle.cycle.specs.View.{viewOf, Valid}
 use Rattle.steps.specs.Due.{soonestIn, someIs, refusalIn, DueIn}

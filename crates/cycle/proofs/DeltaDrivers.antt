@@ -11,9 +11,8 @@ use lib.Seq.{getD-set-same, getD-set-other}
 use borrow.Author.Count.{below-none, below-more}
 use borrow.Author.Tests.{eq-eqb, ne-eqb}
 use Rattle.blocks.specs.Records.{Model}
-use Rattle.rules.specs.Configuration.{Transaction, DriverState}
+use Rattle.rules.specs.Configuration.{Transaction, DriverState, lastTime}
 use Rattle.rules.specs.Steps.{dueIn, takenIn, taken}
-use Rattle.rules.specs.Invariant.{lastTime}
 use Rattle.waveforms.specs.Pending.{never, pendingOf, noDriver, firstTime}
 use Rattle.cycle.specs.View.{viewOf, Valid}
 use Rattle.cycle.specs.declared.config.Config.{Config}

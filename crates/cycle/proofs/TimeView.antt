@@ -12,7 +12,7 @@ use Rattle.base.proofs.Below.{list-same}
 use Rattle.blocks.specs.Records.{Model}
 use Rattle.rules.specs.Steps.{timeStep}
 use Rattle.rules.specs.Orders.{advanceDone, earliest, dueTimes}
-use Rattle.rules.specs.Invariant.{lastTime}
+use Rattle.rules.specs.Configuration.{lastTime}
 use Rattle.waveforms.specs.Pending.{pendingOf, noDriver, firstTime}
 use Rattle.cycle.specs.View.{driverView, processView, viewOf, Valid, outcomeOf, Answers}
 use Rattle.steps.specs.Shift.{ShiftedBy}

@@ -19,10 +19,10 @@ use Rattle.blocks.specs.Records.{Model, statementAt}
 use Rattle.fields.specs.Fields.{ownerOf}
 use Rattle.fields.specs.Facts.{Spans}
 use Rattle.model.specs.Facts.{Facts}
-use Rattle.rules.specs.Configuration.{driverIn}
+use Rattle.rules.specs.Configuration.{driverIn, lastTime}
 use Rattle.rules.specs.Statements.{nextPlace, applied, effectBy, effectOf, stepped}
 use Rattle.rules.specs.Orders.{isReady, lowestReady, settledFrom, settled}
-use Rattle.rules.specs.Invariant.{lastTime, DriverValid, EffectFits, StoreFits, ScheduleFits}
+use Rattle.rules.specs.Invariant.{DriverValid, EffectFits, StoreFits, ScheduleFits}
 use Rattle.waveforms.specs.Pending.{never, pendingOf, firstTime, noDriver}
 use Rattle.cycle.specs.View.{viewOf, Valid, StepsTo, outcomeOf, Answers}
 use Rattle.expressions.specs.Reading.{arrays}

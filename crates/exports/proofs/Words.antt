@@ -12,8 +12,7 @@ use Rattle.base.specs.Below.{listBelow}
 use Rattle.base.proofs.Below.{list-length, list-at, NoneOf, none-of}
 use Rattle.base.specs.Cases.{_∣_, _⇒_}
 use Rattle.base.proofs.Cases.{either}
-use Rattle.rules.specs.Configuration.{Transaction, Configuration, driverIn, pastOf}
-use Rattle.rules.specs.Invariant.{lastTime}
+use Rattle.rules.specs.Configuration.{Transaction, Configuration, driverIn, pastOf, lastTime}
 use Rattle.waveforms.specs.Pending.{never, pendingOf, noDriver}
 use Rattle.cycle.specs.View.{driverView, processView, viewOf}
 use Rattle.cycle.specs.declared.config.Config.{Config}

@@ -3,8 +3,7 @@ ghost use mathlib.Core.Path.{_≡_};
 ghost use Prim.Native.Nat.{_≤_, _<_};
 ghost use lib.ListN.{length, getD};
 ghost use Rattle.base.specs.Below.{listBelow};
-ghost use Rattle.rules.specs.Configuration.{driverIn, pastOf};
-ghost use Rattle.rules.specs.Invariant.{lastTime};
+ghost use Rattle.rules.specs.Configuration.{driverIn, pastOf, lastTime};
 ghost use Rattle.waveforms.specs.Pending.{pendingOf};
 ghost use Rattle.cycle.specs.View.{viewOf};
 ghost use Rattle.exports.specs.Dump.{noProcess, totalWord, driverWord, processWord, wordOf};
@@ -138,7 +137,7 @@ fn word(c: Config, i: usize) -> u64
 }
 
 // Writes the words of the configuration over the whole buffer.
-pub fn dump(c: Config, words: &mut [u64])
+pub(crate) fn dump(c: Config, words: &mut [u64])
     requires { ⌜ c .time ≤ lastTime ⌝ }
     ensures { λ _. ⌜ now (words .exit) ≡ listBelow (wordOf (viewOf c)) (length (now (words .entry))) ⌝ }
 {

@@ -15,6 +15,7 @@ use crate::operators::int;
 use blocks::index::Index;
 use blocks::index::process_at;
 use blocks::index::statement_at;
+use fields::ABSENT;
 use model::owners::assignment_driver;
 use rules::effect::Effect;
 use rules::value::Value;
@@ -105,7 +106,7 @@ pub fn does<'a>(
         3 => branch(s.a, eval(m, index, variables, signals, s.b)),
         4 => Effect::Jump(s.a),
         5 => {
-            if s.c == 65535 {
+            if s.c == ABSENT {
                 return Effect::Wait;
             }
             wait_for(eval(m, index, variables, signals, s.c))

@@ -9,7 +9,7 @@ ghost use Rattle.rules.specs.Evaluation.{truth, int, ranged, negateOf, sumOf, d
 use rules::value::Value;
 
 // The integer that 32 bits hold.
-pub fn int(x: u32) -> i64
+pub(crate) fn int(x: u32) -> i64
     ensures { λ r. ⌜ r ≡ int x ⌝ }
 {
     if x < 2147483648 {
@@ -50,7 +50,7 @@ fn truth(t: bool) -> u32
     if t { 1 } else { 0 }
 }
 
-pub fn negate(p: Value) -> Value
+pub(crate) fn negate(p: Value) -> Value
     ensures { λ r. ⌜ r ≡ one p negateOf ⌝ }
 {
     match p {
@@ -59,7 +59,7 @@ pub fn negate(p: Value) -> Value
     }
 }
 
-pub fn plus(p: Value, q: Value) -> Value
+pub(crate) fn plus(p: Value, q: Value) -> Value
     ensures { λ r. ⌜ r ≡ two p q sumOf ⌝ }
 {
     match p {
@@ -71,7 +71,7 @@ pub fn plus(p: Value, q: Value) -> Value
     }
 }
 
-pub fn minus(p: Value, q: Value) -> Value
+pub(crate) fn minus(p: Value, q: Value) -> Value
     ensures { λ r. ⌜ r ≡ two p q differenceOf ⌝ }
 {
     match p {
@@ -83,7 +83,7 @@ pub fn minus(p: Value, q: Value) -> Value
     }
 }
 
-pub fn equal(p: Value, q: Value) -> Value
+pub(crate) fn equal(p: Value, q: Value) -> Value
     ensures { λ r. ⌜ r ≡ two p q equalOf ⌝ }
 {
     match p {
@@ -95,7 +95,7 @@ pub fn equal(p: Value, q: Value) -> Value
     }
 }
 
-pub fn less(p: Value, q: Value) -> Value
+pub(crate) fn less(p: Value, q: Value) -> Value
     ensures { λ r. ⌜ r ≡ two p q lessOf ⌝ }
 {
     match p {
@@ -108,7 +108,7 @@ pub fn less(p: Value, q: Value) -> Value
 }
 
 // The operators of logic and boolean values, by the type: 2 boolean, else logic.
-pub fn not(ty: usize, p: Value) -> Value
+pub(crate) fn not(ty: usize, p: Value) -> Value
     ensures { λ r. ⌜ r ≡ notBy ty p ⌝ }
 {
     match p {
@@ -124,7 +124,7 @@ pub fn not(ty: usize, p: Value) -> Value
 }
 
 // Whether p is a fault, or a boolean that decides, so that the second operand is not evaluated.
-pub fn decided(ty: usize, p: Value, decides: u32) -> bool
+pub(crate) fn decided(ty: usize, p: Value, decides: u32) -> bool
     ensures { λ r. ⌜ r ≡ decidedBy ty p decides ⌝ }
 {
     match p {
@@ -134,7 +134,7 @@ pub fn decided(ty: usize, p: Value, decides: u32) -> bool
 }
 
 // `and` and `or` where the first operand did not decide: of booleans the second one is the value.
-pub fn and(ty: usize, p: Value, q: Value) -> Value
+pub(crate) fn and(ty: usize, p: Value, q: Value) -> Value
     requires { ⌜ decidedBy ty p 0 ≡ false ⌝ }
     ensures { λ r. ⌜ r ≡ andBy ty p q ⌝ }
 {
@@ -153,7 +153,7 @@ pub fn and(ty: usize, p: Value, q: Value) -> Value
     }
 }
 
-pub fn or(ty: usize, p: Value, q: Value) -> Value
+pub(crate) fn or(ty: usize, p: Value, q: Value) -> Value
     requires { ⌜ decidedBy ty p 1 ≡ false ⌝ }
     ensures { λ r. ⌜ r ≡ orBy ty p q ⌝ }
 {
@@ -172,7 +172,7 @@ pub fn or(ty: usize, p: Value, q: Value) -> Value
     }
 }
 
-pub fn xor(ty: usize, p: Value, q: Value) -> Value
+pub(crate) fn xor(ty: usize, p: Value, q: Value) -> Value
     ensures { λ r. ⌜ r ≡ xorBy ty p q ⌝ }
 {
     match p {

@@ -78,7 +78,7 @@ fn variables_ok<'a>(m: &'a [u8], index: &'a Index, t: Totals) -> bool
 }
 
 // Where process p ends: one past its last statement.
-pub fn end_of<'a>(m: &'a [u8], index: &'a Index, p: usize) -> usize
+fn end_of<'a>(m: &'a [u8], index: &'a Index, p: usize) -> usize
     requires { ⌜ Starts (now m) (now index) ⌝ }
     requires { ⌜ p < length (modelOf (now m) .processes) ⌝ }
     ensures { λ r. ⌜ r ≡ endOf (modelOf (now (m .entry))) p ⌝ }

@@ -233,7 +233,7 @@ fn statements_owned<'a>(m: &'a [u8], index: &'a Index, t: Totals) -> bool
 }
 
 // 8. Whether drivers and variables have their processes. Writes the driver of each signal assignment into the index.
-pub fn owners_ok(m: &[u8], index: &mut Index, t: Totals) -> bool
+pub(crate) fn owners_ok(m: &[u8], index: &mut Index, t: Totals) -> bool
     requires { ⌜ TypesIn (now m) (now index) ⌝ }
     requires { ⌜ TotalsOf (modelOf (now m)) t ⌝ }
     requires { ⌜ fieldsOk (modelOf (now m)) ≡ true ⌝ }

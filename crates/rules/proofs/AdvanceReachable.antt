@@ -17,11 +17,11 @@ use Rattle.model.specs.Facts.{Facts}
 use Rattle.blocks.specs.declared.records.StatementRecord.{StatementRecord}
 use Rattle.rules.specs.declared.value.Value.{Value}
 use Rattle.rules.specs.declared.value.Value.the-variants.{Of, Fault}
-use Rattle.rules.specs.Configuration.{ProcessState, Configuration, driverIn, processIn, pastOf, currentOf, drivingOf, resolvedOr, waiting}
+use Rattle.rules.specs.Configuration.{ProcessState, Configuration, driverIn, processIn, pastOf, currentOf, drivingOf, resolvedOr, waiting, lastTime}
 use Rattle.rules.specs.Evaluation.{Environment, environmentOf, evalOf}
 use Rattle.rules.specs.Steps.{taken, deadlineDue, active, withCurrent, signalAfter, signalsAfter, changedIn, wakes, wokenBy, wokenIf, wokenAt, processAfterDelta, deltaStep, shifted, timeStep}
 use Rattle.rules.specs.Orders.{optional, earliest, dueTimes}
-use Rattle.rules.specs.Invariant.{ValueOf, lastTime, DriverValid, DeadlineValid, ProcessValid, Reachable}
+use Rattle.rules.specs.Invariant.{ValueOf, DriverValid, DeadlineValid, ProcessValid, Reachable}
 use Rattle.rules.proofs.Lists.{All}
 use Rattle.rules.proofs.Evaluation.{Typed, EnvironmentFits, value-typed}
 use Rattle.rules.proofs.Waves.{driver-taken, driver-later}

@@ -12,10 +12,9 @@ use Rattle.base.specs.Below.{anyBelow}
 use Rattle.base.proofs.Below.{any-none}
 use Rattle.base.proofs.Cases.{by-test}
 use Rattle.blocks.specs.Records.{Model}
-use Rattle.rules.specs.Configuration.{Configuration, currentOf}
+use Rattle.rules.specs.Configuration.{Configuration, currentOf, lastTime}
 use Rattle.rules.specs.Statements.{stepped}
 use Rattle.rules.specs.Steps.{deltaStep, timeStep}
-use Rattle.rules.specs.Invariant.{lastTime}
 use Rattle.rules.specs.Orders.{Outcome, refused, isReady, isStopped, pickDone, picked, dueTimes, earliest, dueNow, advanceDone, timeOrder, advanced, readOf}
 
 -- the number of an order's refusal: 11 to 19

@@ -15,10 +15,10 @@ use Rattle.model.specs.Facts.{Facts}
 use Rattle.fields.specs.Facts.{Spans}
 use Rattle.rules.specs.declared.effect.Effect.{Effect}
 use Rattle.rules.specs.declared.effect.Effect.the-variants.{Skip, Store, Schedule, Jump, Wait, WaitFor, Stop}
-use Rattle.rules.specs.Configuration.{DriverState, ProcessState, Configuration, driverIn, processIn, ready}
+use Rattle.rules.specs.Configuration.{DriverState, ProcessState, Configuration, driverIn, processIn, ready, lastTime}
 use Rattle.rules.specs.Statements.{nextPlace, moved, waits, stops, processAfter, variablesAfter, driversAfter, applied, stepped, effectOf}
 use Rattle.rules.specs.Orders.{isReady}
-use Rattle.rules.specs.Invariant.{ValueOf, lastTime, DriverValid, DeadlineValid, ProcessValid, EffectFits, Reachable}
+use Rattle.rules.specs.Invariant.{ValueOf, DriverValid, DeadlineValid, ProcessValid, EffectFits, Reachable}
 use Rattle.rules.proofs.Lists.{set-each}
 use Rattle.rules.proofs.Waves.{driver-scheduled}
 use Rattle.rules.proofs.Effects.{effect-fits, placed}

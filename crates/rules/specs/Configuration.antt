@@ -30,6 +30,13 @@ waiting = 1
 abbrev pub stopped : ℕ
 stopped = 2
 
+-- limits: the delta steps done at one time, and the latest time
+abbrev pub deltaLimit : ℕ
+deltaLimit = 1000
+
+abbrev pub lastTime : ℕ
+lastTime = 1000000000000
+
 pub record ProcessState : Type 0 where
   pub place : ℕ
   pub standing : ℕ

@@ -5,21 +5,18 @@ use mathlib.Core.List.{List, [], _∷_}
 use mathlib.Core.Option.{Option, none, some}
 use Prim.Native.Nat.{ℕ, _+_, _≤_, _<_}
 use lib.ListN.{length, getD}
+use Rattle.rules.specs.Configuration.{deltaLimit, lastTime, Transaction, DriverState, ProcessState, Configuration, driverIn, processIn, pastOf, ready, waiting}
 use Rattle.blocks.specs.Records.{Model, signalAt, variableAt, driverAt, processAt, statementAt}
 use Rattle.fields.specs.Fields.{endOf, valueOk}
 use Rattle.fields.specs.Facts.{Spans}
 use Rattle.rules.specs.declared.effect.Effect.{Effect}
 use Rattle.rules.specs.declared.effect.Effect.the-variants.{Skip, Store, Schedule, Jump, Wait, WaitFor, Stop}
-use Rattle.rules.specs.Configuration.{Transaction, DriverState, ProcessState, Configuration, driverIn, processIn, pastOf, ready, waiting}
 
 -- a value of the type
 abbrev pub ValueOf : ℕ → ℕ → Type 0
 ValueOf ty v = valueOk ty v ≡ true
 
--- the latest time that a session reaches, and the latest that a transaction or a deadline can have: a delay more
-abbrev pub lastTime : ℕ
-lastTime = 1000000000000
-
+-- the latest time that a transaction or a deadline can have: a delay more than the latest that a session reaches
 abbrev pub lastDue : ℕ
 lastDue = 1002147483647
 
@@ -56,7 +53,7 @@ pub record ProcessValid (M : Model) (p t : ℕ) (q : ProcessState) : Type 0 wher
 
 pub record Reachable (M : Model) (c : Configuration) : Type 0 where
   pub time : c .time ≤ lastTime
-  pub deltas : c .deltas ≤ 1000
+  pub deltas : c .deltas ≤ deltaLimit
   pub signals : length (c .signals) ≡ length (M .signals)
   pub histories : (s : ℕ) → s < length (M .signals) → length (getD (c .signals) s []) ≡ 32
   pub signal-values : (s k : ℕ) → s < length (M .signals) → k < 32 → ValueOf (signalAt M s .ty) (pastOf (c .signals) s k)

@@ -5,11 +5,11 @@ use mathlib.Core.Option.{Option, none, some}
 use Prim.Native.Nat.{ℕ, zero, suc, _+_, min}
 use lib.Dec.{eqb, ltb, leb}
 use lib.ListN.{length}
+use Rattle.rules.specs.Configuration.{deltaLimit, lastTime, Transaction, Configuration, driverIn, processIn, currentOf, ready, stopped}
 use Rattle.base.specs.Below.{anyBelow, joinBelow}
 use Rattle.base.specs.Cases.{_∣_, _⇒_}
 use Rattle.base.specs.Course.{firstWith}
 use Rattle.blocks.specs.Records.{Model}
-use Rattle.rules.specs.Configuration.{Transaction, Configuration, driverIn, processIn, currentOf, ready, stopped}
 use Rattle.rules.specs.Statements.{stepped}
 use Rattle.rules.specs.Steps.{transactionDue, deadlineDue, deltaStep, timeStep}
 
@@ -79,12 +79,12 @@ advanceDone n c = record { refusal = 0; byte = n; picks = 0; value = 0; after = 
 
 -- 16. "Something due now after 1,000 delta steps at this time."
 abbrev pub deltaOrder : Model → Configuration → Outcome
-deltaOrder M c = leb 1000 (c .deltas) ⇒ refused 16 c ∣ advanceDone 1 (deltaStep M c)
+deltaOrder M c = leb deltaLimit (c .deltas) ⇒ refused 16 c ∣ advanceDone 1 (deltaStep M c)
 
 -- 17. "Nothing is ever due." 18. "The time step would pass 1,000,000,000,000."
 abbrev pub timeOrder : Option ℕ → Configuration → Outcome
 timeOrder none c = refused 17 c
-timeOrder (some t) c = ltb 1000000000000 t ⇒ refused 18 c ∣ advanceDone 2 (timeStep t c)
+timeOrder (some t) c = ltb lastTime t ⇒ refused 18 c ∣ advanceDone 2 (timeStep t c)
 
 -- 14. "Advance: a process is ready." 15. "Advance: one is stopped."
 unfoldable pub advanced : Model → Configuration → Outcome

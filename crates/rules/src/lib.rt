@@ -9,3 +9,8 @@ pub const READY: usize = 0;
 pub const WAITING: usize = 1;
 
 pub const STOPPED: usize = 2;
+
+// How many delta steps are done at one time, and the latest time.
+pub const DELTA_LIMIT: u64 = 1000;
+
+pub const LAST_TIME: u64 = 1000000000000;

@@ -12,8 +12,8 @@ use Rattle.blocks.specs.Records.{Model, modelOf}
 use Rattle.model.specs.Facts.{Facts}
 use Rattle.model.specs.Rules.{refusalOf}
 use Rattle.model.proofs.Facts.{facts}
-use Rattle.rules.specs.Configuration.{Configuration, first}
-use Rattle.rules.specs.Invariant.{lastTime, Reachable}
+use Rattle.rules.specs.Configuration.{Configuration, first, lastTime}
+use Rattle.rules.specs.Invariant.{Reachable}
 use Rattle.rules.specs.Orders.{Outcome}
 use Rattle.rules.proofs.FirstReachable.{first-reachable}
 use Rattle.rules.proofs.Invariant.{picked-reachable, advanced-reachable, settled-reachable, read-reachable}

@@ -18,11 +18,11 @@ use Rattle.fields.specs.Facts.{Spans}
 use Rattle.blocks.specs.declared.records.StatementRecord.{StatementRecord}
 use Rattle.rules.specs.declared.value.Value.{Value}
 use Rattle.rules.specs.declared.value.Value.the-variants.{Of, Fault}
-use Rattle.rules.specs.Configuration.{ProcessState, ready, waiting}
+use Rattle.rules.specs.Configuration.{ProcessState, ready, waiting, lastTime}
 use Rattle.rules.specs.Evaluation.{Environment, evalOf}
 use Rattle.rules.specs.Statements.{nextPlace, stops}
 use Rattle.rules.specs.Steps.{inSet, deadlineAt, deadlineDue, wakes, wokenBy}
-use Rattle.rules.specs.Invariant.{lastTime, ProcessValid}
+use Rattle.rules.specs.Invariant.{ProcessValid}
 use Rattle.waveforms.specs.Pending.{never}
 use Rattle.steps.specs.Entries.{deadlineOf}
 use Rattle.steps.specs.Delta.{stateOf, entryOf, wokenFor, wokenIn, afterDelta, ProcessesValid, WokenTo}

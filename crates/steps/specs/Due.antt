@@ -5,11 +5,10 @@ use mathlib.Core.List.{List}
 use Prim.Native.Nat.{ℕ, min}
 use lib.Dec.{eqb, ltb, leb}
 use lib.ListN.{getD}
+use Rattle.rules.specs.Configuration.{deltaLimit, lastTime, ready, stopped}
 use Rattle.base.specs.Below.{anyBelow, listBelow}
 use Rattle.base.specs.Cases.{_∣_, _⇒_}
-use Rattle.rules.specs.Configuration.{ready, stopped}
 use Rattle.rules.specs.Orders.{least}
-use Rattle.rules.specs.Invariant.{lastTime}
 use Rattle.waveforms.specs.Pending.{never}
 use Rattle.steps.specs.declared.due.Due.{Due}
 
@@ -30,7 +29,7 @@ unfoldable pub refusalIn : List ℕ → ℕ → ℕ → ℕ → ℕ → ℕ
 refusalIn standings nprocesses t time deltas =
     someIs standings nprocesses ready ⇒ 14
     ∣ someIs standings nprocesses stopped ⇒ 15
-    ∣ eqb t time ⇒ (leb 1000 deltas ⇒ 16 ∣ 0)
+    ∣ eqb t time ⇒ (leb deltaLimit deltas ⇒ 16 ∣ 0)
     ∣ eqb t never ⇒ 17
     ∣ ltb lastTime t ⇒ 18
     ∣ 0

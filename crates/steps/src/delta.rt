@@ -6,7 +6,8 @@ ghost use Rattle.blocks.specs.Records.{modelOf};
 ghost use Rattle.fields.specs.Fields.{absent};
 ghost use Rattle.fields.specs.Facts.{Spans};
 ghost use Rattle.rules.specs.Steps.{wakes, wokenBy};
-ghost use Rattle.rules.specs.Invariant.{lastTime, ProcessValid};
+ghost use Rattle.rules.specs.Configuration.{lastTime};
+ghost use Rattle.rules.specs.Invariant.{ProcessValid};
 ghost use Rattle.expressions.specs.Reading.{arrays, Runs};
 ghost use Rattle.steps.specs.Delta.{SetOf, activeIn, ResolvedTo, stateOf, wokenFor, afterDelta, ProcessesValid, WokenTo};
 use crate::resolve::resolved;
@@ -18,7 +19,12 @@ use blocks::index::driver_at;
 use blocks::index::statement_at;
 use expressions::effect::next_place;
 use expressions::eval::eval;
+use fields::ABSENT;
+use rules::READY;
+use rules::STOPPED;
+use rules::WAITING;
 use rules::value::Value;
+use waveforms::driver::NEVER;
 
 // The set of the signals that have a driver with a transaction due at the time.
 pub fn actives<'a>(
@@ -98,8 +104,8 @@ fn woken<'a>(m: &'a [u8], index: &'a Index, p: usize, q: Process) -> Process
 {
     Process {
         place: next_place(m, index, p, q.place),
-        standing: 0,
-        deadline: 18446744073709551615,
+        standing: READY,
+        deadline: NEVER,
         fault: q.fault,
     }
 }
@@ -114,7 +120,7 @@ fn woken_by<'a>(m: &'a [u8], index: &'a Index, p: usize, q: Process, v: Value) -
     match v {
         Value::Fault(f) => Process {
             place: q.place,
-            standing: 2,
+            standing: STOPPED,
             deadline: q.deadline,
             fault: f,
         },
@@ -143,7 +149,7 @@ fn woken_if<'a>(
     requires { ⌜ ((b ≡ absent → ⊥) → b < length (modelOf (now m) .nodes)) ⌝ }
     ensures { λ r. ⌜ stateOf r ≡ wokenFor (modelOf (now (m .entry))) p (arrays (now (variables .entry)) (now (signals .entry))) b (stateOf q) ⌝ }
 {
-    if b == 65535 {
+    if b == ABSENT {
         return woken(m, index, p, q);
     }
     let v = eval(m, index, variables, signals, b);
@@ -167,7 +173,7 @@ fn after_delta<'a>(
     requires { ⌜ ProcessValid (modelOf (now m)) p time (stateOf q) ⌝ }
     ensures { λ r. ⌜ stateOf r ≡ afterDelta (modelOf (now (m .entry))) p time changed (arrays (now (variables .entry)) (now (signals .entry))) (stateOf q) ⌝ }
 {
-    if q.standing != 1 {
+    if q.standing != WAITING {
         return q;
     }
     if q.deadline == time {

@@ -4,6 +4,11 @@ ghost use Prim.Native.Nat.{_≤_, min};
 ghost use lib.ListN.{length};
 ghost use Rattle.steps.specs.Due.{soonestOf, someIs, refusalIn, DueIn};
 ghost use Rattle.waveforms.specs.Pending.{NoneBefore};
+use rules::DELTA_LIMIT;
+use rules::LAST_TIME;
+use rules::READY;
+use rules::STOPPED;
+use waveforms::driver::NEVER;
 
 // The refusal of an advance, or 0, and the earliest due time.
 pub struct Due {
@@ -11,7 +16,7 @@ pub struct Due {
     pub time: u64,
 }
 
-pub fn earlier(a: u64, b: u64) -> u64
+fn earlier(a: u64, b: u64) -> u64
     ensures { λ r. ⌜ r ≡ min a b ⌝ }
 {
     if a < b { a } else { b }
@@ -24,7 +29,7 @@ fn earliest(times: &[u64], n: usize, time: u64) -> u64
     requires { ⌜ NoneBefore time (now times) n ⌝ }
     ensures { λ r. ⌜ r ≡ soonestOf (now (times .entry)) n ⌝ }
 {
-    let mut t: u64 = 18446744073709551615;
+    let mut t: u64 = NEVER;
     let mut i = 0;
     while i < n {
         let x = times[i];
@@ -57,22 +62,22 @@ fn refusal(standings: &[usize; 16], nprocesses: usize, t: u64, time: u64, deltas
     requires { ⌜ nprocesses ≤ 16 ⌝ }
     ensures { λ r. ⌜ r ≡ refusalIn (now (standings .entry)) nprocesses t time deltas ⌝ }
 {
-    if any_standing(standings, nprocesses, 0) {
+    if any_standing(standings, nprocesses, READY) {
         return 14;
     }
-    if any_standing(standings, nprocesses, 2) {
+    if any_standing(standings, nprocesses, STOPPED) {
         return 15;
     }
     if t == time {
-        if deltas >= 1000 {
+        if deltas >= DELTA_LIMIT {
             return 16;
         }
         return 0;
     }
-    if t == 18446744073709551615 {
+    if t == NEVER {
         return 17;
     }
-    if t > 1000000000000 {
+    if t > LAST_TIME {
         return 18;
     }
     0

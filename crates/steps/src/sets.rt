@@ -8,7 +8,7 @@ ghost use Rattle.rules.specs.Steps.{inSet};
 ghost use Rattle.steps.specs.Delta.{SetOf};
 
 // Whether signal n is in the set.
-pub fn has(set: u32, n: usize) -> bool
+pub(crate) fn has(set: u32, n: usize) -> bool
     requires { ⌜ n < 32 ⌝ }
     ensures { λ r. ⌜ r ≡ inSet set n ⌝ }
 {
@@ -16,7 +16,7 @@ pub fn has(set: u32, n: usize) -> bool
 }
 
 // The set, with signal n where b holds.
-pub fn with(set: u32, n: usize, b: bool) -> u32
+pub(crate) fn with(set: u32, n: usize, b: bool) -> u32
     requires { ⌜ n < 32 ⌝ }
     ensures { λ r. ⌜ SetOf (λ s. inSet set s || (eqb n s && b)) r ⌝ }
 {
@@ -24,7 +24,7 @@ pub fn with(set: u32, n: usize, b: bool) -> u32
 }
 
 // Whether a signal is in both sets.
-pub fn meet(a: u32, b: u32) -> bool
+pub(crate) fn meet(a: u32, b: u32) -> bool
     ensures { λ r. ⌜ r ≡ anyBelow (λ s. inSet a s && inSet b s) 32 ⌝ }
 {
     a & b != 0

@@ -3,9 +3,12 @@ ghost use mathlib.Core.Path.{_≡_};
 ghost use mathlib.Core.List.{[], _∷_, _++_};
 ghost use Prim.Native.Nat.{ℕ, _≤_};
 ghost use lib.ListN.{drop};
-ghost use Rattle.rules.specs.Invariant.{lastTime};
+ghost use Rattle.rules.specs.Configuration.{lastTime};
 ghost use Rattle.waveforms.specs.Pending.{pendingOf, firstTime, NoneBefore};
 ghost use Rattle.waveforms.specs.Waveform.{Waveform, Kept, Nearer, ScheduledTo, Ahead, Elapsed};
+
+// Later than any time: stands for no transaction and no deadline.
+pub const NEVER: u64 = 18446744073709551615;
 
 pub struct Driver {
     pub times: [u32; 8],
@@ -114,7 +117,7 @@ impl Driver {
     {
         let n = self.count;
         if n == 0 {
-            return 18446744073709551615;
+            return NEVER;
         }
         now + self.times[0] as u64
     }
