@@ -8,6 +8,7 @@ pub mod damage;
 pub mod dump;
 pub mod gen;
 pub mod model;
+pub mod numbers;
 #[cfg(feature = "proved")]
 pub mod proved;
 pub mod rng;
