@@ -6,6 +6,7 @@ pub mod cases;
 pub mod cycle;
 pub mod damage;
 pub mod dump;
+pub mod edge;
 pub mod gen;
 pub mod model;
 pub mod numbers;
