@@ -26,11 +26,11 @@ proved: setup tools prove
 	rt staticlib exports
 	sh tests/run.sh
 	sh tests/examples.sh
-	$(CARGO) run $(PEER) --bin edge target/bin/playbench
 	$(PROVED) compare models 200000 1
 	$(PROVED) compare sessions 100000 1
 	$(PROVED) compare limits
 	KERNEL_LIB_DIR=$(LIB) sh tests/ghdl/run.sh 200 1
+	$(CARGO) run $(PEER) --bin edge target/bin/playbench
 
 bench: setup
 	rt staticlib exports

@@ -8,7 +8,7 @@
 
 mod sessions;
 
-use crate::cases::{inverter, inverter_orders};
+use crate::cases::{in_64_blocks, inverter, inverter_orders};
 use crate::numbers::{self, Counts};
 use crate::session;
 use sessions::{long_lines, RANDOM, RANDOM_SESSIONS};
@@ -119,8 +119,8 @@ fn judge_output(case: &Case, expected: &str, output: &Output) -> Result<(), Stri
 pub struct Findings {
     /// Sessions by number and lines printed, group by group.
     pub groups: Vec<(&'static str, Counts, usize)>,
-    /// Runs with a missing file or a failing write.
-    pub failing: usize,
+    /// Runs with a missing file, with pipes or with a failing write.
+    pub others: usize,
     pub wrong: Vec<String>,
 }
 
@@ -145,7 +145,7 @@ impl Findings {
 
     /// How often the program was run.
     pub fn runs(&self) -> u64 {
-        self.groups.iter().map(|g| g.1.sum()).sum::<u64>() + self.failing as u64
+        self.groups.iter().map(|g| g.1.sum()).sum::<u64>() + self.others as u64
     }
 
     pub fn print(&self) {
@@ -164,7 +164,7 @@ impl Findings {
             let (all, played) = (counts.sum(), counts.of(0));
             println!("{name}: {played} played, {} refused", all - played);
         }
-        println!("missing files and failing writes: {} runs", self.failing);
+        println!("missing files, pipes, failing writes: {} runs", self.others);
     }
 }
 
@@ -212,7 +212,7 @@ fn unreadable(program: Program, found: &mut Findings) -> Result<(), String> {
                 fs::create_dir(folder.0.join(name)).map_err(|e| e.to_string())?;
             }
             let output = folder.run(program, Stdio::piped())?;
-            found.failing += 1;
+            found.others += 1;
             if !output.told.contains(name) || !output.printed.is_empty() {
                 found.wrong.push(format!(
                     "{kind} `{name}`: standard error `{}` must name it, standard output `{}` must be empty",
@@ -220,6 +220,42 @@ fn unreadable(program: Program, found: &mut Findings) -> Result<(), String> {
                     output.printed.trim()
                 ));
             }
+        }
+    }
+    Ok(())
+}
+
+/// Pipes in place of the files, whose bytes come in two pieces: each is read to
+/// its end.
+fn piecemeal(program: Program, found: &mut Findings) -> Result<(), String> {
+    let model = in_64_blocks(&inverter().m);
+    for case in [
+        Case::new("the inverter", &model, &inverter_orders(), 0),
+        long_lines(),
+    ] {
+        let folder = Folder::new()?;
+        let mut writers = vec![];
+        for (name, bytes) in [("model", &case.model), ("orders", &case.orders)] {
+            folder.put(&format!("all of {name}"), bytes)?;
+            let script =
+                "mkfifo $0; (head -c 7 \"all of $0\"; sleep 0.1; tail -c +8 \"all of $0\") >$0";
+            let writer = Command::new("timeout")
+                .args(["10", "sh", "-c", script, name])
+                .current_dir(&folder.0)
+                .spawn();
+            writers.push(writer.map_err(|e| format!("sh: {e}"))?);
+            while !folder.0.join(name).exists() {
+                std::thread::yield_now();
+            }
+        }
+        let output = folder.run(program, Stdio::piped())?;
+        let expected = session::print(&case.model, &case.orders);
+        found.others += 1;
+        if let Err(e) = judge_output(&case, &expected, &output) {
+            found.wrong.push(format!("pipes, {}: {e}", case.name));
+        }
+        for mut writer in writers {
+            writer.wait().map_err(|e| format!("sh: {e}"))?;
         }
     }
     Ok(())
@@ -240,7 +276,7 @@ fn unwritable(program: Program, found: &mut Findings) -> Result<(), String> {
         let full = fs::OpenOptions::new().write(true).open("/dev/full");
         let full = full.map_err(|e| format!("/dev/full: {e}"))?;
         let output = folder.run(program, full.into())?;
-        found.failing += 1;
+        found.others += 1;
         if output.told.is_empty() {
             found.wrong.push(format!(
                 "a write that fails, {}: standard error is empty",
@@ -251,12 +287,13 @@ fn unwritable(program: Program, found: &mut Findings) -> Result<(), String> {
     Ok(())
 }
 
-/// Holds a program against the second kernel on the sessions, and with files and
-/// writes that fail; Err where it cannot be run.
+/// Holds a program against the second kernel on the sessions, with files and
+/// writes that fail and with pipes; Err where it cannot be run.
 pub fn examine(program: Program, groups: &[Group]) -> Result<Findings, String> {
     let mut found = Findings::default();
     play_all(program, groups, &mut found)?;
     unreadable(program, &mut found)?;
+    piecemeal(program, &mut found)?;
     unwritable(program, &mut found)?;
     Ok(found)
 }

@@ -7,14 +7,14 @@ use std::process::Command;
 const PROGRAM: &str = env!("CARGO_BIN_EXE_playbench");
 
 /// What is found about a shell script that runs the program as "$0", on the
-/// lengths and every tenth of the other sessions.
+/// lengths and every fortieth of the other sessions.
 fn found(script: &str) -> Findings {
     let mut groups: Vec<Group> = sessions();
     for (_, list) in &mut groups[2..] {
         let mut n = 0;
         list.retain(|_| {
             n += 1;
-            n % 10 == 1
+            n % 40 == 1
         });
     }
     let program = || {
@@ -83,4 +83,11 @@ fn silence_on_failures_is_found() {
 fn idle_talk_is_found() {
     let found = found("echo playing >&2; exec \"$0\"");
     assert!(wrong(&found, "64 blocks: standard error has `playing`"));
+}
+
+#[test]
+fn reading_a_part_is_found() {
+    let found = found("dd if=model of=m bs=32768 count=1 2>/dev/null; mv m model; exec \"$0\"");
+    assert!(wrong(&found, "pipes, the inverter"));
+    assert!(!wrong(&found, "64 blocks, each total at its limit"));
 }
