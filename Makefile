@@ -1,14 +1,17 @@
-# make run: plays the bundled example. make test: every test. Both install what is missing (Debian packages).
-.PHONY: run test peers proved bench tools setup clean
+# make run: plays the bundled example, within seconds. make prove: proves every crate. make test: every test; it installs what
+# is missing (Debian packages).
+.PHONY: run prove test peers proved bench tools setup clean
 
 LIB := $(CURDIR)/target/staticlib
 CARGO := cargo --quiet
 PEER := --release --offline --manifest-path tests/Cargo.toml
 PROVED := KERNEL_LIB_DIR=$(LIB) $(CARGO) run $(PEER) --features session --bin
 
-run: setup
-	rt check playbench
-	cd examples/inverter && $(CURDIR)/target/bin/playbench
+run:
+	@sh tools/run
+
+prove:
+	@tools/prove
 
 test: peers proved
 
@@ -16,16 +19,18 @@ test: peers proved
 peers: setup tools
 	rt fmt --check
 	$(CARGO) test $(PEER)
+	$(CARGO) test --release --offline --manifest-path tools/blocks/Cargo.toml
 
 # What runs the proved kernel.
-proved: setup tools
-	rt check playbench
+proved: setup tools prove
 	rt staticlib exports
+	sh tests/run.sh
 	sh tests/examples.sh
 	$(PROVED) compare models 200000 1
 	$(PROVED) compare sessions 100000 1
 	$(PROVED) compare limits
 	KERNEL_LIB_DIR=$(LIB) sh tests/ghdl/run.sh 200 1
+	$(CARGO) run $(PEER) --bin edge target/bin/playbench
 
 bench: setup
 	rt staticlib exports

@@ -1,8 +1,7 @@
 #!/bin/sh
-# Every comparison with GHDL: run.sh [N [SEED]], by default 200 models from 1.
-# The proved kernel's tables and runs are compared where
-# target/staticlib/libexports.a exists (rt staticlib exports), or libexports.a in
-# the folder KERNEL_LIB_DIR; else the second kernel's alone.
+# Every comparison with GHDL: run.sh [N [SEED]], by default 200 models from 1. The tables and runs are both kernels';
+# the proved one is target/staticlib/libexports.a (rt staticlib exports), or libexports.a in the folder KERNEL_LIB_DIR.
+# run.sh second [N [SEED]] compares the second kernel alone.
 set -eu
 here=$(cd "$(dirname "$0")" && pwd)
 lib=${KERNEL_LIB_DIR:-$here/../../target/staticlib}
@@ -11,13 +10,18 @@ trap 'rm -rf "$work"' EXIT
 run() {
     cargo run --quiet --release --offline --manifest-path "$here/../Cargo.toml" "$@"
 }
+alone=
+[ "${1:-}" != second ] || { alone=yes; shift; }
+if [ -z "$alone" ] && [ ! -f "$lib/libexports.a" ]; then
+    echo "run.sh: no $lib/libexports.a: rt staticlib exports makes it" >&2
+    exit 1
+fi
 "$here/tables.sh" "$work/tables"
 run --bin tables second "$work/tables"
-if [ -f "$lib/libexports.a" ]; then
+if [ -n "$alone" ]; then
+    run --bin ghdlrun "${1:-200}" "${2:-1}"
+else
     export KERNEL_LIB_DIR="$lib"
     run --features proved --bin tables proved "$work/tables"
     run --features session --bin ghdlrun "${1:-200}" "${2:-1}"
-else
-    echo "run.sh: no libexports.a: the proved kernel is left out" >&2
-    run --bin ghdlrun "${1:-200}" "${2:-1}"
 fi

@@ -139,6 +139,55 @@ pub fn time_turns(last: i32) -> Builder {
     turns(499, 2_000_000_000, &[last, 1])
 }
 
+/// A model in 64 blocks, the last ones empty.
+pub fn in_64_blocks(m: &Model) -> Vec<u8> {
+    let mut plan = full_plan(m);
+    let blocks: usize = plan.iter().map(Vec::len).sum();
+    plan[5].extend(vec![0; 64 - blocks]);
+    encode_with(m, &plan)
+}
+
+/// Every total at its limit, every tree as large as can be, 64 blocks.
+pub fn largest() -> Vec<u8> {
+    let mut b = Builder::new();
+    for _ in 0..32 {
+        b.signal(LOGIC, 2);
+    }
+    for v in 0..64u16 {
+        b.variable(INTEGER, (v / 4) as u8, 0);
+    }
+    // six trees of 64 nodes: sums of 32 leaves; then waits' and assignments' leaves
+    let mut roots = Vec::new();
+    for _ in 0..6 {
+        let mut sum = b.integer(1);
+        for _ in 0..31 {
+            let leaf = b.integer(1);
+            sum = b.node(11, sum, leaf, 0);
+        }
+        roots.push(sum);
+    }
+    let mut last = b.logic(3);
+    while b.m.nodes.len() < 400 {
+        last = b.node(6, last, 0, 0);
+    }
+    for p in 0..16 {
+        b.process();
+        for n in 0..if p < 8 { 13 } else { 12 } {
+            let root = roots[n % roots.len()];
+            match n % 2 {
+                0 => b.assign(4 * p, root),
+                _ => b.wait(1, ABSENT, root),
+            };
+        }
+    }
+    for p in 0..16 {
+        for s in 0..4 {
+            b.driver(p, 4 * (p as u16 % 8) + s);
+        }
+    }
+    in_64_blocks(&b.m)
+}
+
 /// Settle and advance, so often.
 pub fn rounds(n: usize, advances: usize) -> Vec<u8> {
     let round = [vec![(SETTLE, 0, 9)], vec![(ADVANCE, 0, 0); advances]].concat();

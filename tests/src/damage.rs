@@ -1285,6 +1285,7 @@ const TOP: i64 = 2_147_483_647;
 #[cfg(test)]
 mod tests {
     use super::*;
+    use crate::numbers;
 
     #[test]
     fn limits_come_out_as_said() {
@@ -1307,7 +1308,7 @@ mod tests {
     #[test]
     fn every_damage_comes_out_as_made() {
         let mut seen = std::collections::BTreeSet::new();
-        for rule in 1..=8 {
+        for &rule in numbers::MODEL {
             for seed in 0..4_000 {
                 let mut rng = Rng::new(seed);
                 let (name, bytes) = damaged(&mut rng, rule);

@@ -52,6 +52,50 @@ pub fn dump(config: &Config) -> [u8; DUMP] {
     out
 }
 
+/// How many words the proved kernel's dump has (crates/exports, specs/Dump).
+pub const WORDS: usize = 2326;
+
+/// Where word n stands in the layout of `dump`, and in how many bytes.
+fn place(n: usize) -> (usize, usize) {
+    match n {
+        0 => (0, 8),
+        1 => (8, 4),
+        2..6 => (12 + (n - 2), 1),
+        6..1030 => (16 + 4 * (n - 6), 4),
+        1030..1094 => (4112 + 4 * (n - 1030), 4),
+        1094..2246 => {
+            let (d, j) = ((n - 1094) / 18, (n - 1094) % 18);
+            let at = 4368 + 104 * d;
+            match j {
+                0 | 1 => (at + 4 * j, 4),
+                2..10 => (at + 8 + 8 * (j - 2), 8),
+                _ => (at + 72 + 4 * (j - 10), 4),
+            }
+        }
+        _ => {
+            let (p, j) = ((n - 2246) / 5, (n - 2246) % 5);
+            let at = 11024 + 16 * p;
+            [(at, 2), (at + 2, 1), (at + 3, 1), (at + 4, 1), (at + 8, 8)][j]
+        }
+    }
+}
+
+/// The proved kernel's words in the layout of `dump`; Err tells the first that
+/// its field cannot hold.
+pub fn pack(words: &[u64; WORDS]) -> Result<[u8; DUMP], String> {
+    let mut out = [0; DUMP];
+    for (n, word) in words.iter().enumerate() {
+        let (at, bytes) = place(n);
+        let word_bytes = word.to_le_bytes();
+        let (field, rest) = word_bytes.split_at(bytes);
+        if rest.iter().any(|&b| b != 0) {
+            return Err(format!("word {n} is {word}, too large for {bytes} bytes"));
+        }
+        out[at..at + bytes].copy_from_slice(field);
+    }
+    Ok(out)
+}
+
 #[cfg(test)]
 mod tests {
     use super::*;
@@ -103,44 +147,41 @@ mod tests {
             [2, 1, 1, 2, 1, 0, 0, 0, 6, 0, 0, 0, 0, 0, 0, 0]
         );
     }
-}
 
-/// How many words the proved kernel's dump has (crates/exports, specs/Dump).
-pub const WORDS: usize = 2326;
+    /// The words that a layout's fields hold.
+    fn words(dump: &[u8; DUMP]) -> [u64; WORDS] {
+        std::array::from_fn(|n| {
+            let (at, bytes) = place(n);
+            let mut word = [0; 8];
+            word[..bytes].copy_from_slice(&dump[at..at + bytes]);
+            u64::from_le_bytes(word)
+        })
+    }
 
-/// The proved kernel's words in the layout of `dump`.
-pub fn pack(words: &[u64; WORDS]) -> [u8; DUMP] {
-    let mut out = [0; DUMP];
-    let mut put = |at: usize, bytes: usize, word: u64| {
-        out[at..at + bytes].copy_from_slice(&word.to_le_bytes()[..bytes]);
-    };
-    put(0, 8, words[0]);
-    put(8, 4, words[1]);
-    for n in 0..4 {
-        put(12 + n, 1, words[2 + n]);
-    }
-    for n in 0..1024 {
-        put(16 + 4 * n, 4, words[6 + n]);
-    }
-    for n in 0..64 {
-        put(4112 + 4 * n, 4, words[1030 + n]);
-    }
-    for d in 0..64 {
-        let (from, to) = (1094 + 18 * d, 4368 + 104 * d);
-        put(to, 4, words[from]);
-        put(to + 4, 4, words[from + 1]);
-        for n in 0..8 {
-            put(to + 8 + 8 * n, 8, words[from + 2 + n]);
-            put(to + 72 + 4 * n, 4, words[from + 10 + n]);
+    #[test]
+    fn words_fill_the_layout_and_overlap_nowhere() {
+        let mut bytes = vec![0; DUMP];
+        for n in 0..WORDS {
+            let (at, many) = place(n);
+            bytes[at..at + many].iter_mut().for_each(|b| *b += 1);
+        }
+        let unused = |at: usize| at >= 11_024 && (5..8).contains(&(at % 16));
+        for (at, &times) in bytes.iter().enumerate() {
+            assert_eq!(times, !unused(at) as i32, "byte {at}");
         }
     }
-    for p in 0..16 {
-        let (from, to) = (2246 + 5 * p, 11024 + 16 * p);
-        put(to, 2, words[from]);
-        put(to + 2, 1, words[from + 1]);
-        put(to + 3, 1, words[from + 2]);
-        put(to + 4, 1, words[from + 3]);
-        put(to + 8, 8, words[from + 4]);
+
+    #[test]
+    fn packing_cuts_no_word() {
+        let full: [u64; WORDS] = std::array::from_fn(|n| u64::MAX >> (64 - 8 * place(n).1));
+        assert_eq!(words(&pack(&full).unwrap()), full);
+        for n in (0..WORDS).filter(|&n| place(n).1 < 8) {
+            for large in [full[n] + 1, 1 << 63] {
+                let mut words = full;
+                words[n] = large;
+                let message = pack(&words).unwrap_err();
+                assert!(message.starts_with(&format!("word {n} is {large},")));
+            }
+        }
     }
-    out
 }

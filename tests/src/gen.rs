@@ -4,6 +4,7 @@ use crate::builder::Builder;
 use crate::cycle::{Config, READY, STOPPED};
 use crate::damage;
 use crate::model::*;
+use crate::numbers;
 use crate::rng::Rng;
 use crate::session;
 
@@ -889,7 +890,7 @@ pub fn session_case(seed: u64) -> SessionCase {
     let rng = &mut rng;
     let form = rng.weighted(&[876, 80, 12, 12, 12, 8]);
     if form == 1 {
-        let rule = 1 + rng.below(8) as u32;
+        let rule = rng.choose(numbers::MODEL);
         let (what, model) = damage::damaged(rng, rule);
         let mut orders: Vec<u8> = (0..rng.below(20))
             .flat_map(|_| damaged_order(rng))
@@ -1004,7 +1005,7 @@ pub fn model_case(seed: u64) -> ModelCase {
             }
         }
         1 => {
-            let rule = 1 + rng.below(8) as u32;
+            let rule = rng.choose(numbers::MODEL);
             let (what, bytes) = damage::damaged(rng, rule);
             ModelCase {
                 bytes,

@@ -6,8 +6,10 @@ pub mod cases;
 pub mod cycle;
 pub mod damage;
 pub mod dump;
+pub mod edge;
 pub mod gen;
 pub mod model;
+pub mod numbers;
 #[cfg(feature = "proved")]
 pub mod proved;
 pub mod rng;

@@ -28,7 +28,7 @@ pub fn judge(model: &[u8]) -> u32 {
 #[cfg(feature = "session")]
 pub fn play(model: &[u8], orders: &[u8], answers: &mut [u8], words: &mut [u64]) -> u32 {
     // Safety: each pointer and length are those of one slice; the mutable ones do not overlap any other.
-    unsafe {
+    let number = unsafe {
         gontrafiby_session(
             model.as_ptr(),
             model.len(),
@@ -38,15 +38,21 @@ pub fn play(model: &[u8], orders: &[u8], answers: &mut [u8], words: &mut [u64]) 
             answers.len(),
             words.as_mut_ptr(),
             words.len(),
-        ) as u32
-    }
+        )
+    };
+    u32::try_from(number).expect("a session's number is small")
 }
 
-/// The same, with the end configuration in the second kernel's layout.
+/// The same, with the end configuration in the second kernel's layout; Err where it does not fit there.
 #[cfg(feature = "session")]
-pub fn session(model: &[u8], orders: &[u8], answers: &mut [u8], dump: &mut [u8]) -> u32 {
+pub fn session(
+    model: &[u8],
+    orders: &[u8],
+    answers: &mut [u8],
+    dump: &mut [u8],
+) -> Result<u32, String> {
     let mut words = [u64::MAX; WORDS];
     let number = play(model, orders, answers, &mut words);
-    dump[..DUMP].copy_from_slice(&pack(&words));
-    number
+    dump[..DUMP].copy_from_slice(&pack(&words)?);
+    Ok(number)
 }

@@ -1,5 +1,6 @@
 //! Runs generated cases through this kernel and, where given, another one;
-//! counts what came out and tells the first difference.
+//! counts what came out and tells the first difference. A large run in which a
+//! number of the papers is rare fails.
 
 use crate::cases;
 use crate::cycle::Config;
@@ -7,13 +8,25 @@ use crate::damage;
 use crate::dump::{dump, DUMP};
 use crate::gen;
 use crate::model::{judge, load, ABSENT};
+use crate::numbers::{self, Counts};
 use crate::session::session;
-use std::collections::BTreeMap;
+use std::collections::{BTreeMap, BTreeSet};
 
 /// Another kernel's judge: the number of a model.
 pub type Judge<'a> = &'a dyn Fn(&[u8]) -> u32;
-/// Another kernel's session: model, orders, answers and dump to its number.
-pub type Session<'a> = &'a dyn Fn(&[u8], &[u8], &mut [u8], &mut [u8]) -> u32;
+/// Another kernel's session: model, orders, answers and dump to its number, or
+/// why there is no dump.
+pub type Session<'a> = &'a dyn Fn(&[u8], &[u8], &mut [u8], &mut [u8]) -> Result<u32, String>;
+
+/// How often each number must occur among n cases: in one of 500, and in a
+/// small run not at all.
+fn least(n: u64) -> u64 {
+    if n < 10_000 {
+        0
+    } else {
+        n / 500
+    }
+}
 
 /// What `tally` and `compare` do: `models N SEED`, `sessions N SEED` or
 /// `limits`, in this kernel and in the other one where it is given.
@@ -27,7 +40,9 @@ pub fn run(name: &str, judge: Option<Judge>, session: Option<Session>) -> Result
     let cases = match arguments.first().map(String::as_str) {
         Some("models") => {
             let (n, seed) = (number(1, "N")?, number(2, "SEED")?);
-            models(n, seed, judge)?.print();
+            let counts = models(n, seed, judge)?;
+            counts.print();
+            counts.require(least(n))?;
             format!("{n} judged models from seed {seed} on")
         }
         Some("sessions") => {
@@ -35,14 +50,19 @@ pub fn run(name: &str, judge: Option<Judge>, session: Option<Session>) -> Result
             if judge.is_some() && session.is_none() {
                 return Err("this build has no sessions to compare".into());
             }
-            sessions(n, seed, session)?.print();
+            let counts = sessions(n, seed, session)?;
+            counts.print();
+            counts.require(least(n))?;
             format!("{n} sessions from seed {seed} on")
         }
         Some("limits") => {
             let counts = limits(judge, session)?;
             counts.print();
-            let cases = counts.models.iter().chain(&counts.sessions).sum::<u64>();
-            format!("{cases} limit cases")
+            counts.require()?;
+            format!(
+                "{} limit cases",
+                counts.models.sum() + counts.sessions.sum()
+            )
         }
         _ => {
             return Err(format!(
@@ -60,11 +80,11 @@ pub fn run(name: &str, judge: Option<Judge>, session: Option<Session>) -> Result
 pub struct ModelTally {
     pub cases: u64,
     /// Cases by number, 0 the accepted ones.
-    pub numbers: [u64; 9],
+    pub numbers: Counts,
     /// Damaged bytes by record kind and byte.
     pub bytes: [[u64; 12]; 6],
     /// Numbers by the way a case was made.
-    pub ways: BTreeMap<&'static str, [u64; 9]>,
+    pub ways: BTreeMap<&'static str, Counts>,
     /// Cases made to be accepted, and those that were.
     pub made: u64,
     pub made_accepted: u64,
@@ -94,8 +114,8 @@ pub fn models(n: u64, seed: u64, other: Option<Judge>) -> Result<ModelTally, Str
             ));
         }
         t.cases += 1;
-        t.numbers[number as usize] += 1;
-        t.ways.entry(case.what).or_default()[number as usize] += 1;
+        t.numbers.add(number);
+        t.ways.entry(case.what).or_default().add(number);
         if let Some((kind, byte)) = case.byte {
             t.bytes[kind as usize - 1][byte] += 1;
         }
@@ -107,12 +127,28 @@ pub fn models(n: u64, seed: u64, other: Option<Judge>) -> Result<ModelTally, Str
     Ok(t)
 }
 
+/// 0 and the numbers.
+fn with_none(numbers: &[u32]) -> Vec<u32> {
+    [&[0], numbers].concat()
+}
+
+/// A line of counts, one for each number.
+fn row(counts: &Counts, numbers: &[u32], width: usize) -> String {
+    let cell = |&n: &u32| format!("{:width$}", counts.of(n));
+    with_none(numbers).iter().map(cell).collect()
+}
+
 impl ModelTally {
+    /// Err where a number occurred less often than `least`.
+    pub fn require(&self, least: u64) -> Result<(), String> {
+        self.numbers.require("refusal", numbers::MODEL, least)
+    }
+
     pub fn print(&self) {
         println!("judged {} models", self.cases);
         println!("number      cases");
-        for (number, count) in self.numbers.iter().enumerate() {
-            println!("{number:6} {count:10}");
+        for number in with_none(numbers::MODEL) {
+            println!("{number:6} {:10}", self.numbers.of(number));
         }
         println!(
             "made to be accepted {}, accepted {}",
@@ -123,10 +159,13 @@ impl ModelTally {
             let row: Vec<String> = row.iter().map(|n| format!("{n:6}")).collect();
             println!("{:4} {}", kind + 1, row.join(""));
         }
-        println!("{:44} numbers 0 to 8", "how it was made");
-        for (way, row) in &self.ways {
-            let row: Vec<String> = row.iter().map(|n| format!("{n:7}")).collect();
-            println!("{way:44}{}", row.join(""));
+        println!(
+            "{:44} numbers {:?}",
+            "how it was made",
+            with_none(numbers::MODEL)
+        );
+        for (way, counts) in &self.ways {
+            println!("{way:44}{}", row(counts, numbers::MODEL, 7));
         }
     }
 }
@@ -135,17 +174,24 @@ impl ModelTally {
 #[derive(Default)]
 pub struct LimitTally {
     /// Judged models and played sessions by number.
-    pub models: [u64; 9],
-    pub sessions: [u64; 11],
+    pub models: Counts,
+    pub sessions: Counts,
 }
 
 impl LimitTally {
+    /// Err where a number does not occur.
+    pub fn require(&self) -> Result<(), String> {
+        self.models
+            .require("a limit model's refusal", numbers::MODEL, 1)?;
+        let own = [numbers::ORDERS, numbers::ANSWERS];
+        self.sessions.require("a limit session's refusal", &own, 1)
+    }
+
     pub fn print(&self) {
-        println!("limit models by number 0 to 8: {:?}", self.models);
-        println!(
-            "bench and limit sessions by number 0 to 10: {:?}",
-            self.sessions
-        );
+        let all = numbers::session();
+        println!("by number {:?}", with_none(&all));
+        println!("limit models              {}", row(&self.models, &all, 5));
+        println!("bench and limit sessions  {}", row(&self.sessions, &all, 5));
     }
 }
 
@@ -165,12 +211,12 @@ pub fn limits(other: Option<Judge>, session: Option<Session>) -> Result<LimitTal
                 ));
             }
         }
-        t.models[number as usize] += 1;
+        t.models.add(number);
     }
     for case in cases::sessions() {
         let (number, _) = play(&case.model, &case.orders, case.room, 0xA5, session)
             .map_err(|found| format!("limits: first difference at `{}`: {found}", case.name))?;
-        t.sessions[number as usize] += 1;
+        t.sessions.add(number);
     }
     Ok(t)
 }
@@ -192,7 +238,7 @@ fn play(
     if let Some(other) = other {
         let mut their_answers = vec![blank; room];
         let mut their_dump = vec![!blank; DUMP];
-        let theirs = other(model, orders, &mut their_answers, &mut their_dump);
+        let theirs = other(model, orders, &mut their_answers, &mut their_dump)?;
         let found = difference(
             (number, &answers, &dump(&config)),
             (theirs, &their_answers, &their_dump),
@@ -211,13 +257,13 @@ pub struct SessionTally {
     pub orders: u64,
     pub picks: u64,
     /// Sessions by number.
-    pub numbers: [u64; 11],
-    /// Refusals 11 to 19 by answers and by sessions.
-    pub answers: [u64; 20],
-    pub refused: [u64; 20],
-    /// Faults 1 to 3 by processes and by sessions.
-    pub faults: [u64; 4],
-    pub faulted: [u64; 4],
+    pub numbers: Counts,
+    /// Refused orders by answers and by sessions.
+    pub answers: Counts,
+    pub refused: Counts,
+    /// Faults by processes and by sessions.
+    pub faults: Counts,
+    pub faulted: Counts,
     /// Faults in a wait's condition.
     pub until: u64,
     /// Done orders: picks by new standing, settles by byte 1, delta steps,
@@ -307,18 +353,18 @@ fn difference(ours: Outcome, theirs: Outcome, orders: &[u8]) -> Option<String> {
 impl SessionTally {
     fn count(&mut self, case: &gen::SessionCase, number: u32, answers: &[u8], config: &Config) {
         self.sessions += 1;
-        self.numbers[number as usize] += 1;
+        self.numbers.add(number);
         if number != 0 {
             return;
         }
-        let mut refused = [false; 20];
+        let mut refused = BTreeSet::new();
         let before = self.steps[2];
         for (order, answer) in case.orders.chunks_exact(4).zip(answers.chunks_exact(16)) {
             self.orders += 1;
             self.picks += u16::from_le_bytes([answer[2], answer[3]]) as u64;
             if answer[0] != 0 {
-                self.answers[answer[0] as usize] += 1;
-                refused[answer[0] as usize] = true;
+                self.answers.add(answer[0] as u32);
+                refused.insert(answer[0] as u32);
                 continue;
             }
             match order[0] {
@@ -328,8 +374,8 @@ impl SessionTally {
                 _ => self.reads += 1,
             }
         }
-        for n in 0..20 {
-            self.refused[n] += refused[n] as u64;
+        for n in refused {
+            self.refused.add(n);
         }
         let depth = match self.steps[2] - before {
             0 => 0,
@@ -341,16 +387,16 @@ impl SessionTally {
         };
         self.depth[depth] += 1;
         let m = load(&case.model).expect("a played model is accepted");
-        let mut faulted = [false; 4];
+        let mut faulted = BTreeSet::new();
         for p in config.processes.iter().filter(|p| p.fault != 0) {
-            self.faults[p.fault as usize] += 1;
-            faulted[p.fault as usize] = true;
+            self.faults.add(p.fault as u32);
+            faulted.insert(p.fault as u32);
             let s = &m.statements[p.place as usize];
             let waited = p.deadline.is_some() || s.c == ABSENT;
             self.until += (s.kind == 5 && p.fault == 1 && waited) as u64;
         }
-        for n in 0..4 {
-            self.faulted[n] += faulted[n] as u64;
+        for n in faulted {
+            self.faulted.add(n);
         }
         for d in &config.drivers {
             self.pending[d.wave.len()] += 1;
@@ -359,22 +405,34 @@ impl SessionTally {
         self.varied += config.signals.iter().filter(varied).count() as u64;
     }
 
+    /// Err where a number occurred in fewer sessions than `least`.
+    pub fn require(&self, least: u64) -> Result<(), String> {
+        self.numbers
+            .require("session number", &numbers::session(), least)?;
+        self.refused
+            .require("sessions: refusal", numbers::ORDER, least)?;
+        self.faulted
+            .require("sessions: fault", numbers::FAULT, least)
+    }
+
     pub fn print(&self) {
         println!(
             "played {} sessions, {} orders, {} picks",
             self.sessions, self.orders, self.picks
         );
         println!("session number    sessions");
-        for (number, count) in self.numbers.iter().enumerate() {
-            println!("{number:14} {count:11}");
+        for n in with_none(&numbers::session()) {
+            println!("{n:14} {:11}", self.numbers.of(n));
         }
         println!("order refusal      answers   sessions");
-        for n in 11..20 {
-            println!("{n:13} {:12} {:10}", self.answers[n], self.refused[n]);
+        for &n in numbers::ORDER {
+            let (answers, sessions) = (self.answers.of(n), self.refused.of(n));
+            println!("{n:13} {answers:12} {sessions:10}");
         }
         println!("fault            processes   sessions");
-        for n in 1..4 {
-            println!("{n:5} {:20} {:10}", self.faults[n], self.faulted[n]);
+        for &n in numbers::FAULT {
+            let (processes, sessions) = (self.faults.of(n), self.faulted.of(n));
+            println!("{n:5} {processes:20} {sessions:10}");
         }
         println!("fault 1 in a wait's condition: {}", self.until);
         println!(
@@ -401,10 +459,10 @@ impl SessionTally {
 mod tests {
     use super::*;
 
-    fn own(model: &[u8], orders: &[u8], answers: &mut [u8], out: &mut [u8]) -> u32 {
-        let (number, config) = session(model, orders, answers);
+    fn own(m: &[u8], orders: &[u8], answers: &mut [u8], out: &mut [u8]) -> Result<u32, String> {
+        let (number, config) = session(m, orders, answers);
         out.copy_from_slice(&dump(&config));
-        number
+        Ok(number)
     }
 
     #[test]
@@ -427,35 +485,69 @@ mod tests {
 
     #[test]
     fn wrong_sessions_are_found() {
-        let number = |m: &[u8], o: &[u8], a: &mut [u8], d: &mut [u8]| match own(m, o, a, d) {
-            10 => 9,
-            n => n,
+        let number = |m: &[u8], o: &[u8], a: &mut [u8], d: &mut [u8]| match own(m, o, a, d)? {
+            10 => Ok(9),
+            n => Ok(n),
         };
         assert!(sessions(1_000, 5, Some(&number)).is_err());
         assert!(limits(Some(&judge), Some(&number)).is_err());
         let answer = |m: &[u8], o: &[u8], a: &mut [u8], d: &mut [u8]| {
-            let n = own(m, o, a, d);
+            let n = own(m, o, a, d)?;
             for x in a.chunks_exact_mut(16).filter(|x| n == 0 && x[0] == 18) {
                 x[8] ^= 1;
             }
-            n
+            Ok(n)
         };
         assert!(sessions(2_000, 5, Some(&answer)).is_err());
         let writes_when_refused = |m: &[u8], o: &[u8], a: &mut [u8], d: &mut [u8]| {
-            let n = own(m, o, a, d);
+            let n = own(m, o, a, d)?;
             if n != 0 {
                 a.fill(0);
             }
-            n
+            Ok(n)
         };
         assert!(sessions(1_000, 5, Some(&writes_when_refused)).is_err());
         let configuration = |m: &[u8], o: &[u8], a: &mut [u8], d: &mut [u8]| {
-            let n = own(m, o, a, d);
+            let n = own(m, o, a, d)?;
             d[16 + 124] = 0;
-            n
+            Ok(n)
         };
         let message = sessions(1_000, 5, Some(&configuration)).err().unwrap();
         assert!(message.contains("signal 0, 31 units ago"), "{message}");
+    }
+
+    #[test]
+    fn a_session_without_a_dump_is_told_with_its_seed() {
+        let none =
+            |_: &[u8], _: &[u8], _: &mut [u8], _: &mut [u8]| Err("word 1 is too large".to_string());
+        let message = sessions(1, 5, Some(&none)).err().unwrap();
+        assert!(message.contains("seed 5"), "{message}");
+        assert!(message.contains("word 1 is too large"), "{message}");
+    }
+
+    // What the runs of `make test` demand of 100,000 and more, in small.
+    #[test]
+    fn every_number_occurs() {
+        assert_eq!((least(1), least(9_999), least(200_000)), (0, 0, 400));
+        assert_eq!(models(1_000, 5, None).unwrap().require(2), Ok(()));
+        assert_eq!(limits(None, None).unwrap().require(), Ok(()));
+        assert_eq!(sessions(2_000, 5, None).unwrap().require(4), Ok(()));
+    }
+
+    #[test]
+    fn a_rare_number_is_an_error() {
+        let few = models(20, 5, None).unwrap();
+        assert!(few.require(0).is_ok() && few.require(6).is_err());
+        let mut played = sessions(2_000, 5, None).unwrap();
+        played.refused = Counts::default();
+        let message = played.require(1).unwrap_err();
+        for n in numbers::ORDER {
+            assert!(message.contains(&format!("refusal {n} ")), "{message}");
+        }
+        let mut played = sessions(2_000, 5, None).unwrap();
+        played.faulted = Counts::default();
+        assert!(played.require(1).unwrap_err().contains("fault 3"));
+        assert!(LimitTally::default().require().is_err());
     }
 
     // Seeds stand for the same cases for good within one build.

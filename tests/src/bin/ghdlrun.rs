@@ -15,7 +15,9 @@
 //! that never waits. GHDL must show the same changes of settled values and the
 //! same end: a failure at that time, or a stop by `--stop-delta`. Fault 3 is
 //! foreign to VHDL: such a run is compared up to the time before, and left out
-//! if no signal changes before. The exit code is 1 on any difference.
+//! if no signal changes before. The exit code is 1 on any difference, and with
+//! the feature `session` also where the proved kernel played too few: a run of
+//! more than 4,096 orders is the second kernel's, one lively model in ten at most.
 
 use second_kernel::builder::Builder;
 use second_kernel::cycle::{Config, Step, DELTA_LIMIT, NINTH, TIME_LIMIT};
@@ -127,13 +129,13 @@ fn run(m: &Model) -> Run {
 /// where there is no signal, or the list is longer than a session may be.
 #[cfg(feature = "session")]
 fn proved_rows(model: &[u8], orders: &[[u8; 4]], signals: usize) -> Option<Vec<Row>> {
+    if signals == 0 || orders.len() > 4_096 {
+        return None;
+    }
     let bytes = orders.concat();
     let mut answers = vec![0; 4 * bytes.len()];
     let number = second_kernel::proved::play(model, &bytes, &mut answers, &mut []);
-    if signals == 0 || number == 9 {
-        return None;
-    }
-    assert_eq!(number, 0, "the proved kernel refused a model");
+    assert_eq!(number, 0, "the proved kernel refused a session");
     let reads = answers.chunks_exact(16).zip(orders);
     let read: Vec<(u64, i32)> = reads
         .filter(|(_, o)| o[0] == 4)
@@ -271,6 +273,8 @@ struct Case {
     model: Model,
     /// The values are the proved kernel's.
     proved: bool,
+    /// A signal changes, as the second kernel has it.
+    lively: bool,
     stop: u64,
     changes: Vec<Row>,
     end: End,
@@ -285,12 +289,14 @@ impl Case {
             stop,
         } = run(&model);
         let proved = proved_rows(bytes, &orders, rows[0].1.len());
+        let second = changes(rows);
         Case {
             name,
             model,
             stop,
             proved: proved.is_some(),
-            changes: changes(proved.unwrap_or(rows)),
+            lively: second.len() > 1,
+            changes: proved.map_or(second, changes),
             end,
         }
     }
@@ -300,11 +306,6 @@ impl Case {
         let bytes = gen::session_case(seed).model;
         let model = model::load(&bytes).ok()?;
         Some(Case::new(format!("seed {seed}"), model, &bytes))
-    }
-
-    /// A signal changes.
-    fn lively(&self) -> bool {
-        self.changes.len() > 1
     }
 }
 
@@ -349,7 +350,7 @@ fn choose(n: usize, first: u64) -> Vec<Case> {
             break;
         }
         if let Some(case) = Case::of_seed(seed) {
-            left -= case.lively() as usize;
+            left -= case.lively as usize;
             cases.push(case);
         }
     }
@@ -439,16 +440,20 @@ fn main() {
             .into_iter()
             .flat_map(|at| (998..1_003).map(move |k| counted(at, k))),
     );
-    let mut counts: BTreeMap<End, [usize; 2]> = BTreeMap::new();
+    let mut counts: BTreeMap<End, [usize; 4]> = BTreeMap::new();
     for c in &cases {
-        counts.entry(c.end).or_default()[c.lively() as usize] += 1;
+        let row = counts.entry(c.end).or_default();
+        let at = 2 * !c.lively as usize;
+        row[at] += 1;
+        row[at + 1] += c.proved as usize;
     }
-    println!("  lively  others  end");
-    for (end, [still, lively]) in &counts {
-        println!("{lively:8}{still:8}  {end:?}");
+    println!("  lively  of them played by     others  of them played by");
+    println!("          the proved kernel             the proved kernel  end");
+    for (end, [lively, by_proved, others, others_proved]) in &counts {
+        println!("{lively:8}{by_proved:19}{others:11}{others_proved:19}  {end:?}");
     }
     let all = cases.len();
-    cases.retain(|c| c.end != End::Ninth || c.lively());
+    cases.retain(|c| c.end != End::Ninth || c.lively);
     println!(
         "{} models left out: fault 3 before any change",
         all - cases.len()
@@ -466,7 +471,13 @@ fn main() {
         bad.len()
     );
     let _ = std::fs::remove_dir_all(&dir);
-    if !bad.is_empty() {
+    let lively = cases.iter().filter(|c| c.lively);
+    let (many, by_proved) = lively.fold((0, 0), |(m, p), c| (m + 1, p + c.proved as usize));
+    let few = cfg!(feature = "session") && 10 * by_proved < 9 * many;
+    if few {
+        eprintln!("ghdlrun: the proved kernel played {by_proved} of {many} lively models, too few");
+    }
+    if few || !bad.is_empty() {
         exit(1)
     }
 }

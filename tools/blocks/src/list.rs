@@ -105,3 +105,64 @@ pub fn orders(bytes: &[u8]) -> String {
     }
     out
 }
+
+#[cfg(test)]
+mod tests {
+    use super::*;
+    use crate::text;
+    use second_kernel::rng::Rng;
+    use second_kernel::{cases, gen, session};
+
+    /// The model that a listing makes, if it is accepted.
+    fn made_again(m: &Model) -> Option<Model> {
+        load(&text::model(&model(m)).expect("a listing is a model text")).ok()
+    }
+
+    // A node used twice is made twice, a negative constant becomes a negation, and variables are numbered by process: the model
+    // made from a listing is another one, but it does the same, and its own listing makes exactly it. A driver that no statement
+    // uses is lost, so models that have one are passed over, and those that grow past a limit.
+    #[test]
+    fn a_listing_makes_a_model_that_does_the_same() {
+        let mut compared = 0;
+        for seed in 0..4_000 {
+            let mut rng = Rng::new(seed);
+            let m = gen::model(&mut rng);
+            let Some(again) = made_again(&m) else { continue };
+            assert_eq!(made_again(&again).as_ref(), Some(&again), "seed {seed}");
+            if again.drivers == m.drivers {
+                let orders = gen::orders(&mut rng, &m, 60);
+                let (ours, theirs) = (encode(&m), encode(&again));
+                assert_eq!(session::print(&ours, &orders), session::print(&theirs, &orders), "seed {seed}");
+                compared += 1;
+            }
+        }
+        assert!(compared > 500, "{compared} models compared");
+    }
+
+    #[test]
+    fn a_listing_of_the_inverter() {
+        let expected = "\
+signal s0 logic '0'
+signal s1 logic '0'
+process p0
+  -- drives s1
+  s1 <= (not s0) after 0
+  wait on s0
+process p1
+  -- drives s0
+  s0 <= '1' after 1
+  wait
+";
+        assert_eq!(model(&cases::inverter().m), expected);
+    }
+
+    #[test]
+    fn listed_orders_make_the_same_orders() {
+        let mut all = cases::orders(&[(cases::ADVANCE, 0, 0)]);
+        for n in 0..=255 {
+            all.extend(cases::orders(&[(cases::PICK, n, 0), (cases::READ, n, 0), (cases::SETTLE, 0, 257 * n as u16)]));
+        }
+        assert_eq!(text::orders(&orders(&all)), Ok(all));
+        assert_eq!(orders(&[2, 0, 0, 1, 4, 7, 0, 0]), "-- bytes [2, 0, 0, 1]\nread 7\n");
+    }
+}

@@ -1,0 +1,87 @@
+//! The numbers that the papers name. A large comparison must meet each of
+//! them: a new number is added here.
+
+use std::collections::BTreeMap;
+
+/// Refusals of a model.
+pub const MODEL: &[u32] = &[1, 2, 3, 4, 5, 6, 7, 8];
+/// Refusals of a session whose model is accepted: its orders, its answer buffer.
+pub const ORDERS: u32 = 9;
+pub const ANSWERS: u32 = 10;
+/// Refusals of an order.
+pub const ORDER: &[u32] = &[11, 12, 13, 14, 15, 16, 17, 18, 19];
+/// Faults that stop a process.
+pub const FAULT: &[u32] = &[1, 2, 3];
+
+/// Refusals of a session.
+pub fn session() -> Vec<u32> {
+    [MODEL, &[ORDERS, ANSWERS]].concat()
+}
+
+/// How often each number occurred.
+#[derive(Clone, Debug, Default)]
+pub struct Counts(BTreeMap<u32, u64>);
+
+impl Counts {
+    pub fn add(&mut self, number: u32) {
+        *self.0.entry(number).or_default() += 1;
+    }
+
+    pub fn of(&self, number: u32) -> u64 {
+        self.0.get(&number).copied().unwrap_or(0)
+    }
+
+    pub fn sum(&self) -> u64 {
+        self.0.values().sum()
+    }
+
+    /// Adds another's counts.
+    pub fn extend(&mut self, other: &Counts) {
+        for (&number, count) in &other.0 {
+            *self.0.entry(number).or_default() += count;
+        }
+    }
+
+    /// Err tells the numbers that occurred less often than `least`.
+    pub fn require(&self, what: &str, numbers: &[u32], least: u64) -> Result<(), String> {
+        let missed = numbers.iter().filter(|&&n| self.of(n) < least);
+        let missed: Vec<String> = missed
+            .map(|&n| format!("{what} {n} occurred {} times", self.of(n)))
+            .collect();
+        if missed.is_empty() {
+            return Ok(());
+        }
+        Err(format!("{}; at least {least} are due", missed.join(", ")))
+    }
+}
+
+#[cfg(test)]
+mod tests {
+    use super::*;
+
+    #[test]
+    fn what_is_missing_is_told() {
+        let mut counts = Counts::default();
+        for n in [1, 1, 2, 19] {
+            counts.add(n);
+        }
+        assert_eq!((counts.of(1), counts.of(3), counts.sum()), (2, 0, 4));
+        assert_eq!(counts.require("refusal", &[1, 2, 19], 1), Ok(()));
+        assert_eq!(counts.require("refusal", &[3], 0), Ok(()));
+        let message = counts.require("refusal", &[1, 2, 3], 2).unwrap_err();
+        assert_eq!(
+            message,
+            "refusal 2 occurred 1 times, refusal 3 occurred 0 times; at least 2 are due"
+        );
+    }
+
+    #[test]
+    fn the_base_is_listed_and_no_number_twice() {
+        let mut all = [session(), ORDER.to_vec()].concat();
+        assert!((1..=19).all(|n| all.contains(&n)));
+        let many = all.len();
+        all.sort();
+        all.dedup();
+        assert_eq!(all.len(), many);
+    }
+}
