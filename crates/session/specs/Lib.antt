@@ -3,4 +3,3 @@ pub mod Sessions
 pub mod Text
 pub mod ListLaws
 pub mod Demand3
-pub mod Bench

@@ -1,14 +1,16 @@
--- The lines that the program prints: "a line per answer: refusal, byte 1, picks, value (bytes 4-7, signed), time, in base ten with
+-- The text that the program prints: "a line per answer: refusal, byte 1, picks, value (bytes 4-7, signed), time, in base ten with
 -- one space between (a refused session: its number alone)".
 use mathlib.Core.Path.{_≡_}
 use mathlib.Core.List.{List, [], _∷_, _++_}
-use Prim.Native.Nat.{ℕ, suc, _+_, _*_, _-_, _^_}
-use lib.Dec.{ltb}
-use lib.ListN.{length, take}
+use Prim.Native.Nat.{ℕ, suc, _+_, _*_, _-_, _/_, _^_}
+use lib.Dec.{eqb, ltb}
+use lib.ListN.{length, take, drop, replicate}
+use Rattle.base.specs.Below.{listBelow}
 use Rattle.base.specs.Bytes.{byteAt, wordAt, longAt}
 use Rattle.base.specs.Cases.{_∣_, _⇒_}
 use Rattle.base.specs.Course.{firstWith}
 use Rattle.io.specs.Digits.{digits}
+use Rattle.session.specs.Sessions.{Session, sessionOf}
 
 -- how many digits a number below 10 ^ 20 has in base ten
 unfoldable pub placesOf : ℕ → ℕ
@@ -51,6 +53,23 @@ lineOf a =
 -- the line of a refused session
 abbrev pub numberLineOf : ℕ → List ℕ
 numberLineOf n = ended (decimalOf n) lineFeed
+
+-- the answers that a buffer holds, 16 bytes each
+unfoldable pub answersIn : List ℕ → List (List ℕ)
+answersIn buffer = listBelow (λ i. take 16 (drop (16 * i) buffer)) (length buffer / 16)
+
+-- the lines of some answers, one after the other
+abbrev pub linesOf : List (List ℕ) → List ℕ
+linesOf [] = []
+linesOf (a ∷ rest) = lineOf a ++ linesOf rest
+
+-- the text of a session: "a line per answer [..] (a refused session: its number alone)"
+unfoldable pub sessionText : Session → List ℕ
+sessionText s = eqb (s .number) 0 ⇒ linesOf (answersIn (s .buffer)) ∣ numberLineOf (s .number)
+
+-- the text that the program prints for a model and orders, any bytes: the answer buffer is four times as long as the orders
+unfoldable pub textOf : List ℕ → List ℕ → List ℕ
+textOf model orders = sessionText (sessionOf model orders (replicate (4 * length orders) 0))
 
 -- `old` became `new` by a text that was written at `at`, and r is the place behind it
 pub record Written (text old new : List ℕ) (at r : ℕ) : Type 0 where

@@ -4,10 +4,7 @@ pub mod play;
 pub mod text;
 
 ghost use mathlib.Core.Path.{_≡_};
-ghost use lib.ListN.{length};
 ghost use Rattle.base.specs.Rules.{firstFailing};
-ghost use Rattle.values.specs.Bench.{Holds};
-ghost use Rattle.session.specs.Bench.{rows, BenchPlayed};
 ghost use Rattle.session.specs.Demand3.{Determinate};
 ghost use Rattle.session.specs.ListLaws.{ListLaws};
 ghost use Rattle.session.specs.Sessions.{lengthRules, SessionIs};
@@ -64,13 +61,4 @@ pub fn session(model: &[u8], orders: &[u8], answers: &mut [u8]) -> Ended
         number: 0,
         config: play(c, model, &index, orders, answers),
     }
-}
-
-// How many rows the proved table of the bench has; that they hold, and that the inverter is played as printed.
-pub fn bench_rows() -> usize
-    ensures { λ r. ⌜ r ≡ length rows ⌝ }
-    ensures { λ r. ⌜ Holds rows ⌝ }
-    ensures { λ r. ⌜ BenchPlayed ⌝ }
-{
-    17
 }

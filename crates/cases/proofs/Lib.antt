@@ -1,0 +1,5 @@
+pub mod Rules
+pub mod Bench
+pub mod Blocks
+pub mod Inverter
+pub mod Claims

@@ -1,0 +1,100 @@
+-- The proved table of the bench, whole: "The cases marked [p] form one table, carried by one theorem over its rows."
+-- A case of this layer is a small model and a list of orders, played from the model's first configuration.
+use mathlib.Core.Path.{_≡_}
+use mathlib.Core.List.{List, [], _∷_, map, _++_}
+use Prim.Native.Nat.{ℕ}
+use lib.ListN.{length, getD}
+use Rattle.base.specs.Bytes.{byteAt, wordAt, longAt}
+use Rattle.values.specs.Nine.{U, X, ‘0’, ‘-’, W, L}
+use Rattle.values.specs.Bench as Values
+use Rattle.values.specs.Bench.{Row, _gives_}
+use Rattle.blocks.specs.Records.{Model}
+use Rattle.model.specs.Rules.{Accepted}
+use Rattle.trees.specs.Trees.{integer}
+use Rattle.rules.specs.Configuration.{Configuration, driverIn, first}
+use Rattle.session.specs.Lists.{Order, played}
+use Rattle.cases.specs.Forms.{signal, variable, process, driver, node, statement, pickOrder, settleOrder}
+
+-- the end configuration of a list of orders, and the answer to order n of it
+abbrev pub after : Model → List Order → Configuration
+after M os = played M os (first M) .end
+
+abbrev pub answerTo : Model → List Order → ℕ → List ℕ
+answerTo M os n = getD (played M os (first M) .answers) n []
+
+-- of an answer: byte 1, the picks made, a pick's fault
+abbrev pub saidIn : List ℕ → ℕ
+saidIn a = byteAt a 1
+
+abbrev pub picksIn : List ℕ → ℕ
+picksIn a = wordAt a 2
+
+abbrev pub faultIn : List ℕ → ℕ
+faultIn a = longAt a 4
+
+-- variable 0 starts at 2,147,483,646. Process 0: variable 0 := variable 0 + 1
+abbrev pub adder : Model
+adder =
+    record {
+      signals = [];
+      variables = variable integer 0 2147483646 ∷ [];
+      processes = process 0 1 ∷ [];
+      drivers = [];
+      nodes = node 3 0 0 0 ∷ node 1 0 0 1 ∷ node 11 0 1 0 ∷ [];
+      statements = statement 1 0 2 0 0 ∷ [];
+    }
+
+-- "[p] 2,147,483,646 + 1 fits; one more is fault 1."
+unfoldable pub sumRows : List Row
+sumRows =
+    (faultIn (answerTo adder (pickOrder 0 ∷ []) 0) gives 0)
+    ∷ (getD (after adder (pickOrder 0 ∷ []) .variables) 0 0 gives 2147483647)
+    ∷ (faultIn (answerTo adder (pickOrder 0 ∷ pickOrder 0 ∷ []) 1) gives 1)
+    ∷ []
+
+-- "[p] A settle with count 0 on a ready process answers 1 with 0 picks."
+unfoldable pub settleRows : List Row
+settleRows =
+    (saidIn (answerTo adder (settleOrder 0 ∷ []) 0) gives 1)
+    ∷ (picksIn (answerTo adder (settleOrder 0 ∷ []) 0) gives 0)
+    ∷ []
+
+-- variable 0 starts at 1. Process 0: signal 0 <= variable 0 after variable 0; variable 0 := variable 0 + 1
+abbrev pub scheduler : Model
+scheduler =
+    record {
+      signals = signal integer 0 ∷ [];
+      variables = variable integer 0 1 ∷ [];
+      processes = process 0 2 ∷ [];
+      drivers = driver 0 0 ∷ [];
+      nodes = node 3 0 0 0 ∷ node 1 0 0 1 ∷ node 11 0 1 0 ∷ [];
+      statements = statement 2 0 0 0 0 ∷ statement 1 0 2 0 0 ∷ [];
+    }
+
+-- how many transactions driver 0 has pending after a list of orders
+abbrev pub pendingAfter : List Order → ℕ
+pendingAfter os = length (driverIn (after scheduler os .drivers) 0 .pending)
+
+-- "[p] With seven pending, an eighth later one is kept; a ninth later one is fault 3."
+unfoldable pub pendingRows : List Row
+pendingRows =
+    (pendingAfter (settleOrder 14 ∷ []) gives 7)
+    ∷ (pendingAfter (settleOrder 14 ∷ pickOrder 0 ∷ []) gives 8)
+    ∷ (faultIn (answerTo scheduler (settleOrder 14 ∷ pickOrder 0 ∷ []) 1) gives 0)
+    ∷ (pendingAfter (settleOrder 16 ∷ pickOrder 0 ∷ []) gives 8)
+    ∷ (faultIn (answerTo scheduler (settleOrder 16 ∷ pickOrder 0 ∷ []) 1) gives 3)
+    ∷ []
+
+unfoldable pub rows : List Row
+rows = Values.rows ++ sumRows ++ settleRows ++ pendingRows
+
+-- what the paper says, case by case: the table has a row for each
+pub record TableWhole : Type 0 where
+  pub resolutions : map (λ r. r .said) Values.rows ≡ X ∷ W ∷ L ∷ ‘0’ ∷ U ∷ ‘-’ ∷ X ∷ []
+  pub sums : map (λ r. r .said) sumRows ≡ 0 ∷ 2147483647 ∷ 1 ∷ []
+  pub settles : map (λ r. r .said) settleRows ≡ 1 ∷ 0 ∷ []
+  pub pendings : map (λ r. r .said) pendingRows ≡ 7 ∷ 8 ∷ 0 ∷ 8 ∷ 3 ∷ []
+  pub all : length rows ≡ 17
+  -- the models that it plays are accepted
+  pub adder-accepted : Accepted adder
+  pub scheduler-accepted : Accepted scheduler

@@ -1,0 +1,130 @@
+-- The claims over all models and lists of orders, used on the inverter. Each fact stands with the part of the claim that proves
+-- it: a claim with a premise more, or with a part less, is no proof of it.
+use mathlib.Core.Path.{_≡_, refl, sym, _∙_}
+use mathlib.Core.Bool.{Bool, true, _&&_}
+use mathlib.Core.Logic.{_≢_}
+use mathlib.Core.List.{List, [], _∷_}
+use Prim.Native.Nat.{ℕ, zero, suc, _-_, _≤_, _<_}
+use native.Mathlib.Omega.{arith}
+use borrow.Author.Tests.{ltb-true}
+use lib.Dec.{ltb}
+use lib.ListN.{getD}
+use Rattle.base.proofs.Below.{and-left, and-right}
+use Rattle.determinacy.specs.Kernel.{Kernel, NormalForm}
+use Rattle.determinacy.specs.Determinacy.{Tally, Exactly, Alike, Behind}
+use Rattle.blocks.specs.Records.{modelOf}
+use Rattle.model.specs.Rules.{refusalOf}
+use Rattle.rules.specs.Configuration.{Configuration, first}
+use Rattle.rules.specs.Orders.{Outcome, refused}
+use Rattle.session.specs.Lists.{performed, answered, played}
+use Rattle.session.specs.Sessions.{sessionOf}
+use Rattle.session.specs.Demand3.{Bytes, kernelOf, tallyOf, Determinate}
+use Rattle.session.specs.ListLaws.{ListLaws}
+use Rattle.cases.specs.Forms.{pickOrder, advanceOrder, settleOrder, orderBytes}
+use Rattle.cases.specs.Inverter.{inverter, inverterBytes, inverterOrders, inverterOrderBytes}
+
+-- a fact, and what proves it
+infix 2 _by_
+abbrev pub _by_ : (A : Type 0) → A → Type 0
+A by proof = A
+
+-- bytes: each number is below 256
+abbrev pub areBytes : List ℕ → Bool
+areBytes [] = true
+areBytes (x ∷ l) = ltb x 256 && areBytes l
+
+pub small-at : (l : List ℕ) → areBytes l ≡ true → (i : ℕ) → getD l i 0 < 256
+small-at [] h i = omega arith
+small-at (x ∷ l) h zero = ltb-true x 256 (and-left (ltb x 256) (areBytes l) h)
+small-at (x ∷ l) h (suc i) = small-at l (and-right (ltb x 256) (areBytes l) h) i
+
+abbrev pub asBytes : (l : List ℕ) → areBytes l ≡ true → Bytes
+asBytes l h = record { bytes = l; small = small-at l h }
+
+-- the bench's list of orders
+abbrev pub settling : Bytes
+settling = asBytes inverterOrderBytes refl
+
+-- single picks, process 1 before process 0, and the same advances
+abbrev pub picking : Bytes
+picking =
+    asBytes
+    (orderBytes
+    (pickOrder 1 ∷ pickOrder 0 ∷ pickOrder 1 ∷ pickOrder 0
+    ∷ advanceOrder ∷ advanceOrder ∷ advanceOrder
+    ∷ pickOrder 0 ∷ pickOrder 0
+    ∷ advanceOrder
+    ∷ []))
+    refl
+
+-- the bench's list up to the second settle, and without it
+abbrev pub woken : Bytes
+woken = asBytes (orderBytes (settleOrder 10 ∷ advanceOrder ∷ advanceOrder ∷ advanceOrder ∷ settleOrder 10 ∷ [])) refl
+
+abbrev pub waking : Bytes
+waking = asBytes (orderBytes (settleOrder 10 ∷ advanceOrder ∷ advanceOrder ∷ advanceOrder ∷ [])) refl
+
+abbrev pub kernel : Kernel
+kernel = kernelOf (modelOf inverterBytes)
+
+abbrev pub tally : Bytes → Tally Configuration
+tally xs = tallyOf (modelOf inverterBytes) xs
+
+-- a list comes to p picks and a done advances
+pub record Comes (xs : Bytes) (p a : ℕ) : Type 0 where
+  pub picks : tally xs .picks ≡ p
+  pub advances : tally xs .advances ≡ a
+
+-- and ends with no process ready
+pub record Ends (xs : Bytes) (p a : ℕ) : Type 0 where
+  pub comes : Comes xs p a
+  pub quiet : NormalForm kernel (tally xs .end)
+
+-- demand 3 on the inverter: what it says of two lists with equally many advances, where both end with no process ready, and where
+-- the first does
+module _ (demand3 : Determinate) (accepted : refusalOf inverterBytes ≡ 0) {a p q : ℕ} where
+  abbrev pub alike : (xs ys : Bytes) → Ends xs p a → Ends ys q a → Alike kernel (tally xs) (tally ys)
+  alike xs ys x y = demand3 inverterBytes accepted .alike xs ys (x .quiet) (y .quiet) (x .comes .advances ∙ sym (y .comes .advances))
+
+  abbrev pub behind : (xs ys : Bytes) → Ends xs p a → Comes ys q a → Behind kernel (tally xs) (tally ys)
+  behind xs ys x y = demand3 inverterBytes accepted .behind xs ys (x .quiet) (x .comes .advances ∙ sym (y .advances))
+
+-- Demand 3
+pub record InverterDetermined : Type 0 where
+  pub accepted : refusalOf inverterBytes ≡ 0
+  pub demand3 : Determinate
+  pub settling-ends : Ends settling 6 4
+  pub picking-ends : Ends picking 6 4
+  pub woken-ends : Ends woken 6 3
+  pub waking-comes : Comes waking 4 3
+  -- the order and choice of picks changes neither their number nor the end
+  pub same-picks : tally settling .picks ≡ tally picking .picks by alike demand3 accepted settling picking settling-ends picking-ends .same-picks
+  pub same-end : tally settling .end ≡ tally picking .end by alike demand3 accepted settling picking settling-ends picking-ends .same-end
+  -- without its last settle the list is behind by the two picks of process 0, and these lead to the same end
+  pub at-most : tally waking .picks ≤ tally woken .picks by behind demand3 accepted woken waking woken-ends waking-comes .at-most
+  pub missing : Exactly kernel (tally woken .picks - tally waking .picks) (tally waking .end) (tally woken .end)
+      by behind demand3 accepted woken waking woken-ends waking-comes .still-to-do
+  pub two-missing : Exactly kernel 2 (tally waking .end) (tally woken .end)
+  pub first-ready : kernel .ready 0 (tally waking .end) ≡ true
+  pub second-ready : kernel .ready 0 (kernel .step 0 (tally waking .end)) ≡ true
+  pub lead-there : kernel .step 0 (kernel .step 0 (tally waking .end)) ≡ tally woken .end
+      by (two-missing .1 0 first-ready .1 0 second-ready) .1
+
+-- an advance before any pick
+abbrev pub early : Outcome
+early = performed inverter advanceOrder (first inverter)
+
+-- Laws of lists of orders
+pub record InverterLaws : Type 0 where
+  pub accepted : refusalOf inverterBytes ≡ 0
+  pub laws : ListLaws
+  -- it is refused with 14
+  pub refusal : early .refusal ≡ 14
+  pub not-done : early .refusal ≢ 0
+  pub kept : early ≡ refused (early .refusal) (first inverter) by laws .refused-kept inverter advanceOrder (first inverter) not-done
+  pub played-on :
+      played inverter (advanceOrder ∷ inverterOrders) (first inverter)
+      ≡ answered (refused (early .refusal) (first inverter)) (played inverter inverterOrders (first inverter))
+      by laws .after-refused inverter advanceOrder inverterOrders (first inverter) not-done
+  pub no-orders : sessionOf inverterBytes [] [] ≡ record { number = 0; end = first (modelOf inverterBytes); buffer = [] }
+      by laws .no-orders inverterBytes accepted

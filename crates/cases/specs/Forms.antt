@@ -1,0 +1,53 @@
+-- Records, blocks and orders, written with their fields in the paper's order.
+use mathlib.Core.Bool.{true}
+use mathlib.Core.List.{List, [], _∷_, _++_}
+use Prim.Native.Nat.{ℕ, _*_, _-_, _/_, _%_}
+use lib.ListN.{replicate}
+use Rattle.blocks.specs.declared.records.SignalRecord.{SignalRecord}
+use Rattle.blocks.specs.declared.records.VariableRecord.{VariableRecord}
+use Rattle.blocks.specs.declared.records.ProcessRecord.{ProcessRecord}
+use Rattle.blocks.specs.declared.records.DriverRecord.{DriverRecord}
+use Rattle.blocks.specs.declared.records.NodeRecord.{NodeRecord}
+use Rattle.blocks.specs.declared.records.StatementRecord.{StatementRecord}
+use Rattle.session.specs.Lists.{Order}
+
+-- records
+abbrev pub signal : ℕ → ℕ → SignalRecord
+signal ty start = record { ty = ty; start = start; zeros = true }
+
+abbrev pub variable : ℕ → ℕ → ℕ → VariableRecord
+variable ty process start = record { ty = ty; process = process; start = start; zeros = true }
+
+abbrev pub process : ℕ → ℕ → ProcessRecord
+process from count = record { first = from; count = count; zeros = true }
+
+abbrev pub driver : ℕ → ℕ → DriverRecord
+driver process signal = record { process = process; signal = signal; zeros = true }
+
+abbrev pub node : ℕ → ℕ → ℕ → ℕ → NodeRecord
+node kind a b k = record { kind = kind; a = a; b = b; k = k; zeros = true }
+
+abbrev pub statement : ℕ → ℕ → ℕ → ℕ → ℕ → StatementRecord
+statement kind a b c set = record { kind = kind; a = a; b = b; c = c; set = set; zeros = true }
+
+-- orders
+abbrev pub pickOrder : ℕ → Order
+pickOrder p = record { kind = 1; argument = p; count = 0 }
+
+abbrev pub advanceOrder : Order
+advanceOrder = record { kind = 2; argument = 0; count = 0 }
+
+abbrev pub settleOrder : ℕ → Order
+settleOrder n = record { kind = 3; argument = 0; count = n }
+
+abbrev pub readOrder : ℕ → Order
+readOrder s = record { kind = 4; argument = s; count = 0 }
+
+-- a block: its number, its kind, its records, and the two bytes of its sum
+abbrev pub block : ℕ → ℕ → ℕ → List ℕ → ℕ → ℕ → List ℕ
+block n kind count records low high = n ∷ 0 ∷ kind ∷ count ∷ records ++ (replicate (506 - 12 * count) 0 ++ (low ∷ high ∷ []))
+
+-- the bytes of some orders
+abbrev pub orderBytes : List Order → List ℕ
+orderBytes [] = []
+orderBytes (o ∷ os) = o .kind ∷ o .argument ∷ o .count % 256 ∷ o .count / 256 ∷ orderBytes os

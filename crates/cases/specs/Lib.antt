@@ -1,0 +1,4 @@
+pub mod Forms
+pub mod Bench
+pub mod Inverter
+pub mod Claims

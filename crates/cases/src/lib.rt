@@ -1,0 +1,34 @@
+// The bench cases of document 01, by the definitions alone: the proved table, what the inverter prints, and the claims over all
+// models and lists of orders, used on the inverter.
+ghost use mathlib.Core.Path.{_≡_};
+ghost use lib.ListN.{length};
+ghost use Rattle.values.specs.Bench.{Holds};
+ghost use Rattle.cases.specs.Bench.{rows, TableWhole};
+ghost use Rattle.cases.specs.Inverter.{inverterLines, InverterPlayed};
+ghost use Rattle.cases.specs.Claims.{settling, tally, InverterDetermined, InverterLaws};
+
+// How many rows the proved table has; that they hold, and that none is missing.
+pub fn bench_rows() -> usize
+    ensures { λ r. ⌜ r ≡ length rows ⌝ }
+    ensures { λ r. ⌜ Holds rows ⌝ }
+    ensures { λ r. ⌜ TableWhole ⌝ }
+{
+    17
+}
+
+// How many lines are printed of the inverter; that it is accepted and these are printed, and what refused orders leave of it.
+pub fn inverter_lines() -> usize
+    ensures { λ r. ⌜ r ≡ length inverterLines ⌝ }
+    ensures { λ r. ⌜ InverterPlayed ⌝ }
+    ensures { λ r. ⌜ InverterLaws ⌝ }
+{
+    8
+}
+
+// How many picks the inverter's orders make; that picks in another order are as many and lead to the same end.
+pub fn inverter_picks() -> usize
+    ensures { λ r. ⌜ r ≡ tally settling .picks ⌝ }
+    ensures { λ r. ⌜ InverterDetermined ⌝ }
+{
+    6
+}
