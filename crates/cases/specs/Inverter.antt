@@ -12,7 +12,7 @@ use Rattle.model.specs.Rules.{refusalOf}
 use Rattle.trees.specs.Trees.{logic}
 use Rattle.session.specs.Lists.{Order, ordersOf}
 use Rattle.session.specs.Sessions.{sessionOf}
-use Rattle.session.specs.Text.{lineFeed, ended, textOf}
+use Rattle.text.specs.Text.{lineFeed, ended, textOf}
 use Rattle.cases.specs.Forms.{signal, process, driver, node, statement, block, advanceOrder, settleOrder, readOrder}
 
 -- "Inverter: signals 0 = i, 1 = o, logic, both starting at value 0 (code 2). Process 0: o <= not i after 0; wait on i. Process

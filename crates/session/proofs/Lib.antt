@@ -5,4 +5,3 @@ pub mod PlayLaws
 pub mod SessionLaws
 pub mod InTime
 pub mod ListLaws
-pub mod TextLaws

@@ -1,7 +1,6 @@
 // The session layer: orders, answers, lists of orders and sessions; determinacy over whole lists.
 pub mod encode;
 pub mod play;
-pub mod text;
 
 ghost use mathlib.Core.Path.{_≡_};
 ghost use Rattle.base.specs.Rules.{firstFailing};

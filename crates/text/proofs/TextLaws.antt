@@ -15,7 +15,8 @@ use Rattle.base.specs.Course.{firstWith}
 use Rattle.base.proofs.Below.{split}
 use Rattle.base.proofs.Course.{first-found, first-none, first-before}
 use Rattle.io.specs.Digits.{digits, Fewest}
-use Rattle.session.specs.Text.{placesOf, decimalOf, minus, signedOf, ended, Written}
+use Rattle.base.specs.Bytes.{byteAt, wordAt, longAt}
+use Rattle.text.specs.Text.{placesOf, decimalOf, minus, space, lineFeed, signedOf, timeIn, ended, lineOf, Written}
 
 digits-length : (b k n : ℕ) → length (digits b k n) ≡ k
 digits-length b zero n = refl
@@ -112,3 +113,11 @@ signed-most v h =
 -- the place behind a text and a character
 pub place-behind : (text : List ℕ) (c : ℕ) {at r : ℕ} {old new : List ℕ} → Written (ended text c) old new at r → r ≡ at + length text + 1
 place-behind text c w = w .place ∙ simp length-append (omega arith)
+
+-- the five texts of an answer's line
+pub line-written : (a : List ℕ) {x y z v t : ℕ} {old new : List ℕ} {at r : ℕ}
+    → x ≡ byteAt a 0 → y ≡ byteAt a 1 → z ≡ wordAt a 2 → v ≡ longAt a 4 → t ≡ timeIn a
+    → Written (ended (decimalOf x) space ++ ended (decimalOf y) space ++ ended (decimalOf z) space ++ ended (signedOf v) space ++ ended (decimalOf t) lineFeed) old new at r
+    → Written (lineOf a) old new at r
+unfolding lineOf
+line-written a e f g h i w = rw (e, f, g, h, i) at w

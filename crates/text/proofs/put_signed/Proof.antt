@@ -3,9 +3,9 @@ use mathlib.Core.Path.{_∙_}
 use native.Mathlib.Omega.{arith}
 use lib.ListN.{length-set}
 use borrow.Author.Needs.{needs}
-use Rattle.session.proofs.TextLaws.{not-negative, negative, put-one, behind}
-use Rattle.session.proofs.text.put_signed.Statement.{statement}
-use Rattle.session.proofs.text.put_signed.Tie as tie
+use Rattle.text.proofs.TextLaws.{not-negative, negative, put-one, behind}
+use Rattle.text.proofs.put_signed.Statement.{statement}
+use Rattle.text.proofs.put_signed.Tie as tie
 
 put-number-requires : tie.Need-put-number-requires
 put-number-requires c κs =

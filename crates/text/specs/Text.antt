@@ -2,15 +2,16 @@
 -- one space between (a refused session: its number alone)".
 use mathlib.Core.Path.{_≡_}
 use mathlib.Core.List.{List, [], _∷_, _++_}
-use Prim.Native.Nat.{ℕ, suc, _+_, _*_, _-_, _/_, _^_}
+use Prim.Native.Nat.{ℕ, suc, _+_, _*_, _-_, _/_, _^_, _≤_}
 use lib.Dec.{eqb, ltb}
 use lib.ListN.{length, take, drop, replicate}
 use Rattle.base.specs.Below.{listBelow}
 use Rattle.base.specs.Bytes.{byteAt, wordAt, longAt}
 use Rattle.base.specs.Cases.{_∣_, _⇒_}
 use Rattle.base.specs.Course.{firstWith}
+use Rattle.io.specs.Counts.{Counts}
 use Rattle.io.specs.Digits.{digits}
 use Rattle.session.specs.Sessions.{Session, sessionOf}
 
 -- how many digits a number below 10 ^ 20 has in base ten
 unfoldable pub placesOf : ℕ → ℕ
@@ -70,6 +71,34 @@ sessionText s = eqb (s .number) 0 ⇒ linesOf (answersIn (s .buffer)) ∣ number
 -- the text that the program prints for a model and orders, any bytes: the answer buffer is four times as long as the orders
 unfoldable pub textOf : List ℕ → List ℕ → List ℕ
 textOf model orders = sessionText (sessionOf model orders (replicate (4 * length orders) 0))
+
+-- the most characters that a line has: 3, 3, 5, 11 and 20, and one behind each
+abbrev pub lineMost : ℕ
+lineMost = 47
+
+-- the program's rooms for its two files, each a byte more than the longest that is played, and for the text of 4,096 answers
+abbrev pub modelRoom : ℕ
+modelRoom = 32769
+
+abbrev pub ordersRoom : ℕ
+ordersRoom = 16385
+
+abbrev pub textRoom : ℕ
+textRoom = 4096 * lineMost
+
+-- the rooms are enough: of a file that is longer than its room, the part that the room holds gives the same text
+abbrev pub RoomsSuffice : Type 0
+RoomsSuffice = (model orders : List ℕ) → textOf (take modelRoom model) (take ordersRoom orders) ≡ textOf model orders
+
+-- n bytes hold the answers to the orders, where a session takes so many
+pub record AnswerRoom (orders : List ℕ) (n : ℕ) : Type 0 where
+  pub most : n ≤ 65536
+  pub all : length orders ≤ 16384 → n ≡ 4 * length orders
+
+-- the first r bytes of `out` are the text printed for a model and orders; what stands behind them is left open
+pub record Prints (model orders out : List ℕ) (r : ℕ) : Type 0 where
+  pub within : Counts r out
+  pub text : take r out ≡ textOf model orders
 
 -- `old` became `new` by a text that was written at `at`, and r is the place behind it
 pub record Written (text old new : List ℕ) (at r : ℕ) : Type 0 where

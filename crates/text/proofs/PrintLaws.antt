@@ -1,0 +1,168 @@
+-- Laws of the text that is printed: the lines of the answers in a buffer, the text of a session by its number and what its buffer
+-- holds, and the rooms for the files. Assumes nothing.
+use mathlib.Core.Path.{_≡_, refl, sym, _∙_}
+use mathlib.Core.Bool.{false}
+use mathlib.Core.Logic.{⊎-elim}
+use mathlib.Core.List.{List, [], _∷_, _++_, append-assoc, append-nil}
+use Prim.Native.Nat.{ℕ, _+_, _*_, _-_, _/_, _≤_, _<_}
+use native.Mathlib.Nat.{le-antisymm}
+use native.Mathlib.Omega.{arith}
+use borrow.Author.Tests.{eqb-true, eqb-false, eq-eqb, ne-eqb}
+use lib.Dec.{eqb}
+use lib.ListN.{length, take, drop, replicate, length-take, length-replicate}
+use lib.Seq.{take-all}
+use Rattle.base.specs.Below.{listBelow}
+use Rattle.base.specs.Cases.{_∣_, _⇒_}
+use Rattle.base.proofs.Below.{split, list-none, list-more}
+use Rattle.base.proofs.Rules.{fails}
+use Rattle.base.proofs.Cases.{either-way}
+use Rattle.blocks.specs.Blocks.{lengthOk}
+use Rattle.blocks.specs.Records.{modelOf}
+use Rattle.model.specs.Rules.{rulesOf, refusalOf}
+use Rattle.blocks.proofs.Starts.{length-most}
+use Rattle.rules.specs.Configuration.{first}
+use Rattle.session.specs.declared.Ended.{Ended}
+use Rattle.session.specs.Lists.{ordersOf, played}
+use Rattle.session.specs.Sessions.{ordersOk, bufferOk, numberOf, bytesOf, sessionOf, SessionIs}
+use Rattle.text.specs.Text.{lineMost, lineOf, numberLineOf, linesOf, answersIn, sessionText, textOf, modelRoom, ordersRoom, textRoom, RoomsSuffice, AnswerRoom, Written}
+use Rattle.session.proofs.SessionLaws.{nine, orders-few, model-refused, model-accepted}
+
+-- the lines of some answers and of one more
+lines-behind : (xs : List (List ℕ)) (a : List ℕ) → linesOf (xs ++ (a ∷ [])) ≡ linesOf xs ++ lineOf a
+lines-behind [] a = append-nil (lineOf a)
+lines-behind (x ∷ xs) a = rw (lines-behind xs a, append-assoc)
+
+-- answer i of a buffer
+abbrev pub answerAt : List ℕ → ℕ → List ℕ
+answerAt buffer i = take 16 (drop (16 * i) buffer)
+
+-- the lines of the answers below i stand in the first `at` bytes of `out`, which has `size` bytes
+pub record Lines (answers : List ℕ) (size : ℕ) (out : List ℕ) (at i : ℕ) : Type 0 where
+  pub few : i ≤ length answers / 16
+  pub short : at ≤ lineMost * i
+  pub same : length out ≡ size
+  pub lines : take at out ≡ linesOf (listBelow (answerAt answers) i)
+
+pub no-lines : (answers out : List ℕ) → Lines answers (length out) out 0 0
+no-lines answers out = record { few = omega arith; short = omega arith; same = refl; lines = rw (list-none (answerAt answers)) }
+
+-- one line more
+pub next-line : {answers out new : List ℕ} {size at i r : ℕ} → Lines answers size out at i → i < length answers / 16 → r ≤ at + lineMost
+    → length new ≡ length out → Written (lineOf (take (16 * i + 16 - 16 * i) (drop (16 * i) answers))) out new at r → Lines answers size new r (i + 1)
+next-line {answers} {i = i} l h m s w =
+    let e : 16 * i + 16 - 16 * i ≡ 16 = omega arith in
+    record {
+      few = omega arith;
+      short = omega arith;
+      same = s ∙ l .same;
+      lines = w .bytes ∙ rw (e, l .lines, list-more, lines-behind);
+    }
+
+pub all-lines : {answers out : List ℕ} {size at i : ℕ} → Lines answers size out at i → length answers / 16 ≤ i → take at out ≡ linesOf (answersIn answers)
+unfolding answersIn
+all-lines {i = i} l h = l .lines ∙ rw (le-antisymm (l .few) h)
+
+-- the room for the text has room for a line, and for that of each answer
+pub line-room : (n : ℕ) → textRoom ≤ n → lineMost ≤ n
+line-room n h = omega arith
+
+pub lines-room : {o : List ℕ} {a b : ℕ} (n : ℕ) → AnswerRoom o a → b ≡ a → textRoom ≤ n → lineMost * (b / 16) ≤ n
+lines-room n r e h = omega arith
+
+-- longer orders, and a longer model, than a session takes
+long-orders : (o : List ℕ) → 16384 < length o → ordersOk o ≡ false
+long-orders o l = either-way (ordersOk o) (λ e. let k = orders-few o [] e in absurd (omega arith)) (λ e. e)
+
+long-model : (m : List ℕ) → 32768 < length m → refusalOf m ≡ 1
+unfolding refusalOf rulesOf
+long-model m l = either-way (lengthOk m) (λ e. let k = length-most m e in absurd (omega arith)) (λ e. sym (fails 1 _ _ refl e))
+
+-- what a session prints where it is played
+abbrev answersText : List ℕ → List ℕ → List ℕ
+answersText m o = linesOf (answersIn (bytesOf (played (modelOf m) (ordersOf o) (first (modelOf m)) .answers)))
+
+-- the number of a session of more orders than it takes: the model's or 9
+longNumber : List ℕ → ℕ
+longNumber m = eqb (refusalOf m) 0 ⇒ 9 ∣ refusalOf m
+
+long-refused : (m : List ℕ) → longNumber m ≡ 0 → ⊥
+unfolding longNumber
+long-refused m =
+    either-way (eqb (refusalOf m) 0)
+    (λ e z. let k : _≡_ {A = ℕ} 9 0 = rw e at z in omega arith)
+    (λ e z. eqb-false _ _ e (rw e at z))
+
+module _ (m o : List ℕ) where
+  -- besides the model and the orders, a session's text depends on its number alone
+  by-number : (b : List ℕ) → sessionText (sessionOf m o b) ≡ (eqb (numberOf m o b) 0 ⇒ answersText m o ∣ numberLineOf (numberOf m o b))
+  unfolding sessionText sessionOf
+  by-number b = either-way (eqb (numberOf m o b) 0) (λ e. rw e) (λ e. rw (e, e))
+
+  refused-text : (n : ℕ) → ((b : List ℕ) → numberOf m o b ≡ n) → (n ≡ 0 → ⊥) → textOf m o ≡ numberLineOf n
+  unfolding textOf
+  refused-text n e h = by-number _ ∙ rw (e, ne-eqb n 0 h)
+
+  long-number : 16384 < length o → (b : List ℕ) → numberOf m o b ≡ longNumber m
+  unfolding longNumber
+  long-number l b =
+      either-way (eqb (refusalOf m) 0)
+      (λ e. rw e (model-accepted m o b (eqb-true _ _ e) ∙ sym (nine o b (long-orders o l))))
+      (λ e. rw e (model-refused m o b (eqb-false _ _ e)))
+
+  long-orders-text : 16384 < length o → textOf m o ≡ numberLineOf (longNumber m)
+  long-orders-text l = refused-text (longNumber m) (long-number l) (long-refused m)
+
+  long-model-text : 32768 < length m → textOf m o ≡ numberLineOf 1
+  long-model-text l =
+      let e : refusalOf m ≡ 1 = long-model m l in
+      refused-text 1 (λ b. model-refused m o b (λ z. let k : _≡_ {A = ℕ} 1 0 = sym e ∙ z in omega arith) ∙ e) (λ z. omega arith)
+
+  -- buffers of one length
+  same-number : (a b : List ℕ) → length a ≡ length b → numberOf m o a ≡ numberOf m o b
+  unfolding numberOf bufferOk
+  same-number a b h = rw h
+
+  -- a buffer of four times the orders' length, or any at all for more orders than a session takes
+  module _ (b : List ℕ) (room : length o ≤ 16384 → length b ≡ 4 * length o) where
+    number-is : numberOf m o b ≡ numberOf m o (replicate (4 * length o) 0)
+    number-is =
+        ⊎-elim
+        (λ (l : 16384 < length o). long-number l b ∙ sym (long-number l _))
+        (λ (l : length o ≤ 16384). same-number b _ (room l ∙ sym (length-replicate _ _)))
+        (split 16384 (length o))
+
+    text-is : sessionText (sessionOf m o b) ≡ textOf m o
+    unfolding textOf
+    text-is = by-number b ∙ rw number-is (sym (by-number _))
+
+    -- what the program writes: the number of a refused session, or the lines of the answers in the buffer
+    module _ {new : List ℕ} {r : Ended} (s : SessionIs m o b new r) where
+      pub refused-writes : (r .number ≡ 0 → ⊥) → numberLineOf (r .number) ≡ textOf m o
+      unfolding sessionText
+      refused-writes h = rw (← text-is, ← s .number, ne-eqb _ _ h)
+
+      pub played-writes : r .number ≡ 0 → linesOf (answersIn new) ≡ textOf m o
+      unfolding sessionText
+      played-writes h = rw (← text-is, ← s .number, ← s .buffer, eq-eqb _ _ h)
+
+-- a file that is longer than its room
+model-room : (m o : List ℕ) → textOf (take modelRoom m) o ≡ textOf m o
+model-room m o =
+    ⊎-elim
+    (λ (l : 32768 < length m).
+    let k : 32768 < length (take modelRoom m) = rw length-take (omega arith) in
+    long-model-text (take modelRoom m) o k ∙ sym (long-model-text m o l))
+    (λ (l : length m ≤ 32768). rw (take-all modelRoom m (omega arith)))
+    (split 32768 (length m))
+
+orders-room : (m o : List ℕ) → textOf m (take ordersRoom o) ≡ textOf m o
+orders-room m o =
+    ⊎-elim
+    (λ (l : 16384 < length o).
+    let k : 16384 < length (take ordersRoom o) = rw length-take (omega arith) in
+    long-orders-text m (take ordersRoom o) k ∙ sym (long-orders-text m o l))
+    (λ (l : length o ≤ 16384). rw (take-all ordersRoom o (omega arith)))
+    (split 16384 (length o))
+
+pub rooms-suffice : RoomsSuffice
+rooms-suffice m o = model-room m (take ordersRoom o) ∙ orders-room m o

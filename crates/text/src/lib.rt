@@ -1,0 +1,148 @@
+// The text that the program prints of a session: a line for each answer, or the number of a refused session.
+ghost use mathlib.Core.Path.{_≡_};
+ghost use Prim.Native.Nat.{_+_, _*_, _/_, _≤_, _<_};
+ghost use lib.ListN.{length, take, replicate};
+ghost use Rattle.text.specs.Text.{decimalOf, signedOf, space, ended, timeIn, lineOf, numberLineOf, answersIn, linesOf, textOf};
+ghost use Rattle.text.specs.Text.{lineMost, modelRoom, ordersRoom, textRoom, RoomsSuffice, AnswerRoom, Prints, Written};
+use session::session;
+use base::byte;
+use base::long;
+use base::word;
+
+// How many bytes the program has room for: of the model, of the orders and of the text.
+const MODEL_ROOM: usize = 32769;
+
+const ORDERS_ROOM: usize = 16385;
+
+const TEXT_ROOM: usize = 192512;
+
+// Writes a number in base ten, and a character behind it.
+fn put_number(n: u64, after: u8, out: &mut [u8], at: usize) -> usize
+    requires { ⌜ at + length (decimalOf n) < length (now out) ⌝ }
+    ensures { λ r. ⌜ Written (ended (decimalOf n) after) (now (out .entry)) (now (out .exit)) at r ⌝ }
+{
+    let mut text = [0u8; 20];
+    let k = io::decimal(n, &mut text);
+    let end = at + k;
+    bytes::copy(&text[..k], &mut out[at..end]);
+    out[end] = after;
+    end + 1
+}
+
+// Writes 32 bits as a signed number, and a space.
+fn put_signed(v: u64, out: &mut [u8], at: usize) -> usize
+    requires { ⌜ v < 4294967296 ⌝ }
+    requires { ⌜ at + length (signedOf v) < length (now out) ⌝ }
+    ensures { λ r. ⌜ Written (ended (signedOf v) space) (now (out .entry)) (now (out .exit)) at r ⌝ }
+{
+    if v < 2147483648 {
+        return put_number(v, 32, out, at);
+    }
+    out[at] = 45;
+    put_number(4294967296 - v, 32, out, at + 1)
+}
+
+// The time of an answer.
+fn time_in(answer: &[u8]) -> u64
+    requires { ⌜ length (now answer) ≡ 16 ⌝ }
+    ensures { λ r. ⌜ r ≡ timeIn (now (answer .entry)) ⌝ }
+{
+    (long(answer, 8) + 4294967296 * long(answer, 12)) as u64
+}
+
+// Writes the line of an answer.
+fn put_line(answer: &[u8], out: &mut [u8], at: usize) -> usize
+    requires { ⌜ length (now answer) ≡ 16 ⌝ }
+    requires { ⌜ at + lineMost ≤ length (now out) ⌝ }
+    ensures { λ r. ⌜ r ≤ at + lineMost ⌝ }
+    ensures { λ r. ⌜ Written (lineOf (now (answer .entry))) (now (out .entry)) (now (out .exit)) at r ⌝ }
+{
+    let refusal = byte(answer, 0) as u64;
+    let said = byte(answer, 1) as u64;
+    let picks = word(answer, 2) as u64;
+    let value = long(answer, 4) as u64;
+    let time = time_in(answer);
+    let a = put_number(refusal, 32, out, at);
+    let b = put_number(said, 32, out, a);
+    let c = put_number(picks, 32, out, b);
+    let d = put_signed(value, out, c);
+    put_number(time, 10, out, d)
+}
+
+// Writes the line of each answer, and answers how many bytes they have.
+fn put_lines(answers: &[u8], out: &mut [u8]) -> usize
+    requires { ⌜ lineMost * (length (now answers) / 16) ≤ length (now out) ⌝ }
+    ensures { λ r. ⌜ r ≤ length (now (out .exit)) ⌝ }
+    ensures { λ r. ⌜ take r (now (out .exit)) ≡ linesOf (answersIn (now (answers .entry))) ⌝ }
+{
+    let n = answers.len() / 16;
+    let mut at = 0;
+    let mut i = 0;
+    while i < n {
+        let from = 16 * i;
+        at = put_line(&answers[from..from + 16], out, at);
+        i += 1;
+    }
+    at
+}
+
+// Writes the line of a refused session, and answers how many bytes it has.
+fn put_refusal(number: usize, out: &mut [u8]) -> usize
+    requires { ⌜ lineMost ≤ length (now out) ⌝ }
+    ensures { λ r. ⌜ r ≤ length (now (out .exit)) ⌝ }
+    ensures { λ r. ⌜ take r (now (out .exit)) ≡ numberLineOf number ⌝ }
+{
+    put_number(number as u64, 10, out, 0)
+}
+
+// Plays the session, and writes its text: the line of each answer, or the number of a refused session.
+fn put_text(model: &[u8], orders: &[u8], answers: &mut [u8], out: &mut [u8]) -> usize
+    requires { ⌜ AnswerRoom (now orders) (length (now answers)) ⌝ }
+    requires { ⌜ textRoom ≤ length (now out) ⌝ }
+    ensures { λ r. ⌜ r ≤ length (now (out .exit)) ⌝ }
+    ensures { λ r. ⌜ take r (now (out .exit)) ≡ textOf (now (model .entry)) (now (orders .entry)) ⌝ }
+{
+    let ended = session(model, orders, answers);
+    let number = ended.number;
+    if number != 0 {
+        return put_refusal(number, out);
+    }
+    put_lines(answers, out)
+}
+
+// How many bytes the answers have; none where the orders are more than a session takes.
+fn answer_bytes(orders: &[u8]) -> usize
+    ensures { λ r. ⌜ AnswerRoom (now (orders .entry)) r ⌝ }
+{
+    let n = orders.len();
+    if n <= 16384 { 4 * n } else { 0 }
+}
+
+// The rooms for the two files and for the text.
+pub fn model_room() -> [u8; MODEL_ROOM]
+    ensures { λ r. ⌜ r ≡ replicate modelRoom 0 ⌝ }
+{
+    [0; MODEL_ROOM]
+}
+
+pub fn orders_room() -> [u8; ORDERS_ROOM]
+    ensures { λ r. ⌜ r ≡ replicate ordersRoom 0 ⌝ }
+{
+    [0; ORDERS_ROOM]
+}
+
+pub fn text_room() -> [u8; TEXT_ROOM]
+    ensures { λ r. ⌜ r ≡ replicate textRoom 0 ⌝ }
+{
+    [0; TEXT_ROOM]
+}
+
+// Plays the session of a model and orders, any bytes, writes the text that the program prints, and answers how many bytes it has.
+pub fn print(model: &[u8], orders: &[u8], out: &mut [u8; TEXT_ROOM]) -> usize
+    ensures { λ r. ⌜ Prints (now (model .entry)) (now (orders .entry)) (now (out .exit)) r ⌝ }
+    ensures { λ r. ⌜ RoomsSuffice ⌝ }
+{
+    let mut answers = io::large_buffer();
+    let n = answer_bytes(orders);
+    put_text(model, orders, &mut answers[..n], out)
+}
