@@ -53,7 +53,6 @@ module _ (c : Config) (due : List ℕ) (drivers : List Driver) (places standings
         deadlines = deadlines;
         faults = faults;
         variables = variables;
-        room = c .room;
       }
 
   pub changed-sized : Sized c → length due ≡ length (c .due) → length drivers ≡ length (c .drivers) → length places ≡ length (c .places)

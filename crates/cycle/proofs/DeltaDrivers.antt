@@ -89,7 +89,6 @@ withDrivers c currents due drivers =
       deadlines = c .deadlines;
       faults = c .faults;
       variables = c .variables;
-      room = c .room;
     }
 
 -- the first k drivers of c have their due transactions taken, the others are as they were, and so is the rest

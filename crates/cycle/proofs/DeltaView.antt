@@ -98,11 +98,10 @@ steppedTo r new ps =
       deadlines = ps .deadlines;
       faults = ps .faults;
       variables = r .variables;
-      room = r .room;
     }
 
 abbrev pub answeredBy : Config → Answered
-answeredBy r = record { refusal = 0; byte = 1; picks = 0; value = 0; config = r }
+answeredBy r = record { answer = record { refusal = 0; byte = 1; picks = 0; value = 0 }; config = r }
 
 -- what the parts of the step say of r and of the new signals and processes
 pub record Parts (M : Model) (c : Config) (active : ℕ) (new : List ℕ) (changed : ℕ) (ps : Processes) (r : Config) : Type 0 where

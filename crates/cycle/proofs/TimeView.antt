@@ -48,7 +48,6 @@ withPast c signals drivers =
       deadlines = c .deadlines;
       faults = c .faults;
       variables = c .variables;
-      room = c .room;
     }
 
 abbrev pub later : Config → ℕ → Config
@@ -69,7 +68,6 @@ later c t =
       deadlines = c .deadlines;
       faults = c .faults;
       variables = c .variables;
-      room = c .room;
     }
 
 -- of c, n units have elapsed for the first k drivers, the others are as they were, and so is the rest
@@ -113,7 +111,7 @@ module _ (c : Config) (n : ℕ) where
           }
 
 abbrev pub answeredBy : Config → Answered
-answeredBy r = record { refusal = 0; byte = 2; picks = 0; value = 0; config = r }
+answeredBy r = record { answer = record { refusal = 0; byte = 2; picks = 0; value = 0 }; config = r }
 
 -- to the earliest due time t
 module _ (M : Model) (c : Config) (f : Valid M c) (t : ℕ) (e : earliest (dueTimes M (viewOf c)) ≡ some t) (l : t ≤ lastTime) where

@@ -1,4 +1,4 @@
--- One pick, as pick and settle make it of the struct, and what the loop of settle keeps true. Assumes nothing.
+-- One pick, as the loop behind pick and settle makes it of the struct, and what the loop keeps true. Assumes nothing.
 use mathlib.Core.Path.{_≡_, refl, sym, ap, _∙_}
 use mathlib.Core.Bool.{Bool, true, false, _&&_}
 use mathlib.Core.Logic.{⊎-elim}
@@ -6,25 +6,22 @@ use Prim.Native.Nat.{ℕ, suc, _+_, _-_, _≤_, _<_}
 use native.Mathlib.Decide.{ℕ-discrete}
 use native.Mathlib.Numerals.{add-one}
 use native.Mathlib.Omega.{arith}
-use lib.Dec.{eqb, ltb}
+use lib.Dec.{ltb, leb}
 use lib.ListN.{length, getD, set, length-set}
 use lib.Seq.{getD-set-same, getD-set-other}
-use borrow.Author.Count.{below-none, below-more}
-use borrow.Author.Tests.{lt-ltb, eq-eqb, ne-eqb, ltb-true, ltb-false}
-use Rattle.base.specs.Below.{anyBelow}
-use Rattle.base.specs.Cases.{_∣_, _⇒_}
-use Rattle.base.proofs.Below.{split, and-left, and-right, any-same}
-use Rattle.base.proofs.Course.{any-first}
+use borrow.Author.Count.{below-more}
+use borrow.Author.Tests.{lt-leb, lt-ltb, eq-eqb, ne-eqb, ltb-true, ltb-false}
+use Rattle.base.proofs.Below.{split, and-left, and-right}
 use Rattle.blocks.specs.Records.{Model, statementAt}
 use Rattle.fields.specs.Fields.{ownerOf}
 use Rattle.fields.specs.Facts.{Spans}
 use Rattle.model.specs.Facts.{Facts}
 use Rattle.rules.specs.Configuration.{driverIn, lastTime}
 use Rattle.rules.specs.Statements.{nextPlace, applied, effectBy, effectOf, stepped}
-use Rattle.rules.specs.Orders.{isReady, lowestReady, settledFrom, settled}
+use Rattle.rules.specs.Orders.{isReady}
 use Rattle.rules.specs.Invariant.{DriverValid, EffectFits, StoreFits, ScheduleFits}
 use Rattle.waveforms.specs.Pending.{never, pendingOf, firstTime, noDriver}
-use Rattle.cycle.specs.View.{viewOf, Valid, StepsTo, outcomeOf, Answers}
+use Rattle.cycle.specs.View.{viewOf, Valid, StepsTo}
 use Rattle.expressions.specs.Reading.{arrays}
 use Rattle.waveforms.specs.Waveform.{Waveform, ScheduledTo}
 use Rattle.cycle.specs.declared.config.Config.{Config}
@@ -38,7 +35,7 @@ use Rattle.cycle.proofs.ArraysAgree.{effect-viewed}
 use Rattle.rules.proofs.Picks.{standing-stays}
 use Rattle.rules.proofs.StepReachable.{stepped-reachable}
 use Rattle.cycle.proofs.ViewLaws.{pending-in, place-in, standing-in, ready-in, deadline-in, ndrivers-is, nprocesses-is}
-use Rattle.rules.proofs.Settling.{Passed, settle-over, settle-none, settle-turn}
+use Rattle.rules.proofs.Settling.{Passed, turnedFrom, turned-over, turned-passed, turned-next, and-false}
 use Rattle.cycle.proofs.Changes.{Sized, movedTo, scheduledTo, waitsUntil, stopsBy, moved-sized, scheduled-sized, waits-sized, stops-sized, skip-view, store-view, jump-view, wait-view, wait-for-view, stop-view, schedule-view, full-view}
 
 -- process p at its place
@@ -211,59 +208,63 @@ module _ {M : Model} {now p : ℕ} {c : Config} {e : Effect} (t : Turn M now p c
 pub goes-on : (n count p end : ℕ) → (ltb n count && ltb p end) ≡ true → (n < count) × (p < end)
 goes-on n count p end h = (ltb-true n count (and-left (ltb n count) (ltb p end) h), ltb-true p end (and-right (ltb n count) (ltb p end) h))
 
--- What the loop of settle keeps true: n picks of at most count are made, none of the processes before p is ready, and what is left
--- to play from the struct c ends as the whole does from c₀.
-pub record Turning (M : Model) (count now end : ℕ) (c₀ : Config) (p n : ℕ) (c : Config) : Type 0 where
+-- What the loop keeps true: n picks of at most count are made, none of the processes from first to p - 1 is ready, and what is left to
+-- do from the struct c ends as the whole does from c₀.
+pub record Turning (M : Model) (count now first end : ℕ) (c₀ : Config) (p n : ℕ) (c : Config) : Type 0 where
   pub few : n ≤ count
-  pub high : p ≤ end
-  pub whole : c .nprocesses ≡ end
-  pub most : end ≤ 16
+  pub low : first ≤ p
+  pub whole : c .nprocesses ≡ c₀ .nprocesses
+  pub within : end ≤ c₀ .nprocesses
+  pub most : c₀ .nprocesses ≤ 16
   pub clock : c .time ≡ now
   pub sized : Sized c
   pub valid : Valid M c
-  pub passed : Passed p (viewOf c)
-  pub same : settledFrom M n (count - n) (viewOf c) ≡ settledFrom M 0 count (viewOf c₀)
+  pub passed : Passed first p (viewOf c)
+  pub same : turnedFrom M first end n (count - n) (viewOf c) ≡ turnedFrom M first end 0 count (viewOf c₀)
 
-pub turning-none : (M : Model) → Facts M → (count : ℕ) (c : Config) → Sized c → Valid M c → Turning M count (c .time) (c .nprocesses) c 0 0 c
-turning-none M fs count c s f =
+pub turning-none : (M : Model) → Facts M → (count first end : ℕ) (c : Config) → Sized c → Valid M c → end ≤ c .nprocesses → Turning M count (c .time) first end c first 0 c
+turning-none M fs count first end c s f h =
     record {
       few = omega arith;
-      high = omega arith;
+      low = omega arith;
       whole = refl;
+      within = h;
       most = omega (arith, nprocesses-is M c (f .reachable), fs .totals .processes);
       clock = refl;
       sized = s;
       valid = f;
-      passed = below-none _;
-      same = ap (λ (k : ℕ). settledFrom M 0 k (viewOf c)) (omega arith);
+      passed = λ j b. rw (lt-leb first j b);
+      same = ap (λ (k : ℕ). turnedFrom M first end 0 k (viewOf c)) (omega arith);
     }
 
 and-rest : (a b : Bool) → a ≡ true → (a && b) ≡ false → b ≡ false
 and-rest a b h g = rw h at g
 
-module _ {M : Model} {count now end : ℕ} {c₀ : Config} {p n : ℕ} {c : Config} (t : Turning M count now end c₀ p n c) where
+module _ {M : Model} {count now first end : ℕ} {c₀ : Config} {p n : ℕ} {c : Config} (t : Turning M count now first end c₀ p n c) where
   -- a process that is not ready is passed
-  pub turning-past : p < end → (getD (c .standings) p 0 ≡ 0 → ⊥) → Turning M count now end c₀ (p + 1) n c
+  pub turning-past : p < end → (getD (c .standings) p 0 ≡ 0 → ⊥) → Turning M count now first end c₀ (p + 1) n c
   turning-past h r =
       record {
         few = t .few;
-        high = omega arith;
+        low = omega (arith, t .low);
         whole = t .whole;
+        within = t .within;
         most = t .most;
         clock = t .clock;
         sized = t .sized;
         valid = t .valid;
-        passed = below-more _ _ (t .passed) (ready-in c p (omega (arith, t .whole)) ∙ ne-eqb _ 0 r);
+        passed = below-more _ _ (t .passed) (rw (ready-in c p (omega (arith, t .whole, t .within)), ne-eqb _ 0 r) (and-false (leb first p)));
         same = t .same;
       }
 
   -- a ready process is picked
-  pub turning-next : n < count → p < end → isReady p (viewOf c) ≡ true → (c' : Config) → Stepped M p c c' → Turning M count now end c₀ p (n + 1) c'
+  pub turning-next : n < count → p < end → isReady p (viewOf c) ≡ true → (c' : Config) → Stepped M p c c' → Turning M count now first end c₀ p (n + 1) c'
   turning-next made h ready c' d =
       record {
         few = omega arith;
-        high = t .high;
+        low = t .low;
         whole = d .nprocesses ∙ t .whole;
+        within = t .within;
         most = t .most;
         clock = d .time ∙ t .clock;
         sized = d .sized;
@@ -272,34 +273,18 @@ module _ {M : Model} {count now end : ℕ} {c₀ : Config} {p n : ℕ} {c : Conf
         same = rw (d .to .is) (sym picked ∙ t .same);
       }
     where
-      picked : settledFrom M n (count - n) (viewOf c) ≡ settledFrom M (n + 1) (count - (n + 1)) (stepped M p (viewOf c))
+      picked : turnedFrom M first end n (count - n) (viewOf c) ≡ turnedFrom M first end (n + 1) (count - (n + 1)) (stepped M p (viewOf c))
       picked =
           let q : count - n ≡ suc (count - (n + 1)) = omega arith in
-          let l : p < length (M .processes) = omega (arith, t .whole, nprocesses-is M c (t .valid .reachable)) in
-          rw (q, add-one n) (settle-turn M (viewOf c) n (count - suc n) p l (t .passed) ready)
+          rw (q, add-one n) (turned-next M first end n (viewOf c) (count - suc n) p (t .low) h (t .passed) ready)
 
   -- the loop is over: no more picks may be made, or no process is left
-  module _ (o : (ltb n count && ltb p end) ≡ false) where
-    total : end ≡ length (M .processes)
-    total = sym (t .whole) ∙ nprocesses-is M c (t .valid .reachable)
-
-    rest : settledFrom M 0 count (viewOf c₀) ≡ record { picks = n; end = viewOf c }
-    rest =
-        sym (t .same)
-        ∙ ⊎-elim
-        (λ (h : n < count).
-        let g = and-rest (ltb n count) (ltb p end) (lt-ltb n count h) o in
-        settle-none M (viewOf c) n (count - n) (λ j b. t .passed j (omega (arith, ltb-false p end g, total))))
-        (λ (h : count ≤ n). settle-over M (viewOf c) n (count - n) (omega arith))
-        (split n count)
-
-    still : anyBelow (λ p. eqb (getD (c .standings) p 0) 0) end ≡ ltb (lowestReady M (viewOf c)) (length (M .processes))
-    unfolding lowestReady
-    still =
-        any-same (λ p. eqb (getD (c .standings) p 0) 0) (λ p. isReady p (viewOf c)) end (λ j l. sym (ready-in c j (omega (arith, t .whole))))
-        ∙ rw total (any-first (λ p. isReady p (viewOf c)) (length (M .processes)))
-
-    pub settle-end : (more : Bool) (byte : ℕ) → more ≡ anyBelow (λ p. eqb (getD (c .standings) p 0) 0) end → byte ≡ (more ⇒ 1 ∣ 0)
-        → Answers M (record { refusal = 0; byte = byte; picks = n; value = 0; config = c }) (settled M count (viewOf c₀))
-    unfolding outcomeOf settled
-    settle-end more byte a b = record { is = rw (rest, ← still, ← a) (rw b); valid = t .valid }
+  pub turning-end : (ltb n count && ltb p end) ≡ false → turnedFrom M first end 0 count (viewOf c₀) ≡ record { picks = n; end = viewOf c }
+  turning-end o =
+      sym (t .same)
+      ∙ ⊎-elim
+      (λ (h : n < count).
+      let g = and-rest (ltb n count) (ltb p end) (lt-ltb n count h) o in
+      turned-passed M first end n (viewOf c) (count - n) (λ j b. t .passed j (omega (arith, ltb-false p end g))))
+      (λ (h : count ≤ n). turned-over M first end n (viewOf c) (count - n) (omega arith))
+      (split n count)

@@ -1,17 +1,20 @@
 -- The configuration that the program's struct holds, and what the program keeps true of the struct.
 use mathlib.Core.Path.{_≡_}
 use Prim.Native.Nat.{ℕ, _<_}
-use lib.ListN.{getD}
+use lib.ListN.{getD, length}
 use Rattle.waveforms.specs.Pending.{pendingOf, noDriver, firstTime}
 use Rattle.steps.specs.Entries.{deadlineOf, historyOf}
 use Rattle.base.specs.Below.{listBelow}
 use Rattle.blocks.specs.Records.{Model}
 use Rattle.rules.specs.Configuration.{DriverState, ProcessState, Configuration}
 use Rattle.rules.specs.Statements.{stepped}
-use Rattle.rules.specs.Orders.{Outcome}
+use Rattle.rules.specs.Orders.{Outcome, picked, settled, readOf}
 use Rattle.rules.specs.Invariant.{Reachable}
 use Rattle.cycle.specs.declared.config.Config.{Config}
+use Rattle.cycle.specs.declared.orders.Answer.{Answer}
 use Rattle.cycle.specs.declared.orders.Answered.{Answered}
+use Rattle.cycle.specs.declared.settle.Picks.{Picks}
+use Rattle.cycle.specs.declared.settle.Picks.the-variants.{One, Settle}
 
 unfoldable pub driverView : Config → ℕ → DriverState
 driverView c k = record { current = getD (c .currents) k 0; pending = pendingOf (c .time) (getD (c .drivers) k noDriver) }
@@ -47,14 +50,34 @@ pub record StepsTo (M : Model) (p : ℕ) (c r : Config) : Type 0 where
   pub is : viewOf r ≡ stepped M p (viewOf c)
   pub valid : Valid M r
 
+-- the answer to a refused order
+abbrev pub refusalOf : ℕ → Answer
+refusalOf n = record { refusal = n; byte = 0; picks = 0; value = 0 }
+
 unfoldable pub outcomeOf : Answered → Outcome
-outcomeOf r = record { refusal = r .refusal; byte = r .byte; picks = r .picks; value = r .value; after = viewOf (r .config) }
+outcomeOf r =
+    record {
+      refusal = r .answer .refusal;
+      byte = r .answer .byte;
+      picks = r .answer .picks;
+      value = r .answer .value;
+      after = viewOf (r .config);
+    }
 
 -- the answer and the configuration are those of the rules
 pub record Answers (M : Model) (r : Answered) (o : Outcome) : Type 0 where
   pub is : outcomeOf r ≡ o
   pub valid : Valid M (r .config)
 
--- the same of every model that the configuration can be one of
-abbrev pub AnswersEach : Config → Answered → (Model → Outcome) → Type 0
-AnswersEach c r o = (M : Model) → Valid M c → Answers M r (o M)
+-- the struct that is handed back is valid for every model that the one taken is valid for
+abbrev pub Keeps : Config → Answered → Type 0
+Keeps c r = (M : Model) → Valid M c → Valid M (r .config)
+
+-- the outcome of a read, for every model with as many signals as the struct
+abbrev pub ReadTo : ℕ → Config → Answered → Type 0
+ReadTo s c r = (M : Model) → length (M .signals) ≡ c .nsignals → outcomeOf r ≡ readOf M s (viewOf c)
+
+-- the picks that an order asks for
+abbrev pub picksOf : Model → Picks → Configuration → Outcome
+picksOf M (One p) c = picked M p c
+picksOf M (Settle n) c = settled M n c

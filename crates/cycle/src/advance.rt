@@ -4,6 +4,7 @@ ghost use Rattle.rules.specs.Orders.{advanced};
 ghost use Rattle.cycle.specs.View.{viewOf, Valid, Answers};
 ghost use Rattle.expressions.specs.Reading.{Runs};
 use crate::config::Config;
+use crate::orders::Answer;
 use crate::orders::Answered;
 use blocks::index::Index;
 use steps::delta::Processes;
@@ -91,10 +92,12 @@ impl Config {
             self.faults = woken_faults;
             self.deltas = self.deltas + 1;
             return Answered {
-                refusal: 0,
-                byte: 1,
-                picks: 0,
-                value: 0,
+                answer: Answer {
+                    refusal: 0,
+                    byte: 1,
+                    picks: 0,
+                    value: 0,
+                },
                 config: self,
             };
         }
@@ -113,10 +116,12 @@ impl Config {
         self.time = t;
         self.deltas = 0;
         Answered {
-            refusal: 0,
-            byte: 2,
-            picks: 0,
-            value: 0,
+            answer: Answer {
+                refusal: 0,
+                byte: 2,
+                picks: 0,
+                value: 0,
+            },
             config: self,
         }
     }

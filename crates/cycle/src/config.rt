@@ -20,15 +20,15 @@ use waveforms::driver::Driver;
 // Signal s of k units ago stands at 32 * s + k. Driver k: its current value, its waveform, and the time of its first pending
 // transaction (due), the largest number where it has none. A waveform's times are held as units from now: 32 bits, since a delay
 // has 31. Process p: a deadline is the largest number where it has none.
-// `room` holds nothing: it makes the size a multiple of 64 bytes, so that copies between two configurations run at equal offsets in
-// their cache lines (bench/README.md).
+// The numbers stand before the arrays, the time last of them: the list's loop keeps the time by itself, and the compiler then copies
+// the arrays, a multiple of 64 bytes, as one part, which lies at equal offsets in its cache lines (bench/README.md).
 pub struct Config {
-    pub time: u64,
-    pub deltas: u64,
     pub nsignals: usize,
     pub nvariables: usize,
     pub ndrivers: usize,
     pub nprocesses: usize,
+    pub deltas: u64,
+    pub time: u64,
     pub signals: [u32; 1024],
     pub currents: [u32; 64],
     pub due: [u64; 64],
@@ -38,7 +38,6 @@ pub struct Config {
     pub deadlines: [u64; 16],
     pub faults: [u32; 16],
     pub variables: [u32; 64],
-    pub room: [u64; 10],
 }
 
 fn first_variables<'a>(m: &'a [u8], index: &'a Index, n: usize) -> [u32; 64]
@@ -146,7 +145,6 @@ impl Config {
             deadlines: [18446744073709551615; 16],
             faults: [0; 16],
             variables: [0; 64],
-            room: [0; 10],
         }
     }
 
@@ -177,7 +175,6 @@ impl Config {
             deadlines: [18446744073709551615; 16],
             faults: [0; 16],
             variables,
-            room: [0; 10],
         }
     }
 }

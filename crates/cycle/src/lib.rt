@@ -3,4 +3,3 @@ pub mod advance;
 pub mod config;
 pub mod orders;
 pub mod settle;
-pub mod step;

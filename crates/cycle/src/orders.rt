@@ -1,31 +1,50 @@
-// Pick and read, the refusal of an order, and what every order hands back.
+// What every order hands back, the refusal of an order, pick, settle and read.
+ghost use mathlib.Core.Path.{_≡_};
 ghost use Prim.Native.Nat.{_≤_};
 ghost use Rattle.blocks.specs.Records.{modelOf};
-ghost use Rattle.rules.specs.Orders.{refused, picked, readOf};
-ghost use Rattle.cycle.specs.View.{viewOf, Valid, Answers, AnswersEach};
+ghost use Rattle.rules.specs.Orders.{refused, picked, settled};
+ghost use Rattle.cycle.specs.View.{viewOf, Valid, Answers, outcomeOf, refusalOf, ReadTo, Keeps};
 ghost use Rattle.expressions.specs.Reading.{Runs};
 use crate::config::Config;
+use crate::settle::Picks;
 use blocks::index::Index;
 
-// The parts of an answer, and the configuration that the order hands back.
-pub struct Answered {
+// An answer, without the time.
+pub struct Answer {
     pub refusal: usize,
     pub byte: usize,
     pub picks: usize,
     pub value: u32,
+}
+
+// The answer, and the configuration that the order hands back.
+pub struct Answered {
+    pub answer: Answer,
     pub config: Config,
 }
 
-impl Config {
-    // A refused order hands the configuration back as it was.
-    pub fn refused(self, n: usize) -> Answered
-        ensures { λ r. ⌜ AnswersEach self r (λ M. refused n (viewOf self)) ⌝ }
+impl Answer {
+    // "1 to 7 [..] when refused, are zero"
+    pub fn refused(n: usize) -> Answer
+        ensures { λ r. ⌜ r ≡ refusalOf n ⌝ }
     {
-        Answered {
+        Answer {
             refusal: n,
             byte: 0,
             picks: 0,
             value: 0,
+        }
+    }
+}
+
+impl Config {
+    // A refused order hands the configuration back as it was.
+    pub(crate) fn refused(self, n: usize) -> Answered
+        ensures { λ r. ⌜ outcomeOf r ≡ refused n (viewOf self) ⌝ }
+        ensures { λ r. ⌜ Keeps self r ⌝ }
+    {
+        Answered {
+            answer: Answer::refused(n),
             config: self,
         }
     }
@@ -36,37 +55,35 @@ impl Config {
         requires { ⌜ Valid (modelOf (now m)) self ⌝ }
         ensures { λ r. ⌜ Answers (modelOf (now (m .entry))) r (picked (modelOf (now (m .entry))) p (viewOf self)) ⌝ }
     {
-        if p >= self.nprocesses {
-            return self.refused(12);
-        }
-        let standing = self.standings[p];
-        if standing != 0 {
-            return self.refused(13);
-        }
-        let c = self.step(m, index, p);
-        Answered {
-            refusal: 0,
-            byte: c.standings[p],
-            picks: 1,
-            value: c.faults[p],
-            config: c,
-        }
+        self.picks(m, index, Picks::One(p))
+    }
+
+    // Picks of the lowest ready process until none is ready or count picks are made.
+    pub fn settle<'a>(self, m: &'a [u8], index: &'a Index, count: usize) -> Answered
+        requires { ⌜ Runs (now m) (now index) ⌝ }
+        requires { ⌜ Valid (modelOf (now m)) self ⌝ }
+        ensures { λ r. ⌜ Answers (modelOf (now (m .entry))) r (settled (modelOf (now (m .entry))) count (viewOf self)) ⌝ }
+    {
+        self.picks(m, index, Picks::Settle(count))
     }
 
     // The current value of signal s.
     pub fn read(self, s: usize) -> Answered
         requires { ⌜ self .nsignals ≤ 32 ⌝ }
-        ensures { λ r. ⌜ AnswersEach self r (λ M. readOf M s (viewOf self)) ⌝ }
+        ensures { λ r. ⌜ ReadTo s self r ⌝ }
+        ensures { λ r. ⌜ Keeps self r ⌝ }
     {
         if s >= self.nsignals {
             return self.refused(19);
         }
         let v = self.signals[32 * s];
         Answered {
-            refusal: 0,
-            byte: 0,
-            picks: 0,
-            value: v,
+            answer: Answer {
+                refusal: 0,
+                byte: 0,
+                picks: 0,
+                value: v,
+            },
             config: self,
         }
     }

@@ -1,17 +1,62 @@
-// Settle: picks in place, one statement after the other.
+// Pick and settle: statements run in place, one after the other, in one loop.
 ghost use mathlib.Core.Path.{_≡_};
+ghost use Prim.Native.Nat.{_≤_};
 ghost use Rattle.base.specs.Cases.{_∣_, _⇒_};
 ghost use Rattle.blocks.specs.Records.{modelOf};
-ghost use Rattle.cycle.specs.View.{viewOf, Valid, Answers};
+ghost use Rattle.cycle.specs.View.{viewOf, Valid, Answers, picksOf};
 ghost use Rattle.expressions.specs.Reading.{Runs};
-ghost use Rattle.rules.specs.Orders.{settled};
 use crate::config::Config;
+use crate::orders::Answer;
 use crate::orders::Answered;
 use blocks::index::Index;
 use expressions::effect::does;
 use expressions::effect::next_place;
 use rules::effect::Effect;
 use steps::due::any_standing;
+ghost use Rattle.cycle.specs.Turns.{turnsOf, replyOf};
+
+// The picks that an order asks for.
+pub enum Picks {
+    // one, of the process
+    One(usize),
+    // of the lowest ready process, until none is ready or that many are made
+    Settle(usize),
+}
+
+// The loop's part: processes first to end - 1, and at most count picks.
+pub struct Turns {
+    pub first: usize,
+    pub end: usize,
+    pub count: usize,
+}
+
+// The part of the loop, where there are nprocesses processes: for a process that is not there nothing.
+fn turns_of(which: Picks, nprocesses: usize) -> Turns
+    ensures { λ r. ⌜ r ≡ turnsOf which nprocesses ⌝ }
+{
+    match which {
+        Picks::One(p) => {
+            if p < nprocesses {
+                Turns {
+                    first: p,
+                    end: p + 1,
+                    count: 1,
+                }
+            } else {
+                Turns {
+                    first: 0,
+                    end: 0,
+                    count: 0,
+                }
+            }
+        }
+        Picks::Settle(n) => Turns {
+            first: 0,
+            end: nprocesses,
+            count: n,
+        },
+    }
+}
 
 fn bit(b: bool) -> usize
     ensures { λ r. ⌜ r ≡ (b ⇒ 1 ∣ 0) ⌝ }
@@ -19,16 +64,54 @@ fn bit(b: bool) -> usize
     if b { 1 } else { 0 }
 }
 
+// The answer, n picks having been made.
+fn reply<'a>(
+    which: Picks,
+    standings: &'a [usize; 16],
+    faults: &'a [u32; 16],
+    nprocesses: usize,
+    n: usize,
+) -> Answer
+    requires { ⌜ nprocesses ≤ 16 ⌝ }
+    ensures { λ r. ⌜ r ≡ replyOf which (now (standings .entry)) (now (faults .entry)) nprocesses n ⌝ }
+{
+    match which {
+        Picks::One(p) => {
+            if p >= nprocesses {
+                return Answer::refused(12);
+            }
+            if n == 0 {
+                return Answer::refused(13);
+            }
+            Answer {
+                refusal: 0,
+                byte: standings[p],
+                picks: n,
+                value: faults[p],
+            }
+        }
+        Picks::Settle(count) => Answer {
+            refusal: 0,
+            byte: bit(any_standing(standings, nprocesses, 0)),
+            picks: n,
+            value: 0,
+        },
+    }
+}
+
 impl Config {
-    // Picks of the lowest ready process until none is ready or count picks are made.
-    pub fn settle<'a>(mut self, m: &'a [u8], index: &'a Index, count: usize) -> Answered
+    // One method, in place, for pick and settle: a configuration is large to copy.
+    pub fn picks<'a>(mut self, m: &'a [u8], index: &'a Index, which: Picks) -> Answered
         requires { ⌜ Runs (now m) (now index) ⌝ }
         requires { ⌜ Valid (modelOf (now m)) self ⌝ }
-        ensures { λ r. ⌜ Answers (modelOf (now (m .entry))) r (settled (modelOf (now (m .entry))) count (viewOf self)) ⌝ }
+        ensures { λ r. ⌜ Answers (modelOf (now (m .entry))) r (picksOf (modelOf (now (m .entry))) which (viewOf self)) ⌝ }
     {
         let now = self.time;
-        let end = self.nprocesses;
-        let mut p = 0;
+        let nprocesses = self.nprocesses;
+        let turns = turns_of(which, nprocesses);
+        let end = turns.end;
+        let count = turns.count;
+        let mut p = turns.first;
         let mut n = 0;
         while (n < count) & (p < end) {
             let standing = self.standings[p];
@@ -77,12 +160,9 @@ impl Config {
                 }
             }
         }
-        let more = any_standing(&self.standings, end, 0);
+        let answer = reply(which, &self.standings, &self.faults, nprocesses, n);
         Answered {
-            refusal: 0,
-            byte: bit(more),
-            picks: n,
-            value: 0,
+            answer,
             config: self,
         }
     }

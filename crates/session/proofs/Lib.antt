@@ -1,7 +1,7 @@
 pub mod Answers
 pub mod Demand3
-pub mod Runs
-pub mod PlayLaws
-pub mod SessionLaws
 pub mod InTime
 pub mod ListLaws
+pub mod PlayLaws
+pub mod Runs
+pub mod SessionLaws

@@ -1,7 +1,8 @@
 -- Laws of a list of orders played from its bytes: the next order, its answer written behind those before it, and the end.
 -- Assumes nothing.
-use mathlib.Core.Path.{_≡_, ap, _∙_}
-use mathlib.Core.Bool.{Bool, true, false, not}
+use mathlib.Core.Path.{_≡_, sym, ap, _∙_}
+use mathlib.Core.Bool.{Bool, true, false}
+use mathlib.Core.Logic.{_⊎_, inl, inr, ⊎-elim}
 use mathlib.Core.List.{List, [], _∷_, _++_, append-assoc, append-nil}
 use Prim.Native.Nat.{ℕ, _+_, _*_, _-_, _/_, _≤_, _<_}
 use native.Mathlib.Nat.{le-of-eq}
@@ -9,17 +10,24 @@ use native.Mathlib.Numerals.{add-one}
 use native.Mathlib.Omega.{arith}
 use borrow.Author.Tests.{ne-eqb}
 use borrow.Rule.Slice.PartMut.{putMid, mid-len, same-len-mid}
+use lib.Dec.{eqb}
 use lib.ListN.{length, take, drop, length-append, length-take, drop-of-length-le}
 use lib.Seq.{take-all, take-at, drop-cons, getD-take, getD-drop}
 use Rattle.base.specs.Below.{listBelow}
 use Rattle.base.specs.Bytes.{byteAt, wordAt}
+use Rattle.base.specs.Cases.{_∣_, _⇒_}
 use Rattle.base.proofs.Below.{list-length, list-at}
 use Rattle.blocks.specs.Records.{Model}
 use Rattle.rules.specs.Configuration.{Configuration}
-use Rattle.rules.specs.Orders.{Outcome, refused, picked, advanced, settled, readOf}
-use Rattle.cycle.specs.View.{Valid, Answers, viewOf, outcomeOf}
+use Rattle.rules.specs.Orders.{refused, picked, advanced, settled, readOf}
+use Rattle.cycle.specs.View.{Valid, Answers, Keeps, ReadTo, viewOf, outcomeOf, picksOf, refusalOf}
 use Rattle.cycle.specs.declared.config.Config.{Config}
+use Rattle.cycle.specs.declared.orders.Answer.{Answer}
 use Rattle.cycle.specs.declared.orders.Answered.{Answered}
+use Rattle.cycle.specs.declared.settle.Picks.{Picks}
+use Rattle.cycle.specs.declared.settle.Picks.the-variants.{One, Settle}
+use Rattle.cycle.proofs.OrderLaws.{refused-is}
+use Rattle.cycle.proofs.ViewLaws.{nsignals-is}
 use Rattle.session.specs.Lists.{order, orderOf, ordersOf, isKnown, performed, answerBytes, answerOf, played}
 use Rattle.session.specs.Sessions.{bytesOf}
 
@@ -86,42 +94,64 @@ pub record Reading (M : Model) (os : List ℕ) (c₀ : Configuration) (i : ℕ) 
 
 module _ {M : Model} {os : List ℕ} {c₀ : Configuration} {i : ℕ} {at : Config} {answers : List ℕ} {kind argument count : ℕ} {b : Bool} (t : Reading M os c₀ i at answers kind argument count b) where
   -- what it does
-  pub refused-order : not b ≡ true → performed M (order kind argument count) (viewOf at) ≡ refused 11 (viewOf at)
+  refused-order : b ≡ false → performed M (order kind argument count) (viewOf at) ≡ refused 11 (viewOf at)
   unfolding performed
   refused-order k = rw (← (t .known), k)
 
-  module _ (k : not b ≡ false) where
-    pub pick-order : kind ≡ 1 → performed M (order kind argument count) (viewOf at) ≡ picked M argument (viewOf at)
+  module _ (k : b ≡ true) where
+    pick-order : kind ≡ 1 → performed M (order kind argument count) (viewOf at) ≡ picked M argument (viewOf at)
     unfolding performed
     pick-order is = rw (← (t .known), k, is)
 
-    pub advance-order : kind ≡ 2 → performed M (order kind argument count) (viewOf at) ≡ advanced M (viewOf at)
-    unfolding performed
-    advance-order is = rw (← (t .known), k, is)
-
-    pub settle-order : kind ≡ 3 → performed M (order kind argument count) (viewOf at) ≡ settled M count (viewOf at)
+    settle-order : kind ≡ 3 → performed M (order kind argument count) (viewOf at) ≡ settled M count (viewOf at)
     unfolding performed
     settle-order is = rw (← (t .known), k, is)
 
-    pub read-order : (kind ≡ 1 → ⊥) → (kind ≡ 2 → ⊥) → (kind ≡ 3 → ⊥) → performed M (order kind argument count) (viewOf at) ≡ readOf M argument (viewOf at)
+    picks-order : (w : Picks) → w ≡ (eqb kind 1 ⇒ One argument ∣ Settle count) → (kind ≡ 1) ⊎ (kind ≡ 3)
+        → performed M (order kind argument count) (viewOf at) ≡ picksOf M w (viewOf at)
+    picks-order w e = ⊎-elim (λ (is : kind ≡ 1). pick-order is ∙ rw (e, is)) (λ (is : kind ≡ 3). settle-order is ∙ rw (e, is))
+
+    advance-order : kind ≡ 2 → performed M (order kind argument count) (viewOf at) ≡ advanced M (viewOf at)
+    unfolding performed
+    advance-order is = rw (← (t .known), k, is)
+
+    read-order : (kind ≡ 1 → ⊥) → (kind ≡ 2 → ⊥) → (kind ≡ 3 → ⊥) → performed M (order kind argument count) (viewOf at) ≡ readOf M argument (viewOf at)
     unfolding performed
     read-order no1 no2 no3 = rw (← (t .known), k, ne-eqb kind 1 no1, ne-eqb kind 2 no2, ne-eqb kind 3 no3)
 
+  -- what each way of the order's choice says of the answer and the configuration that it leaves
+  abbrev Gives : Answer → Config → Type 0
+  Gives answer end = Answers M (record { answer = answer; config = end }) (performed M (order kind argument count) (viewOf at))
+
+  pub refused-gives : b ≡ false → (a : Answer) → a ≡ refusalOf 11 → Gives a at
+  refused-gives k a e = rw (refused-order k) (record { is = rw e (refused-is at 11); valid = t .playing .valid })
+
+  module _ (k : b ≡ true) where
+    pub picks-give : (w : Picks) → w ≡ (eqb kind 1 ⇒ One argument ∣ Settle count) → (kind ≡ 1) ⊎ (kind ≡ 3) → (r : Answered) → Answers M r (picksOf M w (viewOf at)) → Gives (r .answer) (r .config)
+    picks-give w e is r a = rw (picks-order k w e is) a
+
+    pub advance-gives : kind ≡ 2 → (r : Answered) → Answers M r (advanced M (viewOf at)) → Gives (r .answer) (r .config)
+    advance-gives is r a = rw (advance-order k is) a
+
+    pub read-gives : ((kind ≡ 1) ⊎ (kind ≡ 3) → ⊥) → (kind ≡ 2 → ⊥) → (r : Answered) → ReadTo argument at r → Keeps at r → Gives (r .answer) (r .config)
+    read-gives none no2 r a f =
+        rw (read-order k (λ e. none (inl e)) no2 (λ e. none (inr e))) (record { is = a M (sym (nsignals-is M at (t .playing .valid .reachable))); valid = f M (t .playing .valid) })
+
   -- it is done: r is what it gave, and its answer is written into its own part of the buffer
-  module _ {o : Outcome} (p : performed M (order kind argument count) (viewOf at) ≡ o) {r : Answered} (a : Answers M r o) where
+  module _ {r : Answered} (a : Answers M r (performed M (order kind argument count) (viewOf at))) where
     left : drop i (ordersOf os) ≡ order kind argument count ∷ drop (i + 1) (ordersOf os)
     left = next-order os i (t .here) ∙ rw (order-read os i (t .here), t .kind-read, t .argument-read, t .count-read)
 
     end-next : played M (drop (i + 1) (ordersOf os)) (viewOf (r .config)) .end ≡ played M (drop i (ordersOf os)) (viewOf at) .end
     unfolding played outcomeOf
-    end-next = rw (left, p, ← (a .is))
+    end-next = rw (left, ← (a .is))
 
-    module _ {last : List ℕ} (q : last ≡ answerBytes (r .refusal) (r .byte) (r .picks) (r .value) (r .config .time)) where
+    module _ {last : List ℕ} (q : last ≡ answerBytes (r .answer .refusal) (r .answer .byte) (r .answer .picks) (r .answer .value) (r .config .time)) where
       bytes-next : (rest : List ℕ) → take (16 * (i + 1)) (take (16 * i) answers ++ (last ++ rest)) ++ bytesOf (played M (drop (i + 1) (ordersOf os)) (viewOf (r .config)) .answers)
           ≡ take (16 * i) answers ++ bytesOf (played M (drop i (ordersOf os)) (viewOf at) .answers)
       unfolding played outcomeOf answerOf viewOf
       bytes-next rest =
-          rw (written answers last rest i (ap length q) (omega (arith, t .playing .room, t .here)), append-assoc, left, p, ← (a .is), q)
+          rw (written answers last rest i (ap length q) (omega (arith, t .playing .room, t .here)), append-assoc, left, ← (a .is), q)
 
       room-next : length (putMid (16 * i) (16 * i + 16 - 16 * i) answers last) ≡ length answers
       room-next =

@@ -1,4 +1,4 @@
+pub mod Demand3
+pub mod ListLaws
 pub mod Lists
 pub mod Sessions
-pub mod ListLaws
-pub mod Demand3

@@ -2,6 +2,7 @@
 ghost use mathlib.Core.Path.{_≡_};
 ghost use lib.ListN.{length};
 ghost use Rattle.session.specs.Lists.{answerBytes};
+use cycle::orders::Answer;
 
 // The 16 bytes of an answer.
 fn encoded(refusal: usize, byte: usize, picks: usize, value: u32, time: u64) -> [u8; 16]
@@ -28,10 +29,16 @@ fn encoded(refusal: usize, byte: usize, picks: usize, value: u32, time: u64) -> 
 }
 
 // Writes an answer into its 16 bytes.
-pub fn put_answer(out: &mut [u8], refusal: usize, byte: usize, picks: usize, value: u32, time: u64)
+pub fn put_answer(out: &mut [u8], answer: Answer, time: u64)
     requires { ⌜ length (now out) ≡ 16 ⌝ }
-    ensures { λ _. ⌜ now (out .exit) ≡ answerBytes refusal byte picks value time ⌝ }
+    ensures { λ _. ⌜ now (out .exit) ≡ answerBytes (answer .refusal) (answer .byte) (answer .picks) (answer .value) time ⌝ }
 {
-    let b = encoded(refusal, byte, picks, value, time);
+    let b = encoded(
+        answer.refusal,
+        answer.byte,
+        answer.picks,
+        answer.value,
+        time,
+    );
     bytes::copy(&b, out);
 }

@@ -1,10 +1,13 @@
 // A list of orders, played one after the other.
 ghost use mathlib.Core.Path.{_≡_};
 ghost use Prim.Native.Nat.{_*_, _/_};
+ghost use lib.Dec.{eqb};
 ghost use lib.ListN.{length};
+ghost use Rattle.base.specs.Cases.{_∣_, _⇒_};
 ghost use Rattle.blocks.specs.Records.{modelOf};
 ghost use Rattle.expressions.specs.Reading.{Runs};
 ghost use Rattle.cycle.specs.View.{Valid, viewOf};
+ghost use Rattle.cycle.specs.declared.settle.Picks.the-variants.{One, Settle};
 ghost use Rattle.session.specs.Lists.{isKnown, order};
 ghost use Rattle.session.specs.Sessions.{PlayedTo};
 use crate::encode::put_answer;
@@ -12,6 +15,8 @@ use base::byte;
 use base::word;
 use blocks::index::Index;
 use cycle::config::Config;
+use cycle::orders::Answer;
+use cycle::settle::Picks;
 
 // The kind is known, and the bytes that it does not use are zero.
 fn known(kind: usize, argument: usize, count: usize) -> bool
@@ -23,6 +28,17 @@ fn known(kind: usize, argument: usize, count: usize) -> bool
         3 => argument == 0,
         4 => count == 0,
         _ => false,
+    }
+}
+
+// The picks that a pick or a settle asks for.
+fn picks_of(kind: usize, argument: usize, count: usize) -> Picks
+    ensures { λ r. ⌜ r ≡ (eqb kind 1 ⇒ One argument ∣ Settle count) ⌝ }
+{
+    if kind == 1 {
+        Picks::One(argument)
+    } else {
+        Picks::Settle(count)
     }
 }
 
@@ -48,61 +64,28 @@ pub fn play<'a>(
         let argument = byte(orders, from + 1);
         let count = word(orders, from + 2);
         let to = 16 * i;
+        let mut answer = Answer::refused(11);
+        if known(kind, argument, count) {
+            match kind {
+                1 | 3 => {
+                    let r = at.picks(m, index, picks_of(kind, argument, count));
+                    at = r.config;
+                    answer = r.answer;
+                }
+                2 => {
+                    let r = at.advance(m, index);
+                    at = r.config;
+                    answer = r.answer;
+                }
+                _ => {
+                    let r = at.read(argument);
+                    at = r.config;
+                    answer = r.answer;
+                }
+            }
+        }
+        put_answer(&mut answers[to..to + 16], answer, at.time);
         i += 1;
-        if !known(kind, argument, count) {
-            put_answer(&mut answers[to..to + 16], 11, 0, 0, 0, at.time);
-            continue;
-        }
-        match kind {
-            1 => {
-                let picked = at.pick(m, index, argument);
-                at = picked.config;
-                put_answer(
-                    &mut answers[to..to + 16],
-                    picked.refusal,
-                    picked.byte,
-                    picked.picks,
-                    picked.value,
-                    at.time,
-                );
-            }
-            2 => {
-                let advanced = at.advance(m, index);
-                at = advanced.config;
-                put_answer(
-                    &mut answers[to..to + 16],
-                    advanced.refusal,
-                    advanced.byte,
-                    advanced.picks,
-                    advanced.value,
-                    at.time,
-                );
-            }
-            3 => {
-                let settled = at.settle(m, index, count);
-                at = settled.config;
-                put_answer(
-                    &mut answers[to..to + 16],
-                    settled.refusal,
-                    settled.byte,
-                    settled.picks,
-                    settled.value,
-                    at.time,
-                );
-            }
-            _ => {
-                let read = at.read(argument);
-                at = read.config;
-                put_answer(
-                    &mut answers[to..to + 16],
-                    read.refusal,
-                    read.byte,
-                    read.picks,
-                    read.value,
-                    at.time,
-                );
-            }
-        }
     }
     at
 }

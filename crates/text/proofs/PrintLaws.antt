@@ -18,6 +18,7 @@ use Rattle.base.proofs.Rules.{fails}
 use Rattle.base.proofs.Cases.{either-way}
 use Rattle.blocks.specs.Blocks.{lengthOk}
 use Rattle.blocks.specs.Records.{modelOf}
+use Rattle.blocks.specs.Totals.{blockRules}
 use Rattle.model.specs.Rules.{rulesOf, refusalOf}
 use Rattle.blocks.proofs.Starts.{length-most}
 use Rattle.rules.specs.Configuration.{first}
@@ -74,7 +75,7 @@ long-orders : (o : List ℕ) → 16384 < length o → ordersOk o ≡ false
 long-orders o l = either-way (ordersOk o) (λ e. let k = orders-few o [] e in absurd (omega arith)) (λ e. e)
 
 long-model : (m : List ℕ) → 32768 < length m → refusalOf m ≡ 1
-unfolding refusalOf rulesOf
+unfolding refusalOf rulesOf blockRules
 long-model m l = either-way (lengthOk m) (λ e. let k = length-most m e in absurd (omega arith)) (λ e. sym (fails 1 _ _ refl e))
 
 -- what a session prints where it is played

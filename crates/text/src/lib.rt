@@ -2,12 +2,11 @@
 ghost use mathlib.Core.Path.{_≡_};
 ghost use Prim.Native.Nat.{_+_, _*_, _/_, _≤_, _<_};
 ghost use lib.ListN.{length, take, replicate};
-ghost use Rattle.text.specs.Text.{decimalOf, signedOf, space, ended, timeIn, lineOf, numberLineOf, answersIn, linesOf, textOf};
-ghost use Rattle.text.specs.Text.{lineMost, modelRoom, ordersRoom, textRoom, RoomsSuffice, AnswerRoom, Prints, Written};
-use session::session;
+ghost use Rattle.text.specs.Text.{decimalOf, signedOf, space, ended, timeIn, lineOf, numberLineOf, answersIn, linesOf, textOf, lineMost, modelRoom, ordersRoom, textRoom, RoomsSuffice, AnswerRoom, Prints, Written};
 use base::byte;
 use base::long;
 use base::word;
+use session::session;
 
 // How many bytes the program has room for: of the model, of the orders and of the text.
 const MODEL_ROOM: usize = 32769;

@@ -1,13 +1,14 @@
--- The loop keeps `Playing`; each arm goes on to the next order by `playing-next`. The measure is the orders left. Assumes nothing.
+-- The loop keeps `Playing`; what the order gave goes on to the next order by `playing-next`. The measure is the orders left. Assumes
+-- nothing.
+use mathlib.Core.Logic.{⊎-elim}
 use Prim.Native.Nat.{_+_, _*_, _-_, _<_}
 use native.Mathlib.Omega.{arith}
 use borrow.Author.Needs.{needs}
 use Rattle.blocks.specs.Records.{modelOf}
 use Rattle.cycle.specs.View.{viewOf}
 use Rattle.cycle.proofs.Advances.{few-signals}
-use Rattle.cycle.proofs.OrderLaws.{refused-each}
 use Rattle.session.specs.Lists.{played}
-use Rattle.session.proofs.PlayLaws.{Playing, Reading, playing-next, refused-order, pick-order, advance-order, settle-order, read-order, no-orders, all-written}
+use Rattle.session.proofs.PlayLaws.{Playing, Reading, playing-next, refused-gives, picks-give, advance-gives, read-gives, no-orders, all-written}
 use Rattle.session.proofs.play.play.Statement.{statement}
 use Rattle.session.proofs.play.play.Tie as tie
 
@@ -20,7 +21,7 @@ abbrev μ-loop : tie.MeasureT-loop
 -- what holds in every arm: after the call of `known`
 module _ (c : tie.After-known Inv-loop μ-loop) where
   abbrev turn : tie.In-loop Inv-loop μ-loop
-  turn = c .before .before .before .before
+  turn = c .before .before .before .before .before
 
   abbrev head : tie.At-loop Inv-loop μ-loop
   head = turn .before
@@ -28,14 +29,14 @@ module _ (c : tie.After-known Inv-loop μ-loop) where
   abbrev start : tie.Start Inv-loop μ-loop
   start = head .before .before .before .before
 
-  reading : Reading (modelOf (start .args .m .now)) (start .args .orders .now) (viewOf (start .args .c)) (head .loop .i) (head .loop .at) (head .loop .answers) (c .before .before .before .byte .result) (c .before .before .byte2 .result) (c .before .word .result) (c .known .result)
+  reading : Reading (modelOf (start .args .m .now)) (start .args .orders .now) (viewOf (start .args .c)) (head .loop .i) (head .loop .at) (head .loop .answers) (c .before .before .before .before .byte .result) (c .before .before .before .byte2 .result) (c .before .before .word .result) (c .known .result)
   reading =
       record {
         playing = head .loop .inv;
         here = turn .loop-test .taken;
-        kind-read = c .before .before .before .byte .ensures .value;
-        argument-read = c .before .before .byte2 .ensures .value;
-        count-read = c .before .word .ensures .value;
+        kind-read = c .before .before .before .before .byte .ensures .value;
+        argument-read = c .before .before .before .byte2 .ensures .value;
+        count-read = c .before .before .word .ensures .value;
         known = c .known .ensures;
       }
 
@@ -67,11 +68,23 @@ word-requires c κs = search needs
 mul-to : tie.Need-mul-to Inv-loop μ-loop
 mul-to c = search needs
 
-add-i : tie.Need-add-i Inv-loop μ-loop
-add-i c = search needs
+refused-requires : tie.Need-refused-requires Inv-loop μ-loop
+refused-requires c κs = search needs
 
 known-requires : tie.Need-known-requires Inv-loop μ-loop
 known-requires c κs = search needs
+
+picks-of-requires : tie.Need-picks-of-requires Inv-loop μ-loop
+picks-of-requires c κs = search needs
+
+picks-requires : tie.Need-picks-requires Inv-loop μ-loop
+picks-requires c κs = search needs
+
+advance-requires : tie.Need-advance-requires Inv-loop μ-loop
+advance-requires c κs = search needs
+
+read-requires : tie.Need-read-requires Inv-loop μ-loop
+read-requires c κs = let known = c .before .before in few-signals (start known .pre .0 .facts) (head known .loop .inv .valid)
 
 add-put-answer : tie.Need-add-put-answer Inv-loop μ-loop
 add-put-answer c = search needs
@@ -88,132 +101,27 @@ part-put-answer-end c = search needs
 put-answer-requires : tie.Need-put-answer-requires Inv-loop μ-loop
 put-answer-requires c κs = search needs
 
+add-i : tie.Need-add-i Inv-loop μ-loop
+add-i c = search needs
+
 loop-less : tie.Need-loop-less Inv-loop μ-loop
 loop-less c = search needs
 
 loop-again : tie.Need-loop-again Inv-loop μ-loop
 loop-again c =
     let put = c .before .before in
-    let test = put .before .before in
-    let order = reading (test .before) in
-    playing-next order (refused-order order (test .if1 .taken)) (refused-each _ 11 _ (order .playing .valid)) (put .put-answer .ensures)
-
-pick-requires : tie.Need-pick-requires Inv-loop μ-loop
-pick-requires c κs = search needs
-
-add-put-answer-2 : tie.Need-add-put-answer-2 Inv-loop μ-loop
-add-put-answer-2 c = omega (arith, fits (c .before .before .before .before))
-
-sub-put-answer-2 : tie.Need-sub-put-answer-2 Inv-loop μ-loop
-sub-put-answer-2 c = search needs
-
-part-put-answer-start-2 : tie.Need-part-put-answer-start-2 Inv-loop μ-loop
-part-put-answer-start-2 c = search needs
-
-part-put-answer-end-2 : tie.Need-part-put-answer-end-2 Inv-loop μ-loop
-part-put-answer-end-2 c = search needs
-
-put-answer-requires-2 : tie.Need-put-answer-requires-2 Inv-loop μ-loop
-put-answer-requires-2 c κs = search needs
-
-loop-less-2 : tie.Need-loop-less-2 Inv-loop μ-loop
-loop-less-2 c = search needs
-
-loop-again-2 : tie.Need-loop-again-2 Inv-loop μ-loop
-loop-again-2 c =
-    let put = c .before .before in
-    let did = put .before .before .before in
-    let test = did .before .before in
-    let order = reading (test .before) in
-    playing-next order (pick-order order (test .if1 .left) (did .before .match .keys1)) (did .pick .ensures) (put .put-answer2 .ensures)
-
-advance-requires : tie.Need-advance-requires Inv-loop μ-loop
-advance-requires c κs = search needs
-
-add-put-answer-3 : tie.Need-add-put-answer-3 Inv-loop μ-loop
-add-put-answer-3 c = omega (arith, fits (c .before .before .before .before))
-
-sub-put-answer-3 : tie.Need-sub-put-answer-3 Inv-loop μ-loop
-sub-put-answer-3 c = search needs
-
-part-put-answer-start-3 : tie.Need-part-put-answer-start-3 Inv-loop μ-loop
-part-put-answer-start-3 c = search needs
-
-part-put-answer-end-3 : tie.Need-part-put-answer-end-3 Inv-loop μ-loop
-part-put-answer-end-3 c = search needs
-
-put-answer-requires-3 : tie.Need-put-answer-requires-3 Inv-loop μ-loop
-put-answer-requires-3 c κs = search needs
-
-loop-less-3 : tie.Need-loop-less-3 Inv-loop μ-loop
-loop-less-3 c = search needs
-
-loop-again-3 : tie.Need-loop-again-3 Inv-loop μ-loop
-loop-again-3 c =
-    let put = c .before .before in
-    let did = put .before .before .before in
-    let test = did .before .before in
-    let order = reading (test .before) in
-    playing-next order (advance-order order (test .if1 .left) (did .before .match .keys2)) (did .advance .ensures) (put .put-answer3 .ensures)
-
-settle-requires : tie.Need-settle-requires Inv-loop μ-loop
-settle-requires c κs = search needs
-
-add-put-answer-4 : tie.Need-add-put-answer-4 Inv-loop μ-loop
-add-put-answer-4 c = omega (arith, fits (c .before .before .before .before))
-
-sub-put-answer-4 : tie.Need-sub-put-answer-4 Inv-loop μ-loop
-sub-put-answer-4 c = search needs
-
-part-put-answer-start-4 : tie.Need-part-put-answer-start-4 Inv-loop μ-loop
-part-put-answer-start-4 c = search needs
-
-part-put-answer-end-4 : tie.Need-part-put-answer-end-4 Inv-loop μ-loop
-part-put-answer-end-4 c = search needs
-
-put-answer-requires-4 : tie.Need-put-answer-requires-4 Inv-loop μ-loop
-put-answer-requires-4 c κs = search needs
-
-loop-less-4 : tie.Need-loop-less-4 Inv-loop μ-loop
-loop-less-4 c = search needs
-
-loop-again-4 : tie.Need-loop-again-4 Inv-loop μ-loop
-loop-again-4 c =
-    let put = c .before .before in
-    let did = put .before .before .before in
-    let test = did .before .before in
-    let order = reading (test .before) in
-    playing-next order (settle-order order (test .if1 .left) (did .before .match .keys3)) (did .settle .ensures) (put .put-answer4 .ensures)
-
-read-requires : tie.Need-read-requires Inv-loop μ-loop
-read-requires c κs = let known = c .before .before in few-signals (start known .pre .0 .facts) (head known .loop .inv .valid)
-
-add-put-answer-5 : tie.Need-add-put-answer-5 Inv-loop μ-loop
-add-put-answer-5 c = omega (arith, fits (c .before .before .before .before))
-
-sub-put-answer-5 : tie.Need-sub-put-answer-5 Inv-loop μ-loop
-sub-put-answer-5 c = search needs
-
-part-put-answer-start-5 : tie.Need-part-put-answer-start-5 Inv-loop μ-loop
-part-put-answer-start-5 c = search needs
-
-part-put-answer-end-5 : tie.Need-part-put-answer-end-5 Inv-loop μ-loop
-part-put-answer-end-5 c = search needs
-
-put-answer-requires-5 : tie.Need-put-answer-requires-5 Inv-loop μ-loop
-put-answer-requires-5 c κs = search needs
-
-loop-less-5 : tie.Need-loop-less-5 Inv-loop μ-loop
-loop-less-5 c = search needs
-
-loop-again-5 : tie.Need-loop-again-5 Inv-loop μ-loop
-loop-again-5 c =
-    let put = c .before .before in
-    let did = put .before .before .before in
-    let test = did .before .before in
-    let order = reading (test .before) in
-    let rest = did .before .match .rest in
-    playing-next order (read-order order (test .if1 .left) (rest .0 .0 .1) (rest .0 .1) (rest .1)) (did .read .ensures _ (order .playing .valid)) (put .put-answer5 .ensures)
+    let met = put .before .before in
+    let order = reading (met .before) in
+    playing-next order
+    (⊎-elim
+    (λ w. rw (w .6, w .7) (picks-give order (w .0 .taken) _ (w .2 .ensures) (w .1 .keys1) _ (w .3 .ensures)))
+    (⊎-elim
+    (λ w. rw (w .5, w .6) (advance-gives order (w .0 .taken) (w .1 .keys2) _ (w .2 .ensures)))
+    (⊎-elim
+    (λ w. rw (w .5, w .6) (read-gives order (w .0 .taken) (w .1 .rest .0 .1) (w .1 .rest .1) _ (w .2 .ensures .0) (w .2 .ensures .1)))
+    (λ w. rw (w .1, w .2) (refused-gives order (w .0 .left) _ (met .before .before .refused .ensures)))))
+    (met .if1 .came))
+    (put .put-answer .ensures)
 
 same-length : tie.Need-same-length Inv-loop μ-loop
 same-length c = search needs
@@ -243,46 +151,19 @@ play-spec =
     add-word
     word-requires
     mul-to
-    add-i
+    refused-requires
     known-requires
+    picks-of-requires
+    picks-requires
+    advance-requires
+    read-requires
     add-put-answer
     sub-put-answer
     part-put-answer-start
     part-put-answer-end
     put-answer-requires
+    add-i
     loop-less
     loop-again
-    pick-requires
-    add-put-answer-2
-    sub-put-answer-2
-    part-put-answer-start-2
-    part-put-answer-end-2
-    put-answer-requires-2
-    loop-less-2
-    loop-again-2
-    advance-requires
-    add-put-answer-3
-    sub-put-answer-3
-    part-put-answer-start-3
-    part-put-answer-end-3
-    put-answer-requires-3
-    loop-less-3
-    loop-again-3
-    settle-requires
-    add-put-answer-4
-    sub-put-answer-4
-    part-put-answer-start-4
-    part-put-answer-end-4
-    put-answer-requires-4
-    loop-less-4
-    loop-again-4
-    read-requires
-    add-put-answer-5
-    sub-put-answer-5
-    part-put-answer-start-5
-    part-put-answer-end-5
-    put-answer-requires-5
-    loop-less-5
-    loop-again-5
     same-length
     returns)

@@ -85,7 +85,7 @@ advance-spec =
     -- returns
     (λ c.
     let e = c .before .before in
-    rw (advance-refused _ _ (valid e) _ (e .next-due .ensures) (c .before .if1 .taken)) (c .refused .ensures _ (valid e)))
+    rw (advance-refused _ _ (valid e) _ (e .next-due .ensures) (c .before .if1 .taken)) (record { is = c .refused .ensures .0; valid = c .refused .ensures .1 _ (valid e) }))
     -- actives-requires
     (λ c κs.
     let e = c .before .before .before .before in

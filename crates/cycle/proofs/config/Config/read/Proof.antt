@@ -8,7 +8,7 @@ refused-requires : tie.Need-refused-requires
 refused-requires c κs = search needs
 
 returns : tie.Need-returns
-returns c = read-none _ _ _ (c .before .if1 .taken) (c .refused .ensures)
+returns c = (read-none _ _ _ (c .before .if1 .taken) (c .refused .ensures .0), c .refused .ensures .1)
 
 mul-v : tie.Need-mul-v
 mul-v c = search needs
@@ -20,7 +20,7 @@ element-copy-out-v : tie.Need-element-copy-out-v
 element-copy-out-v c = search needs
 
 returns-2 : tie.Need-returns-2
-returns-2 c = read-some _ _ (c .before .if1 .left) _ refl
+returns-2 c = (read-some _ _ (c .before .if1 .left) _ refl, λ M f. f)
 
 pub read-spec : {M : Type 1} → statement M
 read-spec =

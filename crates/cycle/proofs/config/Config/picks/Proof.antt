@@ -1,5 +1,5 @@
--- `cycle::config::Config::settle` meets its contract: the loop keeps `Turning`, and each arm makes a `Turn`. The measure is what is
--- left of the picks and of the processes.
+-- The loop keeps `Turning`, and each arm makes a `Turn`; `picks-done` tells what the loop left. The measure is what is left of the
+-- picks and of the processes. Assumes nothing.
 use mathlib.Core.Path.{refl}
 use Prim.Native.Nat.{_+_, _-_, _<_}
 use native.Mathlib.Omega.{arith}
@@ -9,25 +9,40 @@ use Rattle.blocks.specs.Records.{modelOf}
 use Rattle.fields.specs.Facts.{Spans}
 use Rattle.expressions.specs.Reading.{Runs}
 use Rattle.cycle.specs.declared.config.Config.{Config}
+use Rattle.cycle.specs.declared.settle.Turns.{Turns}
 use Rattle.rules.proofs.Lists.{length-mapped}
 use Rattle.cycle.proofs.Changes.{Sized}
-use Rattle.cycle.proofs.Turning.{Turning, Turn, Stepped, statement-there, is-ready, turning-next, goes-on, turning-none, turning-past, settle-end, early, in-16, process-in-model, place-spans, in-variables, wait-small, skip-turn, store-turn, jump-turn, wait-turn, wait-for-turn, stop-turn, in-drivers, waveform, full-turn, schedule-turn}
-use Rattle.cycle.proofs.config.Config.settle.Statement.{statement}
-use Rattle.cycle.proofs.config.Config.settle.Tie as tie
+use Rattle.cycle.proofs.OrderLaws.{turns-within, picks-answer}
+use Rattle.cycle.proofs.Turning.{Turning, Turn, Stepped, statement-there, is-ready, turning-next, goes-on, turning-none, turning-past, turning-end, early, in-16, process-in-model, place-spans, in-variables, wait-small, skip-turn, store-turn, jump-turn, wait-turn, wait-for-turn, stop-turn, in-drivers, waveform, full-turn, schedule-turn}
+use Rattle.cycle.proofs.config.Config.picks.Statement.{statement}
+use Rattle.cycle.proofs.config.Config.picks.Tie as tie
 
 abbrev Inv-loop : tie.InvT-loop
-Inv-loop m index count self₀ now end p₀ n₀ self p n = Turning (modelOf m) count now end self₀ p n self
+Inv-loop m index which self₀ now nprocesses end count p₀ n₀ self p n = Turning (modelOf m) count now p₀ end self₀ p n self
 
 abbrev μ-loop : tie.MeasureT-loop
-μ-loop m index count self₀ now end p₀ n₀ self p n = (count - n) + (end - p)
+μ-loop m index which self₀ now nprocesses end count p₀ n₀ self p n = (count - n) + (end - p)
 
 -- what holds where the loop goes on
-module _ (c : tie.In-loop Inv-loop μ-loop) where
-  abbrev start : tie.Start Inv-loop μ-loop
-  start = c .before .before .before
+module _ (c : tie.At-loop Inv-loop μ-loop) where
+  abbrev looked : tie.After-turns-of Inv-loop μ-loop
+  looked = c .before
 
-  ahead : (c .before .loop .n < start .args .count) × (c .before .loop .p < start .args .t1 .nprocesses)
+  abbrev part : Turns
+  part = looked .turns-of .result
+
+  abbrev start : tie.Start Inv-loop μ-loop
+  start = looked .before .before
+
+module _ (c : tie.In-loop Inv-loop μ-loop) where
+  ahead : (c .before .loop .n < part (c .before) .count) × (c .before .loop .p < part (c .before) .end)
   ahead = goes-on _ _ _ _ (c .loop-test .taken)
+
+  small : c .before .loop .p < 16
+  small = let inv = c .before .loop .inv in omega (arith, ahead .1, inv .within, inv .most)
+
+  inside : c .before .loop .p < c .before .loop .self .nprocesses
+  inside = omega (arith, ahead .1, c .before .loop .inv .whole, c .before .loop .inv .within)
 
 -- what holds in every arm: after the call of `does`
 module _ (c : tie.After-does Inv-loop μ-loop) where
@@ -38,7 +53,7 @@ module _ (c : tie.After-does Inv-loop μ-loop) where
   at = test .before
 
   abbrev args : tie.Start Inv-loop μ-loop
-  args = at .before .before
+  args = start at
 
   turn : Turn (modelOf (args .args .m .now)) (args .args .t1 .time) (at .loop .p) (at .loop .self) (c .does .result)
   turn =
@@ -47,20 +62,20 @@ module _ (c : tie.After-does Inv-loop μ-loop) where
         clock = at .loop .inv .clock;
         sized = at .loop .inv .sized;
         valid = at .loop .inv .valid;
-        here = omega (arith, ahead test .1, at .loop .inv .whole);
+        here = inside test;
         idle = c .before .before .before .before .before .if1 .left;
         does = c .does .ensures;
       }
 
   -- the pick is made: the loop goes on with the struct that an arm left
   next : (r : Config) → Stepped (modelOf (args .args .m .now)) (at .loop .p) (at .loop .self) r
-      → Turning (modelOf (args .args .m .now)) (args .args .count) (args .args .t1 .time) (args .args .t1 .nprocesses) (args .args .t1) (at .loop .p) (at .loop .n + 1) r
+      → Turning (modelOf (args .args .m .now)) (part at .count) (args .args .t1 .time) (part at .first) (part at .end) (args .args .t1) (at .loop .p) (at .loop .n + 1) r
   next r d = turning-next (at .loop .inv) (ahead test .0) (ahead test .1) (is-ready turn) r d
 
   asked : Runs (args .args .m .now) (args .args .index .now) × ((at .loop .p < length (modelOf (args .args .m .now) .processes)) × Spans (modelOf (args .args .m .now)) (at .loop .p) (getD (at .loop .self .places) (at .loop .p) 0))
   asked = (args .pre .0, (process-in-model turn, place-spans turn))
 
-  falls : (args .args .count - (at .loop .n + 1)) + (args .args .t1 .nprocesses - at .loop .p) < (args .args .count - at .loop .n) + (args .args .t1 .nprocesses - at .loop .p)
+  falls : (part at .count - (at .loop .n + 1)) + (part at .end - at .loop .p) < (part at .count - at .loop .n) + (part at .end - at .loop .p)
   falls = omega (arith, ahead test .0)
 
 sized : (c : tie.Start Inv-loop μ-loop) → Sized (c .args .t1)
@@ -75,17 +90,23 @@ sized c =
       variables = search needs;
     }
 
+turns-of-requires : tie.Need-turns-of-requires Inv-loop μ-loop
+turns-of-requires c κs = search needs
+
 loop-holds : tie.Need-loop-holds Inv-loop μ-loop
-loop-holds c = turning-none _ (c .before .pre .0 .facts) _ _ (sized (c .before)) (c .before .pre .1)
+loop-holds c =
+    let start = c .before .before in
+    let part = c .turns-of .result in
+    turning-none _ (start .pre .0 .facts) (part .count) (part .first) (part .end) _ (sized start) (start .pre .1) (turns-within (start .args .which) _ part (c .turns-of .ensures))
 
 mul-standing : tie.Need-mul-standing Inv-loop μ-loop
-mul-standing c = search needs
+mul-standing c = omega (arith, small c)
 
 element-copy-out-standing : tie.Need-element-copy-out-standing Inv-loop μ-loop
-element-copy-out-standing c = omega (arith, ahead c .1)
+element-copy-out-standing c = small c
 
 add-p : tie.Need-add-p Inv-loop μ-loop
-add-p c = search needs
+add-p c = omega (arith, small (c .before .before))
 
 loop-less : tie.Need-loop-less Inv-loop μ-loop
 loop-less c = omega (arith, ahead (c .before .before) .1)
@@ -94,16 +115,19 @@ loop-again : tie.Need-loop-again Inv-loop μ-loop
 loop-again c = turning-past (c .before .before .before .loop .inv) (ahead (c .before .before) .1) (c .if1 .taken)
 
 mul-place : tie.Need-mul-place Inv-loop μ-loop
-mul-place c = search needs
+mul-place c = omega (arith, small (c .before .before))
 
 element-copy-out-place : tie.Need-element-copy-out-place Inv-loop μ-loop
-element-copy-out-place c = omega (arith, ahead (c .before .before) .1)
+element-copy-out-place c = small (c .before .before)
 
 add-n : tie.Need-add-n Inv-loop μ-loop
 add-n c = omega (arith, ahead (c .before .before .before) .0)
 
 does-requires : tie.Need-does-requires Inv-loop μ-loop
-does-requires c κs = (c .before .before .before .before .before .before .before .before .before .pre .0, statement-there _ (c .before .before .before .before .before .before .before .before .before .pre .0 .facts) _ (c .before .before .before .before .before .before .before .loop .inv .valid) _ (omega (arith, ahead (c .before .before .before .before .before .before) .1)))
+does-requires c κs =
+    let t = c .before .before .before .before .before .before in
+    let st = start (t .before) in
+    (st .pre .0, statement-there _ (st .pre .0 .facts) _ (t .before .loop .inv .valid) _ (inside t))
 
 next-place-requires : tie.Need-next-place-requires Inv-loop μ-loop
 next-place-requires c κs = asked c
@@ -112,7 +136,7 @@ enum-told : tie.Need-enum-told Inv-loop μ-loop
 enum-told c = search needs
 
 mul-self : tie.Need-mul-self Inv-loop μ-loop
-mul-self c = search needs
+mul-self c = omega (arith, in-16 (turn (c .before .before .before)))
 
 element-write-self : tie.Need-element-write-self Inv-loop μ-loop
 element-write-self c = in-16 (turn (c .before .before .before))
@@ -133,7 +157,7 @@ element-write-self-2 : tie.Need-element-write-self-2 Inv-loop μ-loop
 element-write-self-2 c = in-variables (turn (c .before .before .before .before)) _ _ (c .before .effect .given .1)
 
 mul-self-3 : tie.Need-mul-self-3 Inv-loop μ-loop
-mul-self-3 c = search needs
+mul-self-3 c = omega (arith, in-16 (turn (c .before .before .before .before)))
 
 element-write-self-3 : tie.Need-element-write-self-3 Inv-loop μ-loop
 element-write-self-3 c = in-16 (turn (c .before .before .before .before))
@@ -157,13 +181,13 @@ schedule-requires : tie.Need-schedule-requires Inv-loop μ-loop
 schedule-requires c κs = waveform (turn (c .before .before .before .before .before)) _ _ _ (c .before .before .effect2 .given .1)
 
 mul-self-4 : tie.Need-mul-self-4 Inv-loop μ-loop
-mul-self-4 c = search needs
+mul-self-4 c = omega (arith, in-16 (turn (c .before .before .before .before .before .before .before)))
 
 element-write-self-4 : tie.Need-element-write-self-4 Inv-loop μ-loop
 element-write-self-4 c = in-16 (turn (c .before .before .before .before .before .before .before))
 
 mul-self-5 : tie.Need-mul-self-5 Inv-loop μ-loop
-mul-self-5 c = search needs
+mul-self-5 c = omega (arith, in-16 (turn (c .before .before .before .before .before .before .before)))
 
 element-write-self-5 : tie.Need-element-write-self-5 Inv-loop μ-loop
 element-write-self-5 c = in-16 (turn (c .before .before .before .before .before .before .before))
@@ -190,7 +214,7 @@ element-set-from-f : tie.Need-element-set-from-f Inv-loop μ-loop
 element-set-from-f c = in-drivers (turn (c .before .before .before .before .before .before .before .before .before)) _ _ _ (c .before .before .before .before .before .before .effect2 .given .1)
 
 mul-self-7 : tie.Need-mul-self-7 Inv-loop μ-loop
-mul-self-7 c = search needs
+mul-self-7 c = omega (arith, in-16 (turn (c .before .before .before .before .before .before .before .before .before)))
 
 element-write-self-7 : tie.Need-element-write-self-7 Inv-loop μ-loop
 element-write-self-7 c = in-16 (turn (c .before .before .before .before .before .before .before .before .before))
@@ -205,7 +229,7 @@ enum-known-effect-3 : tie.Need-enum-known-effect-3 Inv-loop μ-loop
 enum-known-effect-3 c = search needs
 
 mul-self-8 : tie.Need-mul-self-8 Inv-loop μ-loop
-mul-self-8 c = search needs
+mul-self-8 c = omega (arith, in-16 (turn (c .before .before .before .before)))
 
 element-write-self-8 : tie.Need-element-write-self-8 Inv-loop μ-loop
 element-write-self-8 c = in-16 (turn (c .before .before .before .before))
@@ -220,7 +244,7 @@ enum-told-2 : tie.Need-enum-told-2 Inv-loop μ-loop
 enum-told-2 c = search needs
 
 mul-self-9 : tie.Need-mul-self-9 Inv-loop μ-loop
-mul-self-9 c = search needs
+mul-self-9 c = omega (arith, in-16 (turn (c .before .before .before)))
 
 element-write-self-9 : tie.Need-element-write-self-9 Inv-loop μ-loop
 element-write-self-9 c = in-16 (turn (c .before .before .before))
@@ -235,7 +259,7 @@ enum-known-effect-4 : tie.Need-enum-known-effect-4 Inv-loop μ-loop
 enum-known-effect-4 c = search needs
 
 mul-self-10 : tie.Need-mul-self-10 Inv-loop μ-loop
-mul-self-10 c = search needs
+mul-self-10 c = omega (arith, in-16 (turn (c .before .before .before .before)))
 
 element-write-self-10 : tie.Need-element-write-self-10 Inv-loop μ-loop
 element-write-self-10 c = in-16 (turn (c .before .before .before .before))
@@ -247,7 +271,7 @@ add-self : tie.Need-add-self Inv-loop μ-loop
 add-self c = omega (arith, early (turn (c .before .before .before .before)), wait-small (turn (c .before .before .before .before)) _ (c .before .effect4 .given .1))
 
 mul-self-11 : tie.Need-mul-self-11 Inv-loop μ-loop
-mul-self-11 c = search needs
+mul-self-11 c = omega (arith, in-16 (turn (c .before .before .before .before)))
 
 element-write-self-11 : tie.Need-element-write-self-11 Inv-loop μ-loop
 element-write-self-11 c = in-16 (turn (c .before .before .before .before))
@@ -262,13 +286,13 @@ enum-known-effect-5 : tie.Need-enum-known-effect-5 Inv-loop μ-loop
 enum-known-effect-5 c = search needs
 
 mul-self-12 : tie.Need-mul-self-12 Inv-loop μ-loop
-mul-self-12 c = search needs
+mul-self-12 c = omega (arith, in-16 (turn (c .before .before .before .before)))
 
 element-write-self-12 : tie.Need-element-write-self-12 Inv-loop μ-loop
 element-write-self-12 c = in-16 (turn (c .before .before .before .before))
 
 mul-self-13 : tie.Need-mul-self-13 Inv-loop μ-loop
-mul-self-13 c = search needs
+mul-self-13 c = omega (arith, in-16 (turn (c .before .before .before .before)))
 
 element-write-self-13 : tie.Need-element-write-self-13 Inv-loop μ-loop
 element-write-self-13 c = in-16 (turn (c .before .before .before .before))
@@ -279,21 +303,30 @@ loop-less-9 c = falls (c .before .before .before .before)
 loop-again-9 : tie.Need-loop-again-9 Inv-loop μ-loop
 loop-again-9 c = next (c .before .before .before .before) _ (stop-turn (turn (c .before .before .before .before)) _ (c .before .effect5 .given .1))
 
-any-standing-requires : tie.Need-any-standing-requires Inv-loop μ-loop
-any-standing-requires c κs = search needs
-
-bit-requires : tie.Need-bit-requires Inv-loop μ-loop
-bit-requires c κs = search needs
+reply-requires : tie.Need-reply-requires Inv-loop μ-loop
+reply-requires c κs = search needs
 
 returns : tie.Need-returns Inv-loop μ-loop
-returns c = settle-end (c .before .before .before .before .before .loop .inv) (c .before .before .before .before .loop-test .left) _ _ (c .before .any-standing .ensures) (c .bit .ensures)
+returns c =
+    let at = c .before .before .before .before .before in
+    let inv = at .loop .inv in
+    picks-answer (start at .args .which)
+    (record {
+      before = start at .pre .1;
+      valid = inv .valid;
+      turns = part at;
+      part = looked at .turns-of .ensures;
+      rest = turning-end inv (c .before .before .before .before .loop-test .left);
+    })
+    _ (c .reply .ensures)
 
-pub settle-spec : {M : Type 1} → statement M
-settle-spec =
+pub picks-spec : {M : Type 1} → statement M
+picks-spec =
     tie.close
     (tie.spec
     Inv-loop
     μ-loop
+    turns-of-requires
     loop-holds
     mul-standing
     element-copy-out-standing
@@ -362,6 +395,5 @@ settle-spec =
     element-write-self-13
     loop-less-9
     loop-again-9
-    any-standing-requires
-    bit-requires
+    reply-requires
     returns)
