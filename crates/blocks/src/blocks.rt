@@ -222,7 +222,7 @@ fn section(kind: usize) -> usize
     }
 }
 
-// Writes where the records of each kind begin.
+// Writes where the records of each kind begin. What the entries behind the starts hold is left open: the rules above fill them.
 pub fn put_index(m: &[u8], out: &mut [u16])
     requires { ⌜ lengthOk (now m) ≡ true ⌝ }
     requires { ⌜ headsOk (now m) ≡ true ⌝ }

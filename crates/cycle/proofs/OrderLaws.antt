@@ -20,9 +20,9 @@ use Rattle.cycle.specs.Turns.{turnsOf, replyOf}
 use Rattle.cycle.specs.declared.config.Config.{Config}
 use Rattle.cycle.specs.declared.orders.Answer.{Answer}
 use Rattle.cycle.specs.declared.orders.Answered.{Answered}
-use Rattle.cycle.specs.declared.settle.Turns.{Turns}
-use Rattle.cycle.specs.declared.settle.Picks.{Picks}
-use Rattle.cycle.specs.declared.settle.Picks.the-variants.{One, Settle}
+use Rattle.cycle.specs.declared.picks.Turns.{Turns}
+use Rattle.cycle.specs.declared.picks.Picks.{Picks}
+use Rattle.cycle.specs.declared.picks.Picks.the-variants.{One, Settle}
 use Rattle.rules.proofs.Settling.{turnedFrom, turned-settled, turned-none, turned-ready, turned-waiting}
 use Rattle.cycle.proofs.ViewLaws.{past-in, standing-in, ready-in, fault-in, nprocesses-is}
 

@@ -67,7 +67,7 @@ pub record Turn (M : Model) (now : ℕ) (p : ℕ) (c : Config) (e : Effect) : Ty
   pub valid : Valid M c
   pub here : p < c .nprocesses
   pub idle : getD (c .standings) p 0 ≡ 0
-  pub does : e ≡ effectBy M (arrays (c .variables) (c .signals)) (ownerOf M (getD (c .places) p 0)) (statementAt M (getD (c .places) p 0))
+  pub effect : e ≡ effectBy M (arrays (c .variables) (c .signals)) (ownerOf M (getD (c .places) p 0)) (statementAt M (getD (c .places) p 0))
 
 -- the struct c' is c after a pick of p, with arrays of their lengths
 pub record Stepped (M : Model) (p : ℕ) (c c' : Config) : Type 0 where
@@ -103,7 +103,7 @@ module _ {M : Model} {now p : ℕ} {c : Config} {e : Effect} (t : Turn M now p c
 
   -- what the effect names is there
   fits : EffectFits M p (statementAt M (getD (c .places) p 0) .kind) e
-  fits = rw (place-in c p in-nprocesses, ← effect-is M fs c f p in-nprocesses, ← t .does) at (effect-fits M (viewOf c) (f .reachable) fs p process-in-model)
+  fits = rw (place-in c p in-nprocesses, ← effect-is M fs c f p in-nprocesses, ← t .effect) at (effect-fits M (viewOf c) (f .reachable) fs p process-in-model)
 
   pub in-variables : (a v : ℕ) → e ≡ Store a v → a < 64
   in-variables a v x = let g : StoreFits M p a v = rw x at fits in omega (arith, g .variable, fs .totals .variables)
@@ -117,7 +117,7 @@ module _ {M : Model} {now p : ℕ} {c : Config} {e : Effect} (t : Turn M now p c
 
   step-is : applied M p e (viewOf c) ≡ stepped M p (viewOf c)
   unfolding stepped
-  step-is = rw (t .does, effect-is M fs c f p in-nprocesses)
+  step-is = rw (t .effect, effect-is M fs c f p in-nprocesses)
 
   abbrev Next : Config → Type 0
   Next c' = Stepped M p c c'

@@ -8,9 +8,9 @@ use Rattle.rules.specs.Configuration.{ready}
 use Rattle.steps.specs.Due.{someIs}
 use Rattle.cycle.specs.View.{refusalOf}
 use Rattle.cycle.specs.declared.orders.Answer.{Answer}
-use Rattle.cycle.specs.declared.settle.Turns.{Turns}
-use Rattle.cycle.specs.declared.settle.Picks.{Picks}
-use Rattle.cycle.specs.declared.settle.Picks.the-variants.{One, Settle}
+use Rattle.cycle.specs.declared.picks.Turns.{Turns}
+use Rattle.cycle.specs.declared.picks.Picks.{Picks}
+use Rattle.cycle.specs.declared.picks.Picks.the-variants.{One, Settle}
 
 -- process p once, if it is there; or all nprocesses processes, n times
 abbrev pub turnsOf : Picks → ℕ → Turns

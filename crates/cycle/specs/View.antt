@@ -13,8 +13,8 @@ use Rattle.rules.specs.Invariant.{Reachable}
 use Rattle.cycle.specs.declared.config.Config.{Config}
 use Rattle.cycle.specs.declared.orders.Answer.{Answer}
 use Rattle.cycle.specs.declared.orders.Answered.{Answered}
-use Rattle.cycle.specs.declared.settle.Picks.{Picks}
-use Rattle.cycle.specs.declared.settle.Picks.the-variants.{One, Settle}
+use Rattle.cycle.specs.declared.picks.Picks.{Picks}
+use Rattle.cycle.specs.declared.picks.Picks.the-variants.{One, Settle}
 
 unfoldable pub driverView : Config → ℕ → DriverState
 driverView c k = record { current = getD (c .currents) k 0; pending = pendingOf (c .time) (getD (c .drivers) k noDriver) }

@@ -14,8 +14,10 @@ use blocks::index::driver_at;
 use blocks::index::process_at;
 use blocks::index::signal_at;
 use blocks::index::variable_at;
+use rules::READY;
 use steps::resolve::resolved;
 use waveforms::driver::Driver;
+use waveforms::driver::NEVER;
 
 // Signal s of k units ago stands at 32 * s + k. Driver k: its current value, its waveform, and the time of its first pending
 // transaction (due), the largest number where it has none. A waveform's times are held as units from now: 32 bits, since a delay
@@ -124,6 +126,7 @@ fn histories(values: &[u32; 32], n: usize) -> [u32; 1024]
     r
 }
 
+// The contracts speak of the view: what the arrays hold past the totals is left open, and no view shows it.
 impl Config {
     pub fn empty() -> Config
         ensures { λ r. ⌜ viewOf r ≡ empty ⌝ }
@@ -138,11 +141,11 @@ impl Config {
             nprocesses: 0,
             signals: [0; 1024],
             currents: [0; 64],
-            due: [18446744073709551615; 64],
+            due: [NEVER; 64],
             drivers: [d; 64],
             places: [0; 16],
-            standings: [0; 16],
-            deadlines: [18446744073709551615; 16],
+            standings: [READY; 16],
+            deadlines: [NEVER; 16],
             faults: [0; 16],
             variables: [0; 64],
         }
@@ -168,11 +171,11 @@ impl Config {
             nprocesses: t.processes,
             signals,
             currents,
-            due: [18446744073709551615; 64],
+            due: [NEVER; 64],
             drivers: [d; 64],
             places,
-            standings: [0; 16],
-            deadlines: [18446744073709551615; 16],
+            standings: [READY; 16],
+            deadlines: [NEVER; 16],
             faults: [0; 16],
             variables,
         }

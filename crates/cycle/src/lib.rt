@@ -2,4 +2,4 @@
 pub mod advance;
 pub mod config;
 pub mod orders;
-pub mod settle;
+pub mod picks;

@@ -6,7 +6,7 @@ ghost use Rattle.rules.specs.Orders.{refused, picked, settled};
 ghost use Rattle.cycle.specs.View.{viewOf, Valid, Answers, outcomeOf, refusalOf, ReadTo, Keeps};
 ghost use Rattle.expressions.specs.Reading.{Runs};
 use crate::config::Config;
-use crate::settle::Picks;
+use crate::picks::Picks;
 use blocks::index::Index;
 
 // An answer, without the time.

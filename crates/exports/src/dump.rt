@@ -9,6 +9,7 @@ ghost use Rattle.cycle.specs.View.{viewOf};
 ghost use Rattle.exports.specs.Dump.{noProcess, totalWord, driverWord, processWord, wordOf};
 use cycle::config::Config;
 use waveforms::driver::Driver;
+use waveforms::driver::NEVER;
 
 fn total_word(c: Config, j: usize) -> u64
     ensures { λ r. ⌜ r ≡ totalWord (viewOf c) j ⌝ }
@@ -104,7 +105,7 @@ fn process_word(c: Config, p: usize, j: usize) -> u64
         return c.faults[p] as u64;
     }
     let t = c.deadlines[p];
-    if t == 18446744073709551615 {
+    if t == NEVER {
         return 0;
     }
     if j == 3 {

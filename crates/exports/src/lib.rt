@@ -1,4 +1,6 @@
-// The kernel's functions under plain names, for programs in other languages. Each has the contract of the function it calls.
+// The kernel under plain names, for programs in other languages: the operators and resolution of the nine values, the judging of a model,
+// and a whole session with its number, every byte of the answer buffer and the words of its end configuration. Each contract states the
+// whole result by the definitions of the function that it calls.
 pub mod dump;
 
 ghost use mathlib.Core.Path.{_≡_};

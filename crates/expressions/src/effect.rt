@@ -45,7 +45,7 @@ fn branch(a: usize, v: Value) -> Effect
 }
 
 // A schedule on driver k: fault 2 for a negative delay.
-fn send(k: usize, v: Value, c: Value) -> Effect
+fn assign(k: usize, v: Value, c: Value) -> Effect
     ensures { λ r. ⌜ r ≡ withValue v (λ x. withDelay c (λ d. Schedule k d x)) ⌝ }
 {
     match v {
@@ -79,7 +79,7 @@ fn wait_for(c: Value) -> Effect
 }
 
 // What statement n does.
-pub fn does<'a>(
+pub fn effect_of<'a>(
     m: &'a [u8],
     index: &'a Index,
     variables: &'a [u32; 64],
@@ -97,7 +97,7 @@ pub fn does<'a>(
         1 => store(s.a, eval(m, index, variables, signals, s.b)),
         2 => {
             let v = eval(m, index, variables, signals, s.b);
-            send(
+            assign(
                 assignment_driver(m, index, n),
                 v,
                 eval(m, index, variables, signals, s.c),

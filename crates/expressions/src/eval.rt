@@ -42,7 +42,8 @@ fn signal_of(signals: &[u32; 1024], a: usize, k: u32) -> Value
     Value::Of(signals[32 * a + wide32(k)])
 }
 
-// The value of node n. Operands are evaluated by this function, a before b.
+// The value of node n. Operands are evaluated by this function, a before b. They are lent the model as a slice of its own: the one
+// taken would be copied as 16 bytes right after its two halves were written, for which the machine waits (bench/README.md).
 pub fn eval<'a>(
     m: &'a [u8],
     index: &'a Index,
@@ -54,6 +55,7 @@ pub fn eval<'a>(
     requires { ⌜ n < length (modelOf (now m) .nodes) ⌝ }
     ensures { λ r. ⌜ r ≡ evalOf (modelOf (now (m .entry))) (arrays (now (variables .entry)) (now (signals .entry))) n ⌝ }
 {
+    let whole = &m[..];
     let d = node_at(m, index, n);
     let kind = d.kind;
     let a = d.a;
@@ -64,47 +66,50 @@ pub fn eval<'a>(
         3 => variable_of(variables, a),
         4 => signal_of(signals, a, 0),
         5 => signal_of(signals, a, d.k),
-        6 => not(type_at(m, index, n), eval(m, index, variables, signals, a)),
+        6 => not(
+            type_at(m, index, n),
+            eval(whole, index, variables, signals, a),
+        ),
         7 => {
-            let p = eval(m, index, variables, signals, a);
+            let p = eval(whole, index, variables, signals, a);
             let ty = type_at(m, index, n);
             if decided(ty, p, 0) {
                 return p;
             }
-            and(ty, p, eval(m, index, variables, signals, b))
+            and(ty, p, eval(whole, index, variables, signals, b))
         }
         8 => {
-            let p = eval(m, index, variables, signals, a);
+            let p = eval(whole, index, variables, signals, a);
             let ty = type_at(m, index, n);
             if decided(ty, p, 1) {
                 return p;
             }
-            or(ty, p, eval(m, index, variables, signals, b))
+            or(ty, p, eval(whole, index, variables, signals, b))
         }
         9 => {
-            let p = eval(m, index, variables, signals, a);
+            let p = eval(whole, index, variables, signals, a);
             xor(
                 type_at(m, index, n),
                 p,
-                eval(m, index, variables, signals, b),
+                eval(whole, index, variables, signals, b),
             )
         }
-        10 => negate(eval(m, index, variables, signals, a)),
+        10 => negate(eval(whole, index, variables, signals, a)),
         11 => {
-            let p = eval(m, index, variables, signals, a);
-            plus(p, eval(m, index, variables, signals, b))
+            let p = eval(whole, index, variables, signals, a);
+            plus(p, eval(whole, index, variables, signals, b))
         }
         12 => {
-            let p = eval(m, index, variables, signals, a);
-            minus(p, eval(m, index, variables, signals, b))
+            let p = eval(whole, index, variables, signals, a);
+            minus(p, eval(whole, index, variables, signals, b))
         }
         13 => {
-            let p = eval(m, index, variables, signals, a);
-            equal(p, eval(m, index, variables, signals, b))
+            let p = eval(whole, index, variables, signals, a);
+            equal(p, eval(whole, index, variables, signals, b))
         }
         14 => {
-            let p = eval(m, index, variables, signals, a);
-            less(p, eval(m, index, variables, signals, b))
+            let p = eval(whole, index, variables, signals, a);
+            less(p, eval(whole, index, variables, signals, b))
         }
         _ => Value::Of(0),
     }

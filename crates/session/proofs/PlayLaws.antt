@@ -24,8 +24,8 @@ use Rattle.cycle.specs.View.{Valid, Answers, Keeps, ReadTo, viewOf, outcomeOf, 
 use Rattle.cycle.specs.declared.config.Config.{Config}
 use Rattle.cycle.specs.declared.orders.Answer.{Answer}
 use Rattle.cycle.specs.declared.orders.Answered.{Answered}
-use Rattle.cycle.specs.declared.settle.Picks.{Picks}
-use Rattle.cycle.specs.declared.settle.Picks.the-variants.{One, Settle}
+use Rattle.cycle.specs.declared.picks.Picks.{Picks}
+use Rattle.cycle.specs.declared.picks.Picks.the-variants.{One, Settle}
 use Rattle.cycle.proofs.OrderLaws.{refused-is}
 use Rattle.cycle.proofs.ViewLaws.{nsignals-is}
 use Rattle.session.specs.Lists.{order, orderOf, ordersOf, isKnown, performed, answerBytes, answerOf, played}

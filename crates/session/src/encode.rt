@@ -29,7 +29,7 @@ fn encoded(refusal: usize, byte: usize, picks: usize, value: u32, time: u64) -> 
 }
 
 // Writes an answer into its 16 bytes.
-pub fn put_answer(out: &mut [u8], answer: Answer, time: u64)
+pub(crate) fn put_answer(out: &mut [u8], answer: Answer, time: u64)
     requires { ⌜ length (now out) ≡ 16 ⌝ }
     ensures { λ _. ⌜ now (out .exit) ≡ answerBytes (answer .refusal) (answer .byte) (answer .picks) (answer .value) time ⌝ }
 {

@@ -7,7 +7,7 @@ ghost use Rattle.base.specs.Cases.{_∣_, _⇒_};
 ghost use Rattle.blocks.specs.Records.{modelOf};
 ghost use Rattle.expressions.specs.Reading.{Runs};
 ghost use Rattle.cycle.specs.View.{Valid, viewOf};
-ghost use Rattle.cycle.specs.declared.settle.Picks.the-variants.{One, Settle};
+ghost use Rattle.cycle.specs.declared.picks.Picks.the-variants.{One, Settle};
 ghost use Rattle.session.specs.Lists.{isKnown, order};
 ghost use Rattle.session.specs.Sessions.{PlayedTo};
 use crate::encode::put_answer;
@@ -16,7 +16,7 @@ use base::word;
 use blocks::index::Index;
 use cycle::config::Config;
 use cycle::orders::Answer;
-use cycle::settle::Picks;
+use cycle::picks::Picks;
 
 // The kind is known, and the bytes that it does not use are zero.
 fn known(kind: usize, argument: usize, count: usize) -> bool
@@ -43,7 +43,7 @@ fn picks_of(kind: usize, argument: usize, count: usize) -> Picks
 }
 
 // Plays the orders, and writes each answer into its own part of the buffer.
-pub fn play<'a>(
+pub(crate) fn play<'a>(
     c: Config,
     m: &'a [u8],
     index: &'a Index,

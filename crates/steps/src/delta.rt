@@ -186,7 +186,7 @@ fn after_delta<'a>(
     q
 }
 
-// The nprocesses processes after a delta step. One whose standing stays is as it was.
+// The processes after a delta step, nprocesses of them; entries past them stay. One whose standing stays is as it was.
 pub fn wake<'a>(
     m: &'a [u8],
     index: &'a Index,

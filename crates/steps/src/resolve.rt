@@ -42,8 +42,9 @@ pub fn resolved<'a>(
     let mut k = 0;
     while k < ndrivers {
         let d = driver_at(m, index, k);
+        let x = currents[k];
         let drives = d.signal == s;
-        v = joined(drives, found, v, currents[k]);
+        v = joined(drives, found, v, x);
         found = found | drives;
         k += 1;
     }

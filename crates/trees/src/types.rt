@@ -184,7 +184,7 @@ fn statements_typed<'a>(m: &'a [u8], index: &'a Index, t: Totals) -> bool
     ok
 }
 
-// 7. Whether the types agree. Writes the type of each node into the index.
+// 7. Whether the types agree. Writes the type of each node into the index; the entries behind the types are left open.
 pub fn types_ok(m: &[u8], index: &mut Index, t: Totals) -> bool
     requires { ⌜ length (now index) ≡ indexSize ⌝ }
     requires { ⌜ Starts (now m) (now index) ⌝ }

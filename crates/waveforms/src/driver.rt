@@ -57,6 +57,7 @@ fn drop_first(a: [u32; 8]) -> [u32; 8]
     [a[1], a[2], a[3], a[4], a[5], a[6], a[7], 0]
 }
 
+// The contracts speak of the pending transactions: what the arrays hold past the count is left open, and nothing reads it.
 impl Driver {
     // No pending transaction.
     pub fn none() -> Driver

@@ -19,11 +19,11 @@ loop-holds c = search (needs, resolving-none)
 driver-at-requires : tie.Need-driver-at-requires Inv-loop μ-loop
 driver-at-requires c κs = search needs
 
-mul-joined : tie.Need-mul-joined Inv-loop μ-loop
-mul-joined c = search needs
+mul-x : tie.Need-mul-x Inv-loop μ-loop
+mul-x c = search needs
 
-element-copy-out-joined : tie.Need-element-copy-out-joined Inv-loop μ-loop
-element-copy-out-joined c = search needs
+element-copy-out-x : tie.Need-element-copy-out-x Inv-loop μ-loop
+element-copy-out-x c = search needs
 
 joined-requires : tie.Need-joined-requires Inv-loop μ-loop
 joined-requires c κs = search needs
@@ -51,8 +51,8 @@ resolved-spec =
     μ-loop
     loop-holds
     driver-at-requires
-    mul-joined
-    element-copy-out-joined
+    mul-x
+    element-copy-out-x
     joined-requires
     add-k
     loop-less

@@ -9,7 +9,7 @@ use Rattle.blocks.specs.Records.{modelOf}
 use Rattle.fields.specs.Facts.{Spans}
 use Rattle.expressions.specs.Reading.{Runs}
 use Rattle.cycle.specs.declared.config.Config.{Config}
-use Rattle.cycle.specs.declared.settle.Turns.{Turns}
+use Rattle.cycle.specs.declared.picks.Turns.{Turns}
 use Rattle.rules.proofs.Lists.{length-mapped}
 use Rattle.cycle.proofs.Changes.{Sized}
 use Rattle.cycle.proofs.OrderLaws.{turns-within, picks-answer}
@@ -44,8 +44,8 @@ module _ (c : tie.In-loop Inv-loop μ-loop) where
   inside : c .before .loop .p < c .before .loop .self .nprocesses
   inside = omega (arith, ahead .1, c .before .loop .inv .whole, c .before .loop .inv .within)
 
--- what holds in every arm: after the call of `does`
-module _ (c : tie.After-does Inv-loop μ-loop) where
+-- what holds in every arm: after the call of `effect_of`
+module _ (c : tie.After-effect-of Inv-loop μ-loop) where
   abbrev test : tie.In-loop Inv-loop μ-loop
   test = c .before .before .before .before .before .before .before
 
@@ -55,7 +55,7 @@ module _ (c : tie.After-does Inv-loop μ-loop) where
   abbrev args : tie.Start Inv-loop μ-loop
   args = start at
 
-  turn : Turn (modelOf (args .args .m .now)) (args .args .t1 .time) (at .loop .p) (at .loop .self) (c .does .result)
+  turn : Turn (modelOf (args .args .m .now)) (args .args .t1 .time) (at .loop .p) (at .loop .self) (c .effect-of .result)
   turn =
       record {
         facts = args .pre .0 .facts;
@@ -64,7 +64,7 @@ module _ (c : tie.After-does Inv-loop μ-loop) where
         valid = at .loop .inv .valid;
         here = inside test;
         idle = c .before .before .before .before .before .if1 .left;
-        does = c .does .ensures;
+        effect = c .effect-of .ensures;
       }
 
   -- the pick is made: the loop goes on with the struct that an arm left
@@ -123,8 +123,8 @@ element-copy-out-place c = small (c .before .before)
 add-n : tie.Need-add-n Inv-loop μ-loop
 add-n c = omega (arith, ahead (c .before .before .before) .0)
 
-does-requires : tie.Need-does-requires Inv-loop μ-loop
-does-requires c κs =
+effect-of-requires : tie.Need-effect-of-requires Inv-loop μ-loop
+effect-of-requires c κs =
     let t = c .before .before .before .before .before .before in
     let st = start (t .before) in
     (st .pre .0, statement-there _ (st .pre .0 .facts) _ (t .before .loop .inv .valid) _ (inside t))
@@ -336,7 +336,7 @@ picks-spec =
     mul-place
     element-copy-out-place
     add-n
-    does-requires
+    effect-of-requires
     next-place-requires
     enum-told
     mul-self

@@ -1,8 +1,8 @@
 -- By the order's picks. Assumes nothing.
 use borrow.Author.Needs.{needs}
 use borrow.Author.Tests.{lt-ltb, le-ltb}
-use Rattle.cycle.proofs.settle.turns_of.Statement.{statement}
-use Rattle.cycle.proofs.settle.turns_of.Tie as tie
+use Rattle.cycle.proofs.picks.turns_of.Statement.{statement}
+use Rattle.cycle.proofs.picks.turns_of.Tie as tie
 
 pub turns-of-spec : {M : Type 1} → statement M
 turns-of-spec =

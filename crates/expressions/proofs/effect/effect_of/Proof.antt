@@ -1,14 +1,14 @@
--- `does` gives the effect of the specification: the `match` says which line of `effectBy` holds. Assumes nothing.
+-- `effect_of` gives the effect of the specification: the `match` says which line of `effectBy` holds. Assumes nothing.
 use borrow.Author.Tests.{eq-eqb, ne-eqb}
 use borrow.Author.Needs.{needs}
 use Rattle.rules.specs.Statements.{effectBy}
 use Rattle.expressions.proofs.Statements.{statement-fits, driver-call, no-statement}
-use Rattle.expressions.proofs.effect.does.Statement.{statement}
-use Rattle.expressions.proofs.effect.does.Tie as tie
+use Rattle.expressions.proofs.effect.effect_of.Statement.{statement}
+use Rattle.expressions.proofs.effect.effect_of.Tie as tie
 
-pub does-spec : {M : Type 1} → statement M
+pub effect-of-spec : {M : Type 1} → statement M
 unfolding effectBy
-does-spec =
+effect-of-spec =
     tie.close
     (tie.spec
     -- statement-at-requires
@@ -27,7 +27,7 @@ does-spec =
     (λ c κs.
     let h = c .before .before in
     (h .before .before .before .pre .0, statement-fits (h .before .before .before .pre) (h .before .statement-at .ensures) .signalAssignment (h .match .keys3) .delay .node))
-    -- send-requires
+    -- assign-requires
     (λ c κs. search needs)
     -- eval-requires-4
     (λ c κs. (c .before .before .before .pre .0, statement-fits (c .before .before .before .pre) (c .before .statement-at .ensures) .branch (c .match .keys4) .condition .node))
@@ -53,7 +53,7 @@ does-spec =
     (λ c.
     let h = c .before .before .before .before in
     let driver = rw (← h .before .statement-at .ensures) at (c .before .before .assignment-driver .ensures) in
-    rw (← h .before .statement-at .ensures, h .match .keys3, ← c .before .before .before .eval2 .ensures, ← c .before .eval3 .ensures, ← driver) (c .send .ensures))
+    rw (← h .before .statement-at .ensures, h .match .keys3, ← c .before .before .before .eval2 .ensures, ← c .before .eval3 .ensures, ← driver) (c .assign .ensures))
     -- returns-5
     (λ c.
     let h = c .before .before in

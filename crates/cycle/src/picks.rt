@@ -9,8 +9,11 @@ use crate::config::Config;
 use crate::orders::Answer;
 use crate::orders::Answered;
 use blocks::index::Index;
-use expressions::effect::does;
+use expressions::effect::effect_of;
 use expressions::effect::next_place;
+use rules::READY;
+use rules::STOPPED;
+use rules::WAITING;
 use rules::effect::Effect;
 use steps::due::any_standing;
 ghost use Rattle.cycle.specs.Turns.{turnsOf, replyOf};
@@ -92,7 +95,7 @@ fn reply<'a>(
         }
         Picks::Settle(count) => Answer {
             refusal: 0,
-            byte: bit(any_standing(standings, nprocesses, 0)),
+            byte: bit(any_standing(standings, nprocesses, READY)),
             picks: n,
             value: 0,
         },
@@ -115,13 +118,13 @@ impl Config {
         let mut n = 0;
         while (n < count) & (p < end) {
             let standing = self.standings[p];
-            if standing != 0 {
+            if standing != READY {
                 p += 1;
                 continue;
             }
             let place = self.places[p];
             n += 1;
-            let effect = does(m, index, &self.variables, &self.signals, place);
+            let effect = effect_of(m, index, &self.variables, &self.signals, place);
             let next = next_place(m, index, p, place);
             match effect {
                 Effect::Skip => {
@@ -135,7 +138,7 @@ impl Config {
                     let e = self.drivers[k];
                     let r = e.schedule(d, v);
                     if r.full {
-                        self.standings[p] = 2;
+                        self.standings[p] = STOPPED;
                         self.faults[p] = 3;
                     } else {
                         let f = r.driver;
@@ -148,14 +151,14 @@ impl Config {
                     self.places[p] = a;
                 }
                 Effect::Wait => {
-                    self.standings[p] = 1;
+                    self.standings[p] = WAITING;
                 }
                 Effect::WaitFor(d) => {
-                    self.standings[p] = 1;
+                    self.standings[p] = WAITING;
                     self.deadlines[p] = now + d as u64;
                 }
                 Effect::Stop(f) => {
-                    self.standings[p] = 2;
+                    self.standings[p] = STOPPED;
                     self.faults[p] = f;
                 }
             }

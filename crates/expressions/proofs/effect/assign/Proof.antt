@@ -1,12 +1,12 @@
--- `send`: by the value, then by the delay. Assumes nothing.
+-- `assign`: by the value, then by the delay. Assumes nothing.
 use borrow.Author.Needs.{needs}
 use Rattle.rules.specs.declared.effect.Effect.the-variants.{Schedule}
 use Rattle.expressions.proofs.Statements.{delay-fault, delay-negative, delay-kept}
-use Rattle.expressions.proofs.effect.send.Statement.{statement}
-use Rattle.expressions.proofs.effect.send.Tie as tie
+use Rattle.expressions.proofs.effect.assign.Statement.{statement}
+use Rattle.expressions.proofs.effect.assign.Tie as tie
 
-pub send-spec : {M : Type 1} → statement M
-send-spec =
+pub assign-spec : {M : Type 1} → statement M
+assign-spec =
     tie.close
     (tie.spec
     -- enum-known-v

@@ -1,8 +1,8 @@
 -- By the order's picks. Assumes nothing.
 use borrow.Author.Needs.{needs}
 use borrow.Author.Tests.{le-leb, lt-leb, eq-eqb, ne-eqb}
-use Rattle.cycle.proofs.settle.reply.Statement.{statement}
-use Rattle.cycle.proofs.settle.reply.Tie as tie
+use Rattle.cycle.proofs.picks.reply.Statement.{statement}
+use Rattle.cycle.proofs.picks.reply.Tie as tie
 
 pub reply-spec : {M : Type 1} → statement M
 reply-spec =
