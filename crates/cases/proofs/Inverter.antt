@@ -10,7 +10,7 @@ use lib.Dec.{eqb}
 use lib.ListN.{replicate}
 use Rattle.base.specs.Below.{allBelow, sumBelow, every}
 use Rattle.base.specs.Rules.{firstFailing}
-use Rattle.base.proofs.Below.{all-at}
+use Rattle.base.proofs.Below.{all-at, _and_}
 use Rattle.blocks.specs.Blocks.{lengthOk, blockSum, sumOk, sumsOk, trailingAt, trailingOk, headOk, headsOk}
 use Rattle.blocks.specs.Records.{modelOf}
 use Rattle.blocks.specs.Totals.{blockRules}
@@ -33,7 +33,7 @@ pub model-read : modelOf inverterBytes ≡ inverter
 unfolding the-reading the-bytes inverter
 model-read = refl
 
-pub orders-read : ordersOf inverterOrderBytes ≡ inverterOrders
+orders-read : ordersOf inverterOrderBytes ≡ inverterOrders
 unfolding the-orders inverterOrders
 orders-read = refl
 
@@ -42,27 +42,16 @@ length-ok : lengthOk inverterBytes ≡ true
 unfolding the-bytes lengthOk every
 length-ok = refl
 
--- rules 4 to 8
-rules-hold : Accepted inverter
-unfolding the-checks inverter
-rules-hold = record { totals = refl; fields = refl; trees = refl; types = refl; owners = refl }
-
 -- rules 2 and 3, block by block
 each-block : Blocks inverterBlocks
 unfolding the-bytes allBelow sumBelow blockSum sumOk trailingAt trailingOk
-each-block = (
-  record { size = refl; sum = refl; trailing = refl },
-  (
-    record { size = refl; sum = refl; trailing = refl },
-    (
-      record { size = refl; sum = refl; trailing = refl },
-      (
-        record { size = refl; sum = refl; trailing = refl },
-        (record { size = refl; sum = refl; trailing = refl }, tt),
-      ),
-    ),
-  ),
-)
+each-block =
+    record { size = refl; sum = refl; trailing = refl }
+    and record { size = refl; sum = refl; trailing = refl }
+    and record { size = refl; sum = refl; trailing = refl }
+    and record { size = refl; sum = refl; trailing = refl }
+    and record { size = refl; sum = refl; trailing = refl }
+    and tt
 
 blocks-pass : Pass inverterBytes 5
 unfolding inverterBytes inverterBlocks
@@ -78,6 +67,11 @@ heads-ok =
     let trailing : (n : ℕ) → n < 5 → trailingOk inverterBytes n ≡ true = λ n h. all-at (trailingOk inverterBytes) 5 n h (blocks-pass .trailing) in
     rw (trailing 0 (omega arith), trailing 1 (omega arith), trailing 2 (omega arith), trailing 3 (omega arith), trailing 4 (omega arith))
 
+-- rules 4 to 8
+rules-hold : Accepted inverter
+unfolding the-checks inverter
+rules-hold = record { totals = refl; fields = refl; trees = refl; types = refl; owners = refl }
+
 -- none of the rules 1 to 8 applies
 pub accepted-bytes : refusalOf inverterBytes ≡ 0
 unfolding refusalOf rulesOf blockRules recordRules firstFailing
@@ -86,13 +80,13 @@ accepted-bytes =
     rw (length-ok, sums-ok, heads-ok, model-read, is .totals, is .fields, is .trees, is .types, is .owners)
 
 -- nor 9 and 10
-pub number-is : numberOf inverterBytes inverterOrderBytes (replicate 128 0) ≡ 0
+number-is : numberOf inverterBytes inverterOrderBytes (replicate 128 0) ≡ 0
 unfolding ordersOk bufferOk
 number-is =
     model-accepted inverterBytes inverterOrderBytes (replicate 128 0) accepted-bytes
     ∙ sym (neither inverterOrderBytes (replicate 128 0) refl refl)
 
-pub session-is : sessionOf inverterBytes inverterOrderBytes (replicate 128 0) ≡ accepted (played inverter inverterOrders (first inverter))
+session-is : sessionOf inverterBytes inverterOrderBytes (replicate 128 0) ≡ accepted (played inverter inverterOrders (first inverter))
 unfolding sessionOf
 session-is =
     let k : eqb (numberOf inverterBytes inverterOrderBytes (replicate 128 0)) 0 ≡ true = eq-eqb _ _ number-is in

@@ -1,15 +1,10 @@
 -- The claims over all models and lists of orders, used on the inverter. Each fact stands with the part of the claim that proves
 -- it: a claim with a premise more, or with a part less, is no proof of it.
 use mathlib.Core.Path.{_≡_, refl, sym, _∙_}
-use mathlib.Core.Bool.{Bool, true, _&&_}
+use mathlib.Core.Bool.{true}
 use mathlib.Core.Logic.{_≢_}
-use mathlib.Core.List.{List, [], _∷_}
-use Prim.Native.Nat.{ℕ, zero, suc, _-_, _≤_, _<_}
-use native.Mathlib.Omega.{arith}
-use borrow.Author.Tests.{ltb-true}
-use lib.Dec.{ltb}
-use lib.ListN.{getD}
-use Rattle.base.proofs.Below.{and-left, and-right}
+use mathlib.Core.List.{[], _∷_}
+use Prim.Native.Nat.{ℕ, _-_, _≤_}
 use Rattle.determinacy.specs.Kernel.{Kernel, NormalForm}
 use Rattle.determinacy.specs.Determinacy.{Tally, Exactly, Alike, Behind}
 use Rattle.blocks.specs.Records.{modelOf}
@@ -20,26 +15,13 @@ use Rattle.session.specs.Lists.{performed, answered, played}
 use Rattle.session.specs.Sessions.{sessionOf}
 use Rattle.session.specs.Demand3.{Bytes, kernelOf, tallyOf, Determinate}
 use Rattle.session.specs.ListLaws.{ListLaws}
-use Rattle.cases.specs.Forms.{pickOrder, advanceOrder, settleOrder, orderBytes}
+use Rattle.cases.specs.Forms.{pickOrder, advanceOrder, settleOrder, orderBytes, asBytes}
 use Rattle.cases.specs.Inverter.{inverter, inverterBytes, inverterOrders, inverterOrderBytes}
 
--- a fact, and what proves it
+-- a fact, and what proves it: nothing else may stand behind `by`
 infix 2 _by_
 abbrev pub _by_ : (A : Type 0) → A → Type 0
 A by proof = A
-
--- bytes: each number is below 256
-abbrev pub areBytes : List ℕ → Bool
-areBytes [] = true
-areBytes (x ∷ l) = ltb x 256 && areBytes l
-
-pub small-at : (l : List ℕ) → areBytes l ≡ true → (i : ℕ) → getD l i 0 < 256
-small-at [] h i = omega arith
-small-at (x ∷ l) h zero = ltb-true x 256 (and-left (ltb x 256) (areBytes l) h)
-small-at (x ∷ l) h (suc i) = small-at l (and-right (ltb x 256) (areBytes l) h) i
-
-abbrev pub asBytes : (l : List ℕ) → areBytes l ≡ true → Bytes
-asBytes l h = record { bytes = l; small = small-at l h }
 
 -- the bench's list of orders
 abbrev pub settling : Bytes

@@ -1,8 +1,13 @@
 -- Records, blocks and orders, written with their fields in the paper's order.
-use mathlib.Core.Bool.{true}
+use mathlib.Core.Path.{_≡_}
+use mathlib.Core.Bool.{Bool, true, _&&_}
 use mathlib.Core.List.{List, [], _∷_, _++_}
-use Prim.Native.Nat.{ℕ, _*_, _-_, _/_, _%_}
-use lib.ListN.{replicate}
+use Prim.Native.Nat.{ℕ, zero, suc, _*_, _-_, _/_, _%_, _<_}
+use native.Mathlib.Omega.{arith}
+use borrow.Author.Tests.{ltb-true}
+use lib.Dec.{ltb}
+use lib.ListN.{getD, replicate}
+use Rattle.base.proofs.Below.{and-left, and-right}
 use Rattle.blocks.specs.declared.records.SignalRecord.{SignalRecord}
 use Rattle.blocks.specs.declared.records.VariableRecord.{VariableRecord}
 use Rattle.blocks.specs.declared.records.ProcessRecord.{ProcessRecord}
@@ -10,6 +15,7 @@ use Rattle.blocks.specs.declared.records.DriverRecord.{DriverRecord}
 use Rattle.blocks.specs.declared.records.NodeRecord.{NodeRecord}
 use Rattle.blocks.specs.declared.records.StatementRecord.{StatementRecord}
 use Rattle.session.specs.Lists.{Order}
+use Rattle.session.specs.Demand3.{Bytes}
 
 -- records
 abbrev pub signal : ℕ → ℕ → SignalRecord
@@ -51,3 +57,16 @@ block n kind count records low high = n ∷ 0 ∷ kind ∷ count ∷ records ++ 
 abbrev pub orderBytes : List Order → List ℕ
 orderBytes [] = []
 orderBytes (o ∷ os) = o .kind ∷ o .argument ∷ o .count % 256 ∷ o .count / 256 ∷ orderBytes os
+
+-- bytes: each number is below 256
+abbrev pub areBytes : List ℕ → Bool
+areBytes [] = true
+areBytes (x ∷ l) = ltb x 256 && areBytes l
+
+pub small-at : (l : List ℕ) → areBytes l ≡ true → (i : ℕ) → getD l i 0 < 256
+small-at [] h i = omega arith
+small-at (x ∷ l) h zero = ltb-true x 256 (and-left (ltb x 256) (areBytes l) h)
+small-at (x ∷ l) h (suc i) = small-at l (and-right (ltb x 256) (areBytes l) h) i
+
+abbrev pub asBytes : (l : List ℕ) → areBytes l ≡ true → Bytes
+asBytes l h = record { bytes = l; small = small-at l h }
