@@ -6,10 +6,10 @@ use Prim.Native.Nat.{ℕ, _+_, _-_, _*_}
 use lib.Dec.{eqb, leb, ltb}
 use Rattle.base.specs.Below.{every}
 use Rattle.base.specs.Bytes.{ByteIs, WordIs}
+use Rattle.base.proofs.Rules.{numbered}
 use Rattle.blocks.specs.Blocks.{trailingAt, trailingOk, headOk}
 use Rattle.blocks.specs.Records.{Model}
 use Rattle.blocks.specs.Totals.{totalsOk, blockRules, TotalsOf}
-use Rattle.base.proofs.Rules.{numbered}
 use Rattle.blocks.specs.declared.index.Totals.{Totals}
 
 module _ (m : List ℕ) (b : ℕ) where

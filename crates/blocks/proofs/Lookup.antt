@@ -6,11 +6,11 @@ use Prim.Native.Nat.{ℕ, _+_, _-_, _≤_, _<_}
 use native.Mathlib.Nat.{add-sub-cancel-left}
 use borrow.Author.Tests.{leb-true}
 use lib.ListN.{length, getD, take, drop, length-map}
+use Rattle.base.proofs.Below.{every-at, map-at}
 use Rattle.blocks.specs.Blocks.{startsOf, totalOf, partAt}
 use Rattle.blocks.specs.Records.{Model, modelOf, recordsOf, signalOf, variableOf, processOf, driverOf, nodeOf, statementOf}
 use Rattle.blocks.specs.Totals.{totalsOk}
 use Rattle.blocks.specs.Index.{Starts, sectionOf}
-use Rattle.base.proofs.Below.{every-at, map-at}
 use Rattle.blocks.proofs.Starts.{starts-length, starts-in}
 
 module _ {A : Type 0} (read : List ℕ → A) (k : ℕ) (m : List ℕ) where

@@ -8,8 +8,8 @@ use Prim.Native.Nat.{ℕ, zero, suc, _+_, _≤_, _<_}
 use native.Mathlib.Nat.{not-suc-le-zero, eq-or-lt-of-le, le-of-suc-le-suc}
 use native.Mathlib.Omega.{arith}
 use lib.ListN.{length, getD}
-use Rattle.blocks.specs.Index.{typesAt, sectionOf, placed, Starts}
 use Rattle.base.proofs.Below.{among}
+use Rattle.blocks.specs.Index.{typesAt, sectionOf, placed, Starts}
 use Rattle.blocks.specs.Blocks.{headsOk, startsOf, totalOf}
 use Rattle.blocks.specs.Records.{modelOf}
 use Rattle.blocks.specs.Totals.{totalsOk}

@@ -18,8 +18,8 @@ use Rattle.model.specs.Rules.{recordRules, rulesOf, refusalOf, Accepted}
 use Rattle.rules.specs.Configuration.{first}
 use Rattle.session.specs.Lists.{ordersOf, played}
 use Rattle.session.specs.Sessions.{ordersOk, bufferOk, numberOf, Session, accepted, sessionOf}
-use Rattle.text.specs.Text.{placesOf, decimalOf, signedOf, lineOf, answersIn, sessionText, textOf}
 use Rattle.session.proofs.SessionLaws.{model-accepted, neither}
+use Rattle.text.specs.Text.{placesOf, decimalOf, signedOf, lineOf, answersIn, sessionText, textOf}
 use Rattle.cases.specs.Inverter.{inverter, signalBlock, processBlock, driverBlock, nodeBlock, statementBlock, inverterBlocks, inverterBytes, inverterOrders, inverterOrderBytes, bytesIn, printed, inverterLines, InverterPlayed}
 use Rattle.cases.proofs.Rules.{the-orders, the-checks, the-reading}
 use Rattle.cases.proofs.Blocks.{Blocks, Pass, all-pass}

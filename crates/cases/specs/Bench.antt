@@ -9,8 +9,8 @@ use Rattle.values.specs.Nine.{U, X, ‘0’, ‘-’, W, L}
 use Rattle.values.specs.Bench as Values
 use Rattle.values.specs.Bench.{Row, _gives_}
 use Rattle.blocks.specs.Records.{Model}
-use Rattle.model.specs.Rules.{Accepted}
 use Rattle.trees.specs.Trees.{integer}
+use Rattle.model.specs.Rules.{Accepted}
 use Rattle.rules.specs.Configuration.{Configuration, driverIn, first}
 use Rattle.session.specs.Lists.{Order, played}
 use Rattle.cases.specs.Forms.{signal, variable, process, driver, node, statement, pickOrder, settleOrder}

@@ -8,8 +8,8 @@ use lib.ListN.{replicate}
 use Rattle.base.specs.Below.{listBelow}
 use Rattle.blocks.specs.Records.{Model, modelOf}
 use Rattle.fields.specs.Fields.{absent}
-use Rattle.model.specs.Rules.{refusalOf}
 use Rattle.trees.specs.Trees.{logic}
+use Rattle.model.specs.Rules.{refusalOf}
 use Rattle.session.specs.Lists.{Order, ordersOf}
 use Rattle.session.specs.Sessions.{sessionOf}
 use Rattle.text.specs.Text.{lineFeed, ended, textOf}

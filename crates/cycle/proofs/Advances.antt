@@ -9,17 +9,17 @@ use lib.Dec.{eqb, leb, ltb}
 use borrow.Author.Tests.{eq-eqb, ne-eqb, eqb-true, eqb-false, leb-false, ltb-false}
 use Rattle.base.proofs.Cases.{by-test}
 use Rattle.blocks.specs.Records.{Model}
+use Rattle.model.specs.Facts.{Facts}
 use Rattle.rules.specs.Steps.{deltaStep, timeStep}
 use Rattle.rules.specs.Orders.{refused, earliest, dueTimes, advanceDone, timeOrder, isReady, isStopped, advanced}
 use Rattle.rules.specs.Configuration.{lastTime}
-use Rattle.waveforms.specs.Pending.{never}
-use Rattle.cycle.specs.View.{viewOf, Valid}
-use Rattle.steps.specs.Due.{soonestIn, someIs, refusalIn, DueIn}
-use Rattle.cycle.specs.declared.config.Config.{Config}
-use Rattle.steps.specs.declared.due.Due.{Due}
-use Rattle.model.specs.Facts.{Facts}
-use Rattle.cycle.proofs.ViewLaws.{nsignals-is, ndrivers-is, nprocesses-is}
 use Rattle.rules.proofs.DueTimes.{due-within}
+use Rattle.waveforms.specs.Pending.{never}
+use Rattle.steps.specs.Due.{soonestIn, someIs, refusalIn, DueIn}
+use Rattle.steps.specs.declared.due.Due.{Due}
+use Rattle.cycle.specs.View.{viewOf, Valid}
+use Rattle.cycle.specs.declared.config.Config.{Config}
+use Rattle.cycle.proofs.ViewLaws.{nsignals-is, ndrivers-is, nprocesses-is}
 use Rattle.cycle.proofs.Soonest.{orNever, soonest, due-now, standing-is}
 
 -- the totals of the struct are within the limits

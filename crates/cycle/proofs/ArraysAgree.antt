@@ -7,19 +7,19 @@ use lib.ListN.{length, getD}
 use Rattle.base.specs.Below.{listBelow}
 use Rattle.base.proofs.Below.{list-at}
 use Rattle.blocks.specs.Records.{Model}
-use Rattle.model.specs.Facts.{Facts, StatementFits}
 use Rattle.blocks.specs.declared.records.StatementRecord.{StatementRecord}
+use Rattle.model.specs.Facts.{Facts, StatementFits}
 use Rattle.rules.specs.Configuration.{pastOf}
 use Rattle.rules.specs.Evaluation.{Environment, environmentOf, evalOf}
 use Rattle.rules.specs.Statements.{effectBy}
 use Rattle.rules.specs.Invariant.{Reachable}
-use Rattle.steps.specs.Entries.{historyOf}
-use Rattle.cycle.specs.View.{viewOf}
-use Rattle.expressions.specs.Reading.{arrays}
-use Rattle.cycle.specs.declared.config.Config.{Config}
 use Rattle.rules.proofs.Evaluation.{agree-all}
 use Rattle.rules.proofs.Picks.{effect-same}
+use Rattle.expressions.specs.Reading.{arrays}
+use Rattle.steps.specs.Entries.{historyOf}
 use Rattle.steps.proofs.Shifts.{history-at}
+use Rattle.cycle.specs.View.{viewOf}
+use Rattle.cycle.specs.declared.config.Config.{Config}
 use Rattle.cycle.proofs.ViewLaws.{nsignals-is, nvariables-is}
 
 -- what is read from the lists that arrays of variables and signals hold

@@ -12,15 +12,15 @@ use lib.Seq.{set-getD}
 use Rattle.blocks.specs.Records.{Model}
 use Rattle.rules.specs.Configuration.{DriverState, ProcessState, Configuration, driverIn}
 use Rattle.rules.specs.Statements.{moved, stops, nextPlace, processAfter, fullAfter, driverAfter, driversAfter, variablesAfter, applied}
-use Rattle.waveforms.specs.Pending.{noDriver}
-use Rattle.steps.specs.Entries.{deadlineOf}
-use Rattle.cycle.specs.View.{driverView, processView, viewOf}
-use Rattle.waveforms.specs.Waveform.{driving, ScheduledTo}
-use Rattle.cycle.specs.declared.config.Config.{Config}
-use Rattle.waveforms.specs.declared.driver.Driver.{Driver}
-use Rattle.waveforms.specs.declared.driver.Scheduled.{Scheduled}
 use Rattle.rules.specs.declared.effect.Effect.{Effect}
 use Rattle.rules.specs.declared.effect.Effect.the-variants.{Skip, Store, Schedule, Jump, Wait, WaitFor, Stop}
+use Rattle.waveforms.specs.Pending.{noDriver}
+use Rattle.waveforms.specs.Waveform.{driving, ScheduledTo}
+use Rattle.waveforms.specs.declared.driver.Driver.{Driver}
+use Rattle.waveforms.specs.declared.driver.Scheduled.{Scheduled}
+use Rattle.steps.specs.Entries.{deadlineOf}
+use Rattle.cycle.specs.View.{driverView, processView, viewOf}
+use Rattle.cycle.specs.declared.config.Config.{Config}
 use Rattle.cycle.proofs.ViewLaws.{driver-in, pending-in, process-in, rowOf, place-set, waits-set, waits-for-set, stops-set, driver-set, variables-set}
 
 -- the arrays have their lengths

@@ -14,10 +14,10 @@ use Rattle.blocks.specs.Records.{Model}
 use Rattle.rules.specs.Configuration.{Transaction, DriverState, lastTime}
 use Rattle.rules.specs.Steps.{dueIn, takenIn, taken}
 use Rattle.waveforms.specs.Pending.{never, pendingOf, noDriver, firstTime}
-use Rattle.cycle.specs.View.{viewOf, Valid}
-use Rattle.cycle.specs.declared.config.Config.{Config}
 use Rattle.waveforms.specs.declared.driver.Driver.{Driver}
 use Rattle.waveforms.proofs.Drivers.{pending-length, pending-first, first-none, first-some}
+use Rattle.cycle.specs.View.{viewOf, Valid}
+use Rattle.cycle.specs.declared.config.Config.{Config}
 use Rattle.cycle.proofs.ViewLaws.{pending-in, ndrivers-is}
 
 -- what the arrays hold of one driver

@@ -13,30 +13,30 @@ use Rattle.base.specs.Below.{anyBelow, listBelow}
 use Rattle.base.proofs.Below.{map-at, any-same, list-first, list-same, list-length, list-at}
 use Rattle.base.proofs.Cases.{by-test, choices-same}
 use Rattle.blocks.specs.Records.{Model, statementAt}
+use Rattle.blocks.specs.declared.records.StatementRecord.{StatementRecord}
 use Rattle.fields.specs.Fields.{absent}
 use Rattle.model.specs.Facts.{Facts}
-use Rattle.blocks.specs.declared.records.StatementRecord.{StatementRecord}
 use Rattle.rules.specs.Configuration.{DriverState, ProcessState, Configuration, driverIn, currentOf, drivingOf, resolvedOr, waiting}
 use Rattle.rules.specs.Evaluation.{Environment, environmentOf, evalOf}
 use Rattle.rules.specs.Steps.{transactionDue, taken, active, withCurrent, signalAfter, signalsAfter, inSet, changedIn, wokenBy, wokenIf, wokenAt, processAfterDelta, deltaStep}
 use Rattle.rules.specs.Orders.{advanceDone}
 use Rattle.rules.specs.Invariant.{ProcessValid}
-use Rattle.waveforms.specs.Pending.{pendingOf, noDriver}
-use Rattle.steps.specs.Entries.{historyOf, drivingIn}
-use Rattle.cycle.specs.View.{driverView, processView, viewOf, Valid, outcomeOf, Answers}
+use Rattle.rules.proofs.AdvanceReachable.{delta-reachable}
 use Rattle.expressions.specs.Reading.{arrays}
-use Rattle.steps.specs.Delta.{SetOf, activeIn, currentAfter, ResolvedTo, stateOf, entryOf, wokenFor, wokenIn, afterDelta, ProcessesValid, WokenTo}
-use Rattle.cycle.specs.declared.config.Config.{Config}
+use Rattle.waveforms.specs.Pending.{pendingOf, noDriver}
 use Rattle.waveforms.specs.declared.driver.Driver.{Driver}
-use Rattle.cycle.specs.declared.orders.Answered.{Answered}
+use Rattle.steps.specs.Entries.{historyOf, drivingIn}
+use Rattle.steps.specs.Delta.{SetOf, activeIn, currentAfter, ResolvedTo, stateOf, entryOf, wokenFor, wokenIn, afterDelta, ProcessesValid, WokenTo}
 use Rattle.steps.specs.declared.delta.Processes.{Processes}
 use Rattle.steps.proofs.Shifts.{history-at}
-use Rattle.cycle.proofs.ViewLaws.{history-in, driver-in, process-in, nsignals-is, ndrivers-is, nprocesses-is, nvariables-is}
-use Rattle.cycle.proofs.Advances.{few-signals}
-use Rattle.rules.proofs.AdvanceReachable.{delta-reachable}
-use Rattle.cycle.proofs.ArraysAgree.{value-listed}
 use Rattle.steps.proofs.Resolving.{driving-is}
 use Rattle.steps.proofs.DeltaProcesses.{condition-there}
+use Rattle.cycle.specs.View.{driverView, processView, viewOf, Valid, outcomeOf, Answers}
+use Rattle.cycle.specs.declared.config.Config.{Config}
+use Rattle.cycle.specs.declared.orders.Answered.{Answered}
+use Rattle.cycle.proofs.ViewLaws.{history-in, driver-in, process-in, nsignals-is, ndrivers-is, nprocesses-is, nvariables-is}
+use Rattle.cycle.proofs.Advances.{few-signals}
+use Rattle.cycle.proofs.ArraysAgree.{value-listed}
 use Rattle.cycle.proofs.DeltaDrivers.{slotOf, heldBy, TakenSlot, first-due, withDrivers, Taking, time-most}
 
 -- a test that fails from n on

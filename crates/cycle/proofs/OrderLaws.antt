@@ -7,14 +7,15 @@ use native.Mathlib.Omega.{arith}
 use lib.Dec.{eqb, ltb, leb}
 use lib.ListN.{length, getD}
 use borrow.Author.Tests.{le-leb, lt-leb, lt-ltb, le-ltb}
+use mathlib.Core.Logic.{⊎-elim}
 use Rattle.base.specs.Below.{anyBelow}
 use Rattle.base.proofs.Below.{split, any-same}
 use Rattle.base.proofs.Cases.{either-way}
 use Rattle.base.proofs.Course.{any-first}
-use mathlib.Core.Logic.{⊎-elim}
 use Rattle.blocks.specs.Records.{Model}
 use Rattle.rules.specs.Statements.{stepped}
 use Rattle.rules.specs.Orders.{Outcome, Settled, refused, isReady, picked, lowestReady, settledFrom, settled, readOf}
+use Rattle.rules.proofs.Settling.{turnedFrom, turned-settled, turned-none, turned-ready, turned-waiting}
 use Rattle.cycle.specs.View.{viewOf, Valid, outcomeOf, Answers, ReadTo, picksOf}
 use Rattle.cycle.specs.Turns.{turnsOf, replyOf}
 use Rattle.cycle.specs.declared.config.Config.{Config}
@@ -23,7 +24,6 @@ use Rattle.cycle.specs.declared.orders.Answered.{Answered}
 use Rattle.cycle.specs.declared.picks.Turns.{Turns}
 use Rattle.cycle.specs.declared.picks.Picks.{Picks}
 use Rattle.cycle.specs.declared.picks.Picks.the-variants.{One, Settle}
-use Rattle.rules.proofs.Settling.{turnedFrom, turned-settled, turned-none, turned-ready, turned-waiting}
 use Rattle.cycle.proofs.ViewLaws.{past-in, standing-in, ready-in, fault-in, nprocesses-is}
 
 pub refused-is : (c : Config) (n : ℕ) → outcomeOf (record { answer = record { refusal = n; byte = 0; picks = 0; value = 0 }; config = c }) ≡ refused n (viewOf c)

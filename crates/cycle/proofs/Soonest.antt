@@ -18,15 +18,15 @@ use Rattle.blocks.specs.Records.{Model}
 use Rattle.rules.specs.Configuration.{Transaction, Configuration, driverIn, processIn}
 use Rattle.rules.specs.Steps.{dueIn, transactionDue, deadlineAt, deadlineDue}
 use Rattle.rules.specs.Orders.{timesIn, optional, least, earliest, dueTimes, dueNow}
-use Rattle.waveforms.specs.Pending.{never, firstTime, pendingOf, noDriver, NoneBefore}
-use Rattle.steps.specs.Entries.{deadlineOf}
-use Rattle.cycle.specs.View.{viewOf, Valid}
-use Rattle.steps.specs.Due.{soonestOf, someIs}
-use Rattle.cycle.specs.declared.config.Config.{Config}
 use Rattle.rules.proofs.Lists.{All, all-left, all-right, all-weaker, all-part}
 use Rattle.rules.proofs.Earliest.{none-earlier}
-use Rattle.cycle.proofs.ViewLaws.{nprocesses-is, ndrivers-is, pending-in, deadline-in, standing-in}
 use Rattle.rules.proofs.DueTimes.{Within, driver-within, process-within, each-within, due-within, due-after}
+use Rattle.waveforms.specs.Pending.{never, firstTime, pendingOf, noDriver, NoneBefore}
+use Rattle.steps.specs.Entries.{deadlineOf}
+use Rattle.steps.specs.Due.{soonestOf, someIs}
+use Rattle.cycle.specs.View.{viewOf, Valid}
+use Rattle.cycle.specs.declared.config.Config.{Config}
+use Rattle.cycle.proofs.ViewLaws.{nprocesses-is, ndrivers-is, pending-in, deadline-in, standing-in}
 
 -- the time, or never
 abbrev pub orNever : Option ℕ → ℕ

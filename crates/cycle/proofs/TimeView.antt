@@ -13,17 +13,17 @@ use Rattle.blocks.specs.Records.{Model}
 use Rattle.rules.specs.Steps.{timeStep}
 use Rattle.rules.specs.Orders.{advanceDone, earliest, dueTimes}
 use Rattle.rules.specs.Configuration.{lastTime}
-use Rattle.waveforms.specs.Pending.{pendingOf, noDriver, firstTime}
-use Rattle.cycle.specs.View.{driverView, processView, viewOf, Valid, outcomeOf, Answers}
-use Rattle.steps.specs.Shift.{ShiftedBy}
-use Rattle.waveforms.specs.Waveform.{Ahead, Elapsed}
-use Rattle.cycle.specs.declared.config.Config.{Config}
-use Rattle.waveforms.specs.declared.driver.Driver.{Driver}
-use Rattle.cycle.specs.declared.orders.Answered.{Answered}
 use Rattle.rules.proofs.AdvanceReachable.{time-reachable}
 use Rattle.rules.proofs.DueTimes.{due-within}
+use Rattle.waveforms.specs.Pending.{pendingOf, noDriver, firstTime}
+use Rattle.waveforms.specs.Waveform.{Ahead, Elapsed}
+use Rattle.waveforms.specs.declared.driver.Driver.{Driver}
 use Rattle.waveforms.proofs.Drivers.{pending-length, ahead-of}
+use Rattle.steps.specs.Shift.{ShiftedBy}
 use Rattle.steps.proofs.Shifts.{all-shifted}
+use Rattle.cycle.specs.View.{driverView, processView, viewOf, Valid, outcomeOf, Answers}
+use Rattle.cycle.specs.declared.config.Config.{Config}
+use Rattle.cycle.specs.declared.orders.Answered.{Answered}
 use Rattle.cycle.proofs.ViewLaws.{ndrivers-is, pending-in}
 
 abbrev pub driverAt : Config → ℕ → Driver

@@ -20,22 +20,22 @@ use Rattle.rules.specs.Configuration.{driverIn, lastTime}
 use Rattle.rules.specs.Statements.{nextPlace, applied, effectBy, effectOf, stepped}
 use Rattle.rules.specs.Orders.{isReady}
 use Rattle.rules.specs.Invariant.{DriverValid, EffectFits, StoreFits, ScheduleFits}
-use Rattle.waveforms.specs.Pending.{never, pendingOf, firstTime, noDriver}
-use Rattle.cycle.specs.View.{viewOf, Valid, StepsTo}
-use Rattle.expressions.specs.Reading.{arrays}
-use Rattle.waveforms.specs.Waveform.{Waveform, ScheduledTo}
-use Rattle.cycle.specs.declared.config.Config.{Config}
-use Rattle.waveforms.specs.declared.driver.Scheduled.{Scheduled}
 use Rattle.rules.specs.declared.effect.Effect.{Effect}
 use Rattle.rules.specs.declared.effect.Effect.the-variants.{Skip, Store, Schedule, Jump, Wait, WaitFor, Stop}
-use Rattle.cycle.proofs.DeltaDrivers.{time-most, few-pending}
-use Rattle.waveforms.proofs.Drivers.{waveform-of}
 use Rattle.rules.proofs.Effects.{own-statement, placed, effect-fits}
-use Rattle.cycle.proofs.ArraysAgree.{effect-viewed}
 use Rattle.rules.proofs.Picks.{standing-stays}
 use Rattle.rules.proofs.StepReachable.{stepped-reachable}
-use Rattle.cycle.proofs.ViewLaws.{pending-in, place-in, standing-in, ready-in, deadline-in, ndrivers-is, nprocesses-is}
 use Rattle.rules.proofs.Settling.{Passed, turnedFrom, turned-over, turned-passed, turned-next, and-false}
+use Rattle.expressions.specs.Reading.{arrays}
+use Rattle.waveforms.specs.Pending.{never, pendingOf, firstTime, noDriver}
+use Rattle.waveforms.specs.Waveform.{Waveform, ScheduledTo}
+use Rattle.waveforms.specs.declared.driver.Scheduled.{Scheduled}
+use Rattle.waveforms.proofs.Drivers.{waveform-of}
+use Rattle.cycle.specs.View.{viewOf, Valid, StepsTo}
+use Rattle.cycle.specs.declared.config.Config.{Config}
+use Rattle.cycle.proofs.DeltaDrivers.{time-most, few-pending}
+use Rattle.cycle.proofs.ArraysAgree.{effect-viewed}
+use Rattle.cycle.proofs.ViewLaws.{pending-in, place-in, standing-in, ready-in, deadline-in, ndrivers-is, nprocesses-is}
 use Rattle.cycle.proofs.Changes.{Sized, movedTo, scheduledTo, waitsUntil, stopsBy, moved-sized, scheduled-sized, waits-sized, stops-sized, skip-view, store-view, jump-view, wait-view, wait-for-view, stop-view, schedule-view, full-view}
 
 -- process p at its place

@@ -5,7 +5,6 @@ use Prim.Native.Nat.{ℕ, _+_, _*_, _<_}
 use lib.Dec.{eqb}
 use lib.ListN.{length, getD, set}
 use lib.Seq.{getD-set-same, getD-set-other}
-use Rattle.steps.proofs.Shifts.{history-at}
 use Rattle.base.specs.Below.{listBelow}
 use Rattle.base.proofs.Below.{list-length, list-at, list-change}
 use Rattle.blocks.specs.Records.{Model}
@@ -14,10 +13,11 @@ use Rattle.rules.specs.Statements.{moved, waits, stops}
 use Rattle.rules.specs.Orders.{isReady}
 use Rattle.rules.specs.Invariant.{Reachable}
 use Rattle.waveforms.specs.Pending.{pendingOf, noDriver}
+use Rattle.waveforms.specs.declared.driver.Driver.{Driver}
 use Rattle.steps.specs.Entries.{deadlineOf, historyOf}
+use Rattle.steps.proofs.Shifts.{history-at}
 use Rattle.cycle.specs.View.{driverView, processView, viewOf}
 use Rattle.cycle.specs.declared.config.Config.{Config}
-use Rattle.waveforms.specs.declared.driver.Driver.{Driver}
 
 -- the lists of the view are as long as the struct says, and their elements are those of the arrays
 module _ (c : Config) where

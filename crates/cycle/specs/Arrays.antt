@@ -3,9 +3,9 @@ use mathlib.Core.Path.{_≡_}
 use mathlib.Core.List.{List}
 use Prim.Native.Nat.{ℕ, _/_, _<_}
 use lib.ListN.{getD}
-use Rattle.steps.specs.Entries.{drivingIn}
 use Rattle.blocks.specs.Records.{Model, signalAt, variableAt, processAt, driverAt}
 use Rattle.rules.specs.Configuration.{first, resolvedOr}
+use Rattle.steps.specs.Entries.{drivingIn}
 use Rattle.cycle.specs.View.{Valid, viewOf}
 use Rattle.cycle.specs.declared.config.Config.{Config}
 

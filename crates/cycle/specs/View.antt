@@ -2,14 +2,14 @@
 use mathlib.Core.Path.{_≡_}
 use Prim.Native.Nat.{ℕ, _<_}
 use lib.ListN.{getD, length}
-use Rattle.waveforms.specs.Pending.{pendingOf, noDriver, firstTime}
-use Rattle.steps.specs.Entries.{deadlineOf, historyOf}
 use Rattle.base.specs.Below.{listBelow}
 use Rattle.blocks.specs.Records.{Model}
 use Rattle.rules.specs.Configuration.{DriverState, ProcessState, Configuration}
 use Rattle.rules.specs.Statements.{stepped}
 use Rattle.rules.specs.Orders.{Outcome, picked, settled, readOf}
 use Rattle.rules.specs.Invariant.{Reachable}
+use Rattle.waveforms.specs.Pending.{pendingOf, noDriver, firstTime}
+use Rattle.steps.specs.Entries.{deadlineOf, historyOf}
 use Rattle.cycle.specs.declared.config.Config.{Config}
 use Rattle.cycle.specs.declared.orders.Answer.{Answer}
 use Rattle.cycle.specs.declared.orders.Answered.{Answered}

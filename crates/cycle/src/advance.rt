@@ -1,8 +1,8 @@
 // Advance: a delta step where something is due now, else a time step. One method, in place: a configuration is large to copy.
 ghost use Rattle.blocks.specs.Records.{modelOf};
 ghost use Rattle.rules.specs.Orders.{advanced};
-ghost use Rattle.cycle.specs.View.{viewOf, Valid, Answers};
 ghost use Rattle.expressions.specs.Reading.{Runs};
+ghost use Rattle.cycle.specs.View.{viewOf, Valid, Answers};
 use crate::config::Config;
 use crate::orders::Answer;
 use crate::orders::Answered;

@@ -9,14 +9,14 @@ use borrow.Author.Tests.{lt-ltb, le-ltb, ne-eqb}
 use lib.Dec.{ltb, eqb}
 use lib.ListN.{length, getD, take, drop, drop-of-length-le, List·getD-eq-default}
 use Rattle.base.specs.Below.{listBelow}
-use Rattle.base.proofs.Below.{list-length, list-at, NoneOf, none-of}
 use Rattle.base.specs.Cases.{_∣_, _⇒_}
+use Rattle.base.proofs.Below.{list-length, list-at, NoneOf, none-of}
 use Rattle.base.proofs.Cases.{either}
 use Rattle.rules.specs.Configuration.{Transaction, Configuration, driverIn, pastOf, lastTime}
 use Rattle.waveforms.specs.Pending.{never, pendingOf, noDriver}
+use Rattle.waveforms.specs.declared.driver.Driver.{Driver}
 use Rattle.cycle.specs.View.{driverView, processView, viewOf}
 use Rattle.cycle.specs.declared.config.Config.{Config}
-use Rattle.waveforms.specs.declared.driver.Driver.{Driver}
 use Rattle.cycle.proofs.ViewLaws.{signals-long, drivers-long, processes-long, variables-long, driver-in}
 use Rattle.exports.specs.Dump.{noProcess, noTransaction, totalWord, driverWord, processWord, wordOf}
 

@@ -6,10 +6,10 @@ pub mod dump;
 ghost use mathlib.Core.Path.{_≡_};
 ghost use lib.ListN.{length};
 ghost use Rattle.base.specs.Below.{listBelow};
-ghost use Rattle.model.specs.Rules.{refusalOf};
-ghost use Rattle.session.specs.Sessions.{sessionOf};
 ghost use Rattle.values.specs.Resolve.{resolutionOf};
 ghost use Rattle.values.specs.Operators.{notOf, andOf, orOf, xorOf};
+ghost use Rattle.model.specs.Rules.{refusalOf};
+ghost use Rattle.session.specs.Sessions.{sessionOf};
 ghost use Rattle.exports.specs.Dump.{wordOf};
 use crate::dump::dump;
 

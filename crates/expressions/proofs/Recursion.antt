@@ -6,15 +6,15 @@ use native.Mathlib.Omega.{arith}
 use lib.ListN.{length}
 use Rattle.base.proofs.Below.{NoneOf, none-of}
 use Rattle.blocks.specs.Records.{modelOf, nodeAt}
-use Rattle.trees.specs.Trees.{typeOf}
-use Rattle.model.specs.Facts.{NodeFits}
 use Rattle.blocks.specs.Index.{Starts}
-use Rattle.trees.specs.Types.{TypesBelow}
 use Rattle.blocks.specs.declared.records.NodeRecord.{NodeRecord}
+use Rattle.trees.specs.Trees.{typeOf}
+use Rattle.trees.specs.Types.{TypesBelow}
+use Rattle.model.specs.Facts.{NodeFits}
 use Rattle.rules.specs.declared.value.Value.{Value}
 use Rattle.rules.specs.Evaluation.{Environment, valueBy, evalOf}
-use Rattle.expressions.specs.Reading.{Runs}
 use Rattle.rules.proofs.Evaluation.{leaf, unary, binary}
+use Rattle.expressions.specs.Reading.{Runs}
 
 -- what a call on node n is given
 abbrev pub Call : List ℕ → List ℕ → ℕ → Type 0

@@ -5,27 +5,27 @@ use Prim.Native.Nat.{ℕ, _+_, _-_, _≤_, _<_}
 use native.Mathlib.Omega.{arith}
 use lib.ListN.{length}
 use borrow.Author.Tests.{lt-ltb, le-ltb}
-use Rattle.blocks.specs.Records.{Model, processAt, statementAt, modelOf}
-use Rattle.fields.specs.Fields.{endOf, ownerOf}
-use Rattle.model.specs.Facts.{Facts, StatementFits}
-use Rattle.blocks.specs.declared.records.ProcessRecord.{ProcessRecord}
-use Rattle.rules.specs.Statements.{nextPlace, withDelay}
-use Rattle.rules.specs.declared.effect.Effect.{Effect}
-use Rattle.rules.specs.declared.effect.Effect.the-variants.{Stop}
 use mathlib.Core.List.{List}
 use lib.IntN.{ℤ, pos}
 use lib.Signed.{ltZ}
 use mir.Syntax.{w64}
 use mir.Val.{toZ, ofZ}
 use Rattle.base.proofs.Below.{NoneOf, none-of}
+use Rattle.blocks.specs.Records.{Model, processAt, statementAt, modelOf}
+use Rattle.blocks.specs.declared.records.ProcessRecord.{ProcessRecord}
 use Rattle.blocks.specs.Index.{Starts}
-use Rattle.model.specs.Index.{DriversBelow}
 use Rattle.blocks.specs.declared.records.StatementRecord.{StatementRecord}
+use Rattle.fields.specs.Fields.{endOf, ownerOf}
+use Rattle.model.specs.Facts.{Facts, StatementFits}
+use Rattle.model.specs.Index.{DriversBelow}
+use Rattle.rules.specs.Statements.{nextPlace, withDelay}
+use Rattle.rules.specs.declared.effect.Effect.{Effect}
+use Rattle.rules.specs.declared.effect.Effect.the-variants.{Stop}
 use Rattle.rules.specs.declared.value.Value.{Value}
 use Rattle.rules.specs.declared.value.Value.the-variants.{Of, Fault}
 use Rattle.rules.specs.Evaluation.{int}
-use Rattle.expressions.specs.Reading.{Runs}
 use Rattle.rules.proofs.Signed.{not-negative, int-read}
+use Rattle.expressions.specs.Reading.{Runs}
 
 -- a delay, r being what `int` returned
 pub delay-fault : {v : Value} {f : ℕ} (next : ℕ → Effect) → v ≡ Fault f → Stop f ≡ withDelay v next

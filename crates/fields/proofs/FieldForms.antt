@@ -11,7 +11,6 @@ use mir.Val.{Fits}
 use borrow.Author.Tests.{ne-eqb}
 use Rattle.base.specs.Below.{allBelow, every}
 use Rattle.blocks.specs.Records.{Model, signalAt, variableAt, processAt, driverAt, nodeAt, statementAt}
-use Rattle.fields.specs.Fields.{valueOk, signalOk, variableOk, endOf, dueStart, processOk, covered, driverOk, nodeOk, ownerOf, inSpan, absent, statementOk, fieldsOk}
 use Rattle.blocks.specs.Totals.{TotalsOf}
 use Rattle.blocks.specs.declared.index.Totals.{Totals}
 use Rattle.blocks.specs.declared.records.SignalRecord.{SignalRecord}
@@ -20,6 +19,7 @@ use Rattle.blocks.specs.declared.records.ProcessRecord.{ProcessRecord}
 use Rattle.blocks.specs.declared.records.DriverRecord.{DriverRecord}
 use Rattle.blocks.specs.declared.records.NodeRecord.{NodeRecord}
 use Rattle.blocks.specs.declared.records.StatementRecord.{StatementRecord}
+use Rattle.fields.specs.Fields.{valueOk, signalOk, variableOk, endOf, dueStart, processOk, covered, driverOk, nodeOk, ownerOf, inSpan, absent, statementOk, fieldsOk}
 
 pub signal-form : (d : SignalRecord) (r : Bool) → r ≡ valueOk (d .ty) (d .start) → ((leb (d .ty) 1 && r) && d .zeros) ≡ signalOk d
 unfolding signalOk every

@@ -13,12 +13,12 @@ use lib.ListN.{length, getD, drop, List·getD-eq-default}
 use lib.Pow.{shl-exact}
 use lib.Seq.{getD-take, getD-drop}
 use Rattle.base.specs.Bytes.{byteAt}
-use Rattle.blocks.specs.Blocks.{startsOf, partAt}
 use Rattle.base.specs.Below.{every}
+use Rattle.blocks.specs.Blocks.{startsOf, partAt}
 use Rattle.blocks.specs.Records.{Model, modelOf, recordsOf, processOf, processAt}
-use Rattle.fields.specs.Fields.{nodeOk, endOf, dueStart, inSpan}
 use Rattle.blocks.specs.declared.records.NodeRecord.{NodeRecord}
 use Rattle.blocks.specs.declared.records.ProcessRecord.{ProcessRecord}
+use Rattle.fields.specs.Fields.{nodeOk, endOf, dueStart, inSpan}
 
 -- what is left of 1.. when 1 to 6 are taken off
 pub at-least-seven : (x : ℕ) → 1 ≤ x → (x ≡ 1 → ⊥) → (x ≡ 2 → ⊥) → (x ≡ 3 → ⊥) → (x ≡ 4 → ⊥) → (x ≡ 5 → ⊥) → (x ≡ 6 → ⊥) → 7 ≤ x

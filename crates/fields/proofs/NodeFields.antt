@@ -9,9 +9,9 @@ use lib.Dec.{T, leb, lit≤}
 use lib.ListN.{length}
 use Rattle.base.proofs.Below.{every-at, all-at, among, split}
 use Rattle.blocks.specs.Records.{Model, signalAt, variableAt, nodeAt}
+use Rattle.blocks.specs.declared.records.NodeRecord.{NodeRecord}
 use Rattle.fields.specs.Fields.{valueOk, signalOk, variableOk, nodeOk, fieldsOk}
 use Rattle.fields.specs.Facts.{SignalFits, VariableFits}
-use Rattle.blocks.specs.declared.records.NodeRecord.{NodeRecord}
 
 -- a type with a value is one of the three
 value-type : (ty x : ℕ) → valueOk ty x ≡ true → ty ≤ 2

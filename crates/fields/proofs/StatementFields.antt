@@ -9,9 +9,9 @@ use lib.Dec.{T, eqb, leb, lit≤}
 use lib.ListN.{length}
 use Rattle.base.proofs.Below.{every-at, all-at, among, and-left, and-right, split, or-cases}
 use Rattle.blocks.specs.Records.{Model, processAt, statementAt}
+use Rattle.blocks.specs.declared.records.StatementRecord.{StatementRecord}
 use Rattle.fields.specs.Fields.{absent, isNode, isNodeOrAbsent, inSpan, ownerOf, statementOk, fieldsOk}
 use Rattle.fields.specs.Facts.{Spans}
-use Rattle.blocks.specs.declared.records.StatementRecord.{StatementRecord}
 
 pub statement-ok : (M : Model) (n : ℕ) → fieldsOk M ≡ true → n < length (M .statements) → statementOk M n (statementAt M n) ≡ true
 unfolding fieldsOk

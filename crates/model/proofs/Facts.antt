@@ -12,19 +12,19 @@ use lib.ListN.{length}
 use Rattle.base.specs.Below.{allBelow}
 use Rattle.base.proofs.Below.{every-at, all-at, and-left, and-right, split}
 use Rattle.blocks.specs.Records.{Model, signalAt, driverAt, nodeAt, statementAt}
+use Rattle.blocks.proofs.Lookup.{signals-most, variables-most, processes-some, processes-most, drivers-most, nodes-most, statements-some, statements-most}
 use Rattle.fields.specs.Fields.{ownerOf, valueOk, nodeOk}
+use Rattle.fields.proofs.Spans.{process-fits, owner-below, owner-spans}
+use Rattle.fields.proofs.NodeFields.{signal-fits, variable-fits, node-ok, kind-least, kind-most, constant-integer, constant-logic, names-variable, names-signal, delay-most}
+use Rattle.fields.proofs.StatementFields.{statement-ok}
 use Rattle.trees.specs.Trees.{integer, boolean, lowerOk, typeOf, statementTyped, typesOk}
+use Rattle.trees.proofs.Operands.{lower-a, lower-b, lower-ok, size-most}
+use Rattle.trees.proofs.NodeTypes.{type-integer, type-logic, type-variable, type-signal, type-not, type-logical, type-negate, type-arithmetic, type-equal, type-less, logical-known, integers-known, equal-known}
 use Rattle.model.specs.Rules.{Accepted}
 use Rattle.model.specs.Owners.{statementOwned, ownersOk}
 use Rattle.model.specs.Facts.{TotalsFit, NodeFits, NodeTyped, StatementOf, Facts}
-use Rattle.blocks.proofs.Lookup.{signals-most, variables-most, processes-some, processes-most, drivers-most, nodes-most, statements-some, statements-most}
-use Rattle.fields.proofs.Spans.{process-fits, owner-below, owner-spans}
-use Rattle.trees.proofs.Operands.{lower-a, lower-b, lower-ok, size-most}
-use Rattle.trees.proofs.NodeTypes.{type-integer, type-logic, type-variable, type-signal, type-not, type-logical, type-negate, type-arithmetic, type-equal, type-less, logical-known, integers-known, equal-known}
-use Rattle.fields.proofs.NodeFields.{signal-fits, variable-fits, node-ok, kind-least, kind-most, constant-integer, constant-logic, names-variable, names-signal, delay-most}
 use Rattle.model.proofs.Own.{reads}
 use Rattle.model.proofs.Drivers.{drives, rise, found, single, driver-process, driver-signal}
-use Rattle.fields.proofs.StatementFields.{statement-ok}
 use Rattle.model.proofs.StatementFacts.{statement-fits}
 
 -- a node that is not mistyped

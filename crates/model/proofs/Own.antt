@@ -10,11 +10,11 @@ use Rattle.base.specs.Course.{course, upTo}
 use Rattle.base.proofs.Below.{and-left, and-right}
 use Rattle.base.proofs.Course.{earlier}
 use Rattle.blocks.specs.Records.{Model, variableAt, nodeAt}
+use Rattle.blocks.specs.declared.records.NodeRecord.{NodeRecord}
 use Rattle.trees.specs.Trees.{operandsOf, lowerOk}
+use Rattle.trees.proofs.Operands.{operands-two, operands-some, lower-a, lower-b}
 use Rattle.model.specs.Owners.{readsBy, nextReads, readsOwn}
 use Rattle.model.specs.Facts.{Reads}
-use Rattle.blocks.specs.declared.records.NodeRecord.{NodeRecord}
-use Rattle.trees.proofs.Operands.{operands-two, operands-some, lower-a, lower-b}
 
 module _ (M : Model) (p n : ℕ) where
   -- what is said of node m where those below n are known

@@ -8,12 +8,12 @@ use lib.ListN.{length}
 use borrow.Author.Tests.{ne-eqb}
 use Rattle.base.specs.Below.{allBelow, every}
 use Rattle.blocks.specs.Records.{Model, signalAt, variableAt, statementAt}
-use Rattle.fields.specs.Fields.{absent, ownerOf}
 use Rattle.blocks.specs.Totals.{totalsOk}
-use Rattle.model.specs.Owners.{driversRise, driversOf, singleOk, driverFor, readsOwn, statementOwned, ownersOk}
 use Rattle.blocks.specs.declared.records.StatementRecord.{StatementRecord}
-use Rattle.model.proofs.Drivers.{driver-most}
 use Rattle.blocks.proofs.Lookup.{drivers-most}
+use Rattle.fields.specs.Fields.{absent, ownerOf}
+use Rattle.model.specs.Owners.{driversRise, driversOf, singleOk, driverFor, readsOwn, statementOwned, ownersOk}
+use Rattle.model.proofs.Drivers.{driver-most}
 
 -- s is statement u, as it was read
 module _ (M : Model) (s u : StatementRecord) (e : s ≡ u) where

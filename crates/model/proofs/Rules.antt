@@ -9,11 +9,11 @@ use Rattle.base.proofs.Rules.{numbered, none-fails, later-decide, first-decides
 use Rattle.blocks.specs.Blocks.{lengthOk, headsOk}
 use Rattle.blocks.specs.Records.{Model, modelOf}
 use Rattle.blocks.specs.Totals.{totalsOk, blockRules}
+use Rattle.blocks.proofs.BlockForms.{blocks-numbered}
 use Rattle.fields.specs.Fields.{fieldsOk}
 use Rattle.trees.specs.Trees.{treesOk, typesOk}
 use Rattle.model.specs.Owners.{ownersOk}
 use Rattle.model.specs.Rules.{rulesOf, refusalOf, Accepted, recordRules}
-use Rattle.blocks.proofs.BlockForms.{blocks-numbered}
 use Rattle.model.specs.Index.{DriversIn, Judged}
 
 module _ (m : List ℕ) where

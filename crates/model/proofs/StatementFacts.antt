@@ -7,12 +7,12 @@ use borrow.Author.Tests.{ne-eqb, ltb-true, eqb-true}
 use lib.Dec.{eqb}
 use Rattle.base.proofs.Below.{every-at, and-left, and-right}
 use Rattle.blocks.specs.Records.{Model, signalAt, variableAt}
+use Rattle.blocks.specs.declared.records.StatementRecord.{StatementRecord}
 use Rattle.fields.specs.Fields.{absent, isNodeOrAbsent, ownerOf, statementOk}
+use Rattle.fields.proofs.StatementFields.{present, kind-most, names-variable, names-signal, value-node, delay-node, target, wait-condition, wait-delay, wait-set}
 use Rattle.trees.specs.Trees.{integer, boolean, typeOf, statementTyped}
 use Rattle.model.specs.Owners.{readsOwn, statementOwned}
 use Rattle.model.specs.Facts.{Expression, VariableAssignment, SignalAssignment, Branch, Wait, StatementFits}
-use Rattle.blocks.specs.declared.records.StatementRecord.{StatementRecord}
-use Rattle.fields.proofs.StatementFields.{present, kind-most, names-variable, names-signal, value-node, delay-node, target, wait-condition, wait-delay, wait-set}
 
 -- a statement of process p, by the three rules that speak of it
 module _ (M : Model) (n : ℕ) (s : StatementRecord) (ok : statementOk M n s ≡ true) (typed : statementTyped M s ≡ true) (owned : statementOwned M (ownerOf M n) s ≡ true) where

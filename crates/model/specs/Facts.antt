@@ -4,11 +4,11 @@ use mathlib.Core.Bool.{true}
 use Prim.Native.Nat.{ℕ, _^_, _≤_, _<_}
 use lib.ListN.{length}
 use Rattle.blocks.specs.Records.{Model, signalAt, variableAt, driverAt, nodeAt, statementAt}
+use Rattle.blocks.specs.declared.records.StatementRecord.{StatementRecord}
 use Rattle.fields.specs.Fields.{absent, ownerOf, valueOk}
 use Rattle.fields.specs.Facts.{SignalFits, VariableFits, Spans, ProcessFits}
 use Rattle.trees.specs.Trees.{integer, logic, boolean, sizeOf, typeOf}
 use Rattle.model.specs.Owners.{driverFor, readsOwn}
-use Rattle.blocks.specs.declared.records.StatementRecord.{StatementRecord}
 
 -- the totals are within their limits
 pub record TotalsFit (M : Model) : Type 0 where

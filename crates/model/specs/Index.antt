@@ -7,9 +7,9 @@ use lib.ListN.{length, getD}
 use Rattle.base.specs.Rules.{firstFailing}
 use Rattle.blocks.specs.Index.{typesAt, assignmentsAt, Starts}
 use Rattle.blocks.specs.Totals.{TotalsOf}
-use Rattle.trees.specs.Types.{TypesIn}
 use Rattle.blocks.specs.Records.{modelOf, statementAt}
 use Rattle.fields.specs.Fields.{ownerOf}
+use Rattle.trees.specs.Types.{TypesIn}
 use Rattle.trees.specs.Trees.{typeOf}
 use Rattle.model.specs.Rules.{Accepted, refusalOf, recordRules}
 use Rattle.model.specs.Owners.{driverFor}

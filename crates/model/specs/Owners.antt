@@ -8,11 +8,11 @@ use Rattle.base.specs.Below.{allBelow, sumBelow, every}
 use Rattle.base.specs.Cases.{_∣_, _⇒_, _is_⇒_}
 use Rattle.base.specs.Course.{course, firstWith}
 use Rattle.blocks.specs.Records.{Model, signalAt, variableAt, driverAt, nodeAt, statementAt}
-use Rattle.fields.specs.Fields.{absent, ownerOf}
-use Rattle.trees.specs.Trees.{operandsOf}
 use Rattle.blocks.specs.declared.records.DriverRecord.{DriverRecord}
 use Rattle.blocks.specs.declared.records.NodeRecord.{NodeRecord}
 use Rattle.blocks.specs.declared.records.StatementRecord.{StatementRecord}
+use Rattle.fields.specs.Fields.{absent, ownerOf}
+use Rattle.trees.specs.Trees.{operandsOf}
 
 -- by process, then by signal
 unfoldable pub pairBelow : DriverRecord → DriverRecord → Bool

@@ -1,11 +1,11 @@
 // Loading a model: the first of the rules 1 to 8 that it breaks, or its totals and index.
 ghost use mathlib.Core.Path.{_≡_};
+ghost use lib.ListN.{length};
 ghost use Rattle.blocks.specs.Records.{modelOf};
-ghost use Rattle.model.specs.Rules.{refusalOf};
 ghost use Rattle.blocks.specs.Index.{indexSize, Starts};
 ghost use Rattle.blocks.specs.Totals.{TotalsOf};
+ghost use Rattle.model.specs.Rules.{refusalOf};
 ghost use Rattle.model.specs.Index.{Judged, LoadedIs};
-ghost use lib.ListN.{length};
 use crate::owners::owners_ok;
 use blocks::blocks::blocks_refusal;
 use blocks::blocks::put_index;

@@ -11,10 +11,10 @@ use borrow.Author.Tests.{eqb-true, eqb-false}
 use Rattle.base.proofs.Cases.{by-test}
 use Rattle.base.proofs.Below.{at-append, map-at, list-length, list-at}
 use Rattle.blocks.specs.Records.{Model, signalAt, driverAt, statementAt}
+use Rattle.blocks.specs.declared.records.StatementRecord.{StatementRecord}
 use Rattle.fields.specs.Fields.{absent}
 use Rattle.trees.specs.Trees.{boolean}
 use Rattle.model.specs.Facts.{Facts}
-use Rattle.blocks.specs.declared.records.StatementRecord.{StatementRecord}
 use Rattle.rules.specs.declared.value.Value.{Value}
 use Rattle.rules.specs.declared.value.Value.the-variants.{Of, Fault}
 use Rattle.rules.specs.Configuration.{ProcessState, Configuration, driverIn, processIn, pastOf, currentOf, drivingOf, resolvedOr, waiting, lastTime}

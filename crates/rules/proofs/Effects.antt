@@ -12,13 +12,13 @@ use Rattle.base.specs.Cases.{_∣_, _⇒_}
 use Rattle.base.proofs.Below.{_and_, among}
 use Rattle.base.proofs.Cases.{by-test}
 use Rattle.blocks.specs.Records.{Model, signalAt, statementAt}
+use Rattle.blocks.specs.declared.records.StatementRecord.{StatementRecord}
 use Rattle.fields.specs.Fields.{valueOk, absent}
+use Rattle.fields.specs.Facts.{Spans}
 use Rattle.trees.specs.Trees.{integer}
 use Rattle.model.specs.Owners.{driverFor}
 use Rattle.model.specs.Facts as Facts
 use Rattle.model.specs.Facts.{Facts, StatementFits, SignalAssignment, Expression}
-use Rattle.fields.specs.Facts.{Spans}
-use Rattle.blocks.specs.declared.records.StatementRecord.{StatementRecord}
 use Rattle.rules.specs.declared.value.Value.{Value}
 use Rattle.rules.specs.declared.value.Value.the-variants.{Of, Fault}
 use Rattle.rules.specs.declared.effect.Effect.{Effect}

@@ -19,11 +19,11 @@ use Rattle.base.proofs.Course.{earlier}
 use Rattle.values.specs.Operators.{notOf, andOf, orOf, xorOf}
 use Rattle.values.proofs.Operators.{not-below, and-below, or-below, xor-below}
 use Rattle.blocks.specs.Records.{Model, nodeAt, variableAt, signalAt}
+use Rattle.blocks.specs.declared.records.NodeRecord.{NodeRecord}
 use Rattle.fields.specs.Fields.{valueOk}
 use Rattle.trees.specs.Trees.{typeOf, integer, logic, boolean}
 use Rattle.model.specs.Owners.{readsOwn}
 use Rattle.model.specs.Facts.{Facts, NodeFits, NodeTyped}
-use Rattle.blocks.specs.declared.records.NodeRecord.{NodeRecord}
 use Rattle.rules.specs.declared.value.Value.{Value}
 use Rattle.rules.specs.declared.value.Value.the-variants.{Of, Fault}
 use Rattle.rules.specs.Evaluation.{Environment, truth, int, one, two, unlessFirst, notBy, andBy, orBy, xorBy, ranged, negateOf, sumOf, differenceOf, equalOf, lessOf, valueBy, nextValue, evalOf}

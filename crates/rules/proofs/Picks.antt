@@ -14,10 +14,10 @@ use lib.Seq.{getD-set-other, set-comm}
 use Rattle.base.specs.Cases.{_∣_, _⇒_}
 use Rattle.base.proofs.Below.{_and_, among}
 use Rattle.blocks.specs.Records.{Model, variableAt, driverAt, statementAt}
+use Rattle.blocks.specs.declared.records.StatementRecord.{StatementRecord}
 use Rattle.fields.specs.Fields.{absent}
 use Rattle.model.specs.Owners.{readsOwn}
 use Rattle.model.specs.Facts.{Expression, StatementFits, Facts}
-use Rattle.blocks.specs.declared.records.StatementRecord.{StatementRecord}
 use Rattle.rules.specs.declared.effect.Effect.{Effect}
 use Rattle.rules.specs.declared.effect.Effect.the-variants.{Skip, Store, Schedule, Jump, Wait, WaitFor, Stop}
 use Rattle.rules.specs.Configuration.{DriverState, Configuration, driverIn, processIn}

@@ -11,8 +11,8 @@ use borrow.Author.Tests.{ltb-true, eqb-true}
 use Rattle.base.proofs.Cases.{by-test}
 use Rattle.blocks.specs.Records.{Model, signalAt, variableAt, driverAt, statementAt}
 use Rattle.fields.specs.Fields.{endOf}
-use Rattle.model.specs.Facts.{Facts}
 use Rattle.fields.specs.Facts.{Spans}
+use Rattle.model.specs.Facts.{Facts}
 use Rattle.rules.specs.declared.effect.Effect.{Effect}
 use Rattle.rules.specs.declared.effect.Effect.the-variants.{Skip, Store, Schedule, Jump, Wait, WaitFor, Stop}
 use Rattle.rules.specs.Configuration.{DriverState, ProcessState, Configuration, driverIn, processIn, ready, lastTime}

@@ -14,8 +14,8 @@ use Rattle.base.specs.Cases.{_∣_, _⇒_, _is_⇒_}
 use Rattle.base.specs.Course.{course}
 use Rattle.values.specs.Operators.{notOf, andOf, orOf, xorOf}
 use Rattle.blocks.specs.Records.{Model, nodeAt}
-use Rattle.trees.specs.Trees.{boolean, typeOf}
 use Rattle.blocks.specs.declared.records.NodeRecord.{NodeRecord}
+use Rattle.trees.specs.Trees.{boolean, typeOf}
 use Rattle.rules.specs.declared.value.Value.{Value}
 use Rattle.rules.specs.declared.value.Value.the-variants.{Of, Fault}
 use Rattle.rules.specs.Configuration.{pastOf}

@@ -5,10 +5,10 @@ use mathlib.Core.List.{List, [], _∷_}
 use mathlib.Core.Option.{Option, none, some}
 use Prim.Native.Nat.{ℕ, _+_, _≤_, _<_}
 use lib.ListN.{length, getD}
-use Rattle.rules.specs.Configuration.{deltaLimit, lastTime, Transaction, DriverState, ProcessState, Configuration, driverIn, processIn, pastOf, ready, waiting}
 use Rattle.blocks.specs.Records.{Model, signalAt, variableAt, driverAt, processAt, statementAt}
 use Rattle.fields.specs.Fields.{endOf, valueOk}
 use Rattle.fields.specs.Facts.{Spans}
+use Rattle.rules.specs.Configuration.{deltaLimit, lastTime, Transaction, DriverState, ProcessState, Configuration, driverIn, processIn, pastOf, ready, waiting}
 use Rattle.rules.specs.declared.effect.Effect.{Effect}
 use Rattle.rules.specs.declared.effect.Effect.the-variants.{Skip, Store, Schedule, Jump, Wait, WaitFor, Stop}
 

@@ -5,11 +5,11 @@ use mathlib.Core.Option.{Option, none, some}
 use Prim.Native.Nat.{ℕ, zero, suc, _+_, min}
 use lib.Dec.{eqb, ltb, leb}
 use lib.ListN.{length}
-use Rattle.rules.specs.Configuration.{deltaLimit, lastTime, Transaction, Configuration, driverIn, processIn, currentOf, ready, stopped}
 use Rattle.base.specs.Below.{anyBelow, joinBelow}
 use Rattle.base.specs.Cases.{_∣_, _⇒_}
 use Rattle.base.specs.Course.{firstWith}
 use Rattle.blocks.specs.Records.{Model}
+use Rattle.rules.specs.Configuration.{deltaLimit, lastTime, Transaction, Configuration, driverIn, processIn, currentOf, ready, stopped}
 use Rattle.rules.specs.Statements.{stepped}
 use Rattle.rules.specs.Steps.{transactionDue, deadlineDue, deltaStep, timeStep}
 

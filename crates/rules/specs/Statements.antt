@@ -11,9 +11,9 @@ use lib.IntN.{pos, natAbs}
 use lib.Signed.{ltZ}
 use Rattle.base.specs.Cases.{_∣_, _⇒_, _is_⇒_}
 use Rattle.blocks.specs.Records.{Model, processAt, statementAt}
+use Rattle.blocks.specs.declared.records.StatementRecord.{StatementRecord}
 use Rattle.fields.specs.Fields.{absent, endOf}
 use Rattle.model.specs.Owners.{driverFor}
-use Rattle.blocks.specs.declared.records.StatementRecord.{StatementRecord}
 use Rattle.rules.specs.declared.value.Value.{Value}
 use Rattle.rules.specs.declared.value.Value.the-variants.{Of, Fault}
 use Rattle.rules.specs.declared.effect.Effect.{Effect}

@@ -8,8 +8,8 @@ use lib.ListN.{length, getD, take, replicate}
 use Rattle.base.specs.Below.{anyBelow, listBelow}
 use Rattle.base.specs.Cases.{_∣_, _⇒_}
 use Rattle.blocks.specs.Records.{Model, driverAt, statementAt}
-use Rattle.fields.specs.Fields.{absent}
 use Rattle.blocks.specs.declared.records.StatementRecord.{StatementRecord}
+use Rattle.fields.specs.Fields.{absent}
 use Rattle.rules.specs.declared.value.Value.{Value}
 use Rattle.rules.specs.declared.value.Value.the-variants.{Of, Fault}
 use Rattle.rules.specs.Configuration.{Transaction, DriverState, ProcessState, Configuration, driverIn, processIn, currentOf, drivingOf, resolvedOr, ready, waiting}

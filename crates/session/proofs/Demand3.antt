@@ -8,9 +8,12 @@ use native.Mathlib.Omega.{arith}
 use borrow.Author.Tests.{ne-eqb}
 use lib.Dec.{eqb}
 use lib.ListN.{length}
-use Rattle.model.proofs.Rules.{accepted}
+use Rattle.determinacy.specs.Kernel.{Laws, NormalForm}
+use Rattle.determinacy.specs.Determinacy.{Determinacy}
+use Rattle.determinacy.proofs.Run.{determinate as by-runs}
 use Rattle.blocks.specs.Records.{Model, modelOf}
 use Rattle.model.specs.Facts.{Facts}
+use Rattle.model.proofs.Rules.{accepted}
 use Rattle.model.proofs.Facts.{facts}
 use Rattle.rules.specs.Configuration.{Configuration, first}
 use Rattle.rules.specs.Statements.{stepped}
@@ -20,9 +23,6 @@ use Rattle.rules.proofs.Outcomes.{Pick, pick-refused, pick-done, pick-is, pick-
 use Rattle.rules.proofs.FirstReachable.{first-reachable}
 use Rattle.rules.proofs.Invariant.{picked-reachable, advanced-reachable}
 use Rattle.rules.proofs.Picks.{steps-commute, standing-stays}
-use Rattle.determinacy.specs.Kernel.{Laws, NormalForm}
-use Rattle.determinacy.specs.Determinacy.{Determinacy}
-use Rattle.determinacy.proofs.Run.{determinate as by-runs}
 use Rattle.session.specs.Demand3.{kernelOf, tallyOf, Determinate}
 use Rattle.session.proofs.Answers.{orders-small}
 use Rattle.session.proofs.Runs.{played-run}

@@ -12,6 +12,7 @@ use Rattle.blocks.specs.Records.{Model, modelOf}
 use Rattle.model.specs.Facts.{Facts}
 use Rattle.model.specs.Rules.{refusalOf}
 use Rattle.model.proofs.Facts.{facts}
+use Rattle.model.proofs.Rules.{accepted}
 use Rattle.rules.specs.Configuration.{Configuration, first, lastTime}
 use Rattle.rules.specs.Invariant.{Reachable}
 use Rattle.rules.specs.Orders.{Outcome}
@@ -20,7 +21,6 @@ use Rattle.rules.proofs.Invariant.{picked-reachable, advanced-reachable, settle
 use Rattle.session.specs.Lists.{Order, isKnown, ordersOf, performed, played}
 use Rattle.session.specs.Sessions.{Session, numberOf, sessionOf}
 use Rattle.session.proofs.SessionLaws.{model-refused}
-use Rattle.model.proofs.Rules.{accepted}
 
 module _ (M : Model) (fs : Facts M) where
   abbrev Keeps : Outcome → Type 0

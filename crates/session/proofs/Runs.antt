@@ -13,12 +13,12 @@ use Rattle.base.specs.Cases.{_∣_, _⇒_}
 use Rattle.base.proofs.Below.{and-true-false}
 use Rattle.base.proofs.Cases.{by-test}
 use Rattle.base.proofs.Course.{first-at}
+use Rattle.determinacy.proofs.Run.{Run, stay, by-pick, by-advance, join}
 use Rattle.blocks.specs.Records.{Model}
 use Rattle.rules.specs.Configuration.{Configuration}
 use Rattle.rules.specs.Statements.{stepped}
 use Rattle.rules.specs.Orders.{Outcome, refused, isReady, advanced, lowestReady, Settled, settledFrom, settled}
 use Rattle.rules.proofs.Outcomes.{Refusal, Pick, pick-refused, pick-done, pick-is, pick-of-ready, Advance, advance-refused, delta-done, time-done, advance-is, Read, read-refused, read-done, read-is}
-use Rattle.determinacy.proofs.Run.{Run, stay, by-pick, by-advance, join}
 use Rattle.session.specs.Lists.{Order, isKnown, answerOf, performed, played}
 use Rattle.session.specs.Demand3.{picksOf, isAdvance, advancesOf, kernelOf}
 use Rattle.session.proofs.Answers.{Small, refusal-byte, picks-word}

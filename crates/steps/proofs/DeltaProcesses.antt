@@ -12,10 +12,10 @@ use borrow.Author.Tests.{eqb-true, eq-eqb, ne-eqb}
 use Rattle.base.specs.Below.{anyBelow}
 use Rattle.base.proofs.Cases.{by-test}
 use Rattle.blocks.specs.Records.{Model, statementAt}
-use Rattle.fields.specs.Fields.{absent}
-use Rattle.model.specs.Facts.{Facts}
-use Rattle.fields.specs.Facts.{Spans}
 use Rattle.blocks.specs.declared.records.StatementRecord.{StatementRecord}
+use Rattle.fields.specs.Fields.{absent}
+use Rattle.fields.specs.Facts.{Spans}
+use Rattle.model.specs.Facts.{Facts}
 use Rattle.rules.specs.declared.value.Value.{Value}
 use Rattle.rules.specs.declared.value.Value.the-variants.{Of, Fault}
 use Rattle.rules.specs.Configuration.{ProcessState, ready, waiting, lastTime}
@@ -23,12 +23,12 @@ use Rattle.rules.specs.Evaluation.{Environment, evalOf}
 use Rattle.rules.specs.Statements.{nextPlace, stops}
 use Rattle.rules.specs.Steps.{inSet, deadlineAt, deadlineDue, wakes, wokenBy}
 use Rattle.rules.specs.Invariant.{ProcessValid}
+use Rattle.rules.proofs.Effects.{own-statement}
 use Rattle.waveforms.specs.Pending.{never}
 use Rattle.steps.specs.Entries.{deadlineOf}
 use Rattle.steps.specs.Delta.{stateOf, entryOf, wokenFor, wokenIn, afterDelta, ProcessesValid, WokenTo}
 use Rattle.steps.specs.declared.delta.Process.{Process}
 use Rattle.steps.specs.declared.delta.Processes.{Processes}
-use Rattle.rules.proofs.Effects.{own-statement}
 
 -- a deadline of the struct is due where it is the time: no time is the number that stands for none
 pub due-is : (t d : ℕ) → t ≤ lastTime → deadlineAt t (deadlineOf d) ≡ eqb d t

@@ -13,8 +13,8 @@ use borrow.Author.Count.{below-none, below-more}
 use borrow.Author.Tests.{eq-eqb, ne-eqb}
 use Rattle.base.proofs.Below.{any-start, any-next}
 use Rattle.blocks.specs.Records.{Model, driverAt}
-use Rattle.model.specs.Facts.{Facts}
 use Rattle.blocks.specs.declared.records.DriverRecord.{DriverRecord}
+use Rattle.model.specs.Facts.{Facts}
 use Rattle.rules.specs.Configuration.{resolvedOr}
 use Rattle.rules.specs.Steps.{inSet}
 use Rattle.steps.specs.Entries.{drivingIn}

@@ -10,9 +10,9 @@ use lib.Seq.{getD-take, ext-getD, getD-append-add, getD-set-same, getD-set-other
 use Rattle.base.specs.Below.{listBelow}
 use Rattle.base.proofs.Below.{map-at, list-length, list-at}
 use Rattle.rules.specs.Steps.{shifted}
+use Rattle.rules.proofs.AdvanceReachable.{shifted-length}
 use Rattle.steps.specs.Entries.{historyOf}
 use Rattle.steps.specs.Shift.{Between, MovedBy, FilledTo, ShiftedBy}
-use Rattle.rules.proofs.AdvanceReachable.{shifted-length}
 
 -- a history of the array
 pub history-at : (l : List ℕ) (s k : ℕ) → k < 32 → getD (historyOf l s) k 0 ≡ getD l (32 * s + k) 0

@@ -8,8 +8,8 @@ use lib.ListN.{getD}
 use Rattle.base.specs.Below.{anyBelow}
 use Rattle.base.specs.Cases.{_∣_, _⇒_}
 use Rattle.blocks.specs.Records.{Model, driverAt, statementAt}
-use Rattle.fields.specs.Fields.{absent}
 use Rattle.blocks.specs.declared.records.StatementRecord.{StatementRecord}
+use Rattle.fields.specs.Fields.{absent}
 use Rattle.rules.specs.Configuration.{ProcessState, resolvedOr, waiting}
 use Rattle.rules.specs.Evaluation.{Environment, evalOf}
 use Rattle.rules.specs.Steps.{inSet, deadlineDue, wakes, wokenBy}

@@ -5,9 +5,9 @@ use mathlib.Core.List.{List}
 use Prim.Native.Nat.{ℕ, min}
 use lib.Dec.{eqb, ltb, leb}
 use lib.ListN.{getD}
-use Rattle.rules.specs.Configuration.{deltaLimit, lastTime, ready, stopped}
 use Rattle.base.specs.Below.{anyBelow, listBelow}
 use Rattle.base.specs.Cases.{_∣_, _⇒_}
+use Rattle.rules.specs.Configuration.{deltaLimit, lastTime, ready, stopped}
 use Rattle.rules.specs.Orders.{least}
 use Rattle.waveforms.specs.Pending.{never}
 use Rattle.steps.specs.declared.due.Due.{Due}

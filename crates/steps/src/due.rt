@@ -2,8 +2,8 @@
 ghost use mathlib.Core.Path.{_≡_};
 ghost use Prim.Native.Nat.{_≤_, min};
 ghost use lib.ListN.{length};
-ghost use Rattle.steps.specs.Due.{soonestOf, someIs, refusalIn, DueIn};
 ghost use Rattle.waveforms.specs.Pending.{NoneBefore};
+ghost use Rattle.steps.specs.Due.{soonestOf, someIs, refusalIn, DueIn};
 use rules::DELTA_LIMIT;
 use rules::LAST_TIME;
 use rules::READY;

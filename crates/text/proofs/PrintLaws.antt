@@ -19,14 +19,14 @@ use Rattle.base.proofs.Cases.{either-way}
 use Rattle.blocks.specs.Blocks.{lengthOk}
 use Rattle.blocks.specs.Records.{modelOf}
 use Rattle.blocks.specs.Totals.{blockRules}
-use Rattle.model.specs.Rules.{rulesOf, refusalOf}
 use Rattle.blocks.proofs.Starts.{length-most}
+use Rattle.model.specs.Rules.{rulesOf, refusalOf}
 use Rattle.rules.specs.Configuration.{first}
 use Rattle.session.specs.declared.Ended.{Ended}
 use Rattle.session.specs.Lists.{ordersOf, played}
 use Rattle.session.specs.Sessions.{ordersOk, bufferOk, numberOf, bytesOf, sessionOf, SessionIs}
-use Rattle.text.specs.Text.{lineMost, lineOf, numberLineOf, linesOf, answersIn, sessionText, textOf, modelRoom, ordersRoom, textRoom, RoomsSuffice, AnswerRoom, Written}
 use Rattle.session.proofs.SessionLaws.{nine, orders-few, model-refused, model-accepted}
+use Rattle.text.specs.Text.{lineMost, lineOf, numberLineOf, linesOf, answersIn, sessionText, textOf, modelRoom, ordersRoom, textRoom, RoomsSuffice, AnswerRoom, Written}
 
 -- the lines of some answers and of one more
 lines-behind : (xs : List (List ℕ)) (a : List ℕ) → linesOf (xs ++ (a ∷ [])) ≡ linesOf xs ++ lineOf a

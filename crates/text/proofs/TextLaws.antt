@@ -12,10 +12,10 @@ use lib.Dec.{ltb}
 use lib.ListN.{length, take, set, length-append, length-take}
 use lib.Seq.{take-at, take-suc-set}
 use Rattle.base.specs.Course.{firstWith}
+use Rattle.base.specs.Bytes.{byteAt, wordAt, longAt}
 use Rattle.base.proofs.Below.{split}
 use Rattle.base.proofs.Course.{first-found, first-none, first-before}
 use Rattle.io.specs.Digits.{digits, Fewest}
-use Rattle.base.specs.Bytes.{byteAt, wordAt, longAt}
 use Rattle.text.specs.Text.{placesOf, decimalOf, minus, space, lineFeed, signedOf, timeIn, ended, lineOf, Written}
 
 digits-length : (b k n : ℕ) → length (digits b k n) ≡ k

@@ -8,17 +8,17 @@ use native.Mathlib.Omega.{arith}
 use borrow.Author.Tests.{eqb-true, eq-eqb, lt-ltb, le-ltb}
 use lib.Dec.{eqb, leb, ltb}
 use lib.ListN.{getD, List·getD-eq-default}
-use Rattle.blocks.specs.Index.{typesAt}
 use Rattle.base.specs.Cases.{_∣_, _⇒_}
 use Rattle.base.specs.Course.{course, upTo}
 use Rattle.base.proofs.Below.{or-cases, among, and-left, and-right, split}
 use Rattle.base.proofs.Cases.{by-test}
 use Rattle.base.proofs.Course.{earlier, entries}
+use Rattle.blocks.specs.Index.{typesAt}
 use Rattle.blocks.specs.Records.{Model, signalAt, variableAt, nodeAt}
-use Rattle.fields.specs.Fields.{nodeOk, fieldsOk}
-use Rattle.trees.specs.Trees.{integer, logic, boolean, mistyped, typeBy, nextType, typeOf}
 use Rattle.blocks.specs.declared.records.NodeRecord.{NodeRecord}
+use Rattle.fields.specs.Fields.{nodeOk, fieldsOk}
 use Rattle.fields.proofs.NodeFields.{variable-fits, signal-fits, names-variable, names-signal}
+use Rattle.trees.specs.Trees.{integer, logic, boolean, mistyped, typeBy, nextType, typeOf}
 
 -- what a node's type is, given those of its operands
 abbrev pub logicalType : ℕ → ℕ → ℕ

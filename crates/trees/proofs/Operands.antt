@@ -9,8 +9,8 @@ use lib.Dec.{ltb}
 use lib.ListN.{length}
 use Rattle.base.proofs.Below.{all-at, and-left, and-right}
 use Rattle.blocks.specs.Records.{Model, nodeAt}
-use Rattle.trees.specs.Trees.{operandsOf, lowerOk, sizeOf, treeOk, Measurable, treesOk}
 use Rattle.blocks.specs.declared.records.NodeRecord.{NodeRecord}
+use Rattle.trees.specs.Trees.{operandsOf, lowerOk, sizeOf, treeOk, Measurable, treesOk}
 
 module _ (kind : ℕ) where
   pub operands-not : kind ≡ 6 → operandsOf kind ≡ 1

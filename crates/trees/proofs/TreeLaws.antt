@@ -10,8 +10,8 @@ use Rattle.base.specs.Course.{upTo, course}
 use Rattle.base.proofs.Below.{and-left, and-right}
 use Rattle.base.proofs.Course.{operand}
 use Rattle.blocks.specs.Records.{Model, nodeAt}
-use Rattle.trees.specs.Trees.{operandsOf, lowerOk, sizeBy, nextSize, sizeOf, treeOk, Measurable}
 use Rattle.blocks.specs.declared.records.NodeRecord.{NodeRecord}
+use Rattle.trees.specs.Trees.{operandsOf, lowerOk, sizeBy, nextSize, sizeOf, treeOk, Measurable}
 
 -- node n, whose tree is worked out
 module _ {M : Model} {n : ℕ} (h : Measurable M n) where

@@ -5,9 +5,9 @@ use Prim.Native.Nat.{ℕ}
 use lib.Dec.{eqb}
 use borrow.Author.Tests.{ne-eqb}
 use Rattle.blocks.specs.Records.{Model, signalAt, variableAt}
+use Rattle.blocks.specs.declared.records.StatementRecord.{StatementRecord}
 use Rattle.fields.specs.Fields.{absent}
 use Rattle.trees.specs.Trees.{integer, boolean, typeOf, statementTyped}
-use Rattle.blocks.specs.declared.records.StatementRecord.{StatementRecord}
 
 -- s is statement u, as it was read
 module _ (M : Model) (s u : StatementRecord) (e : s ≡ u) where

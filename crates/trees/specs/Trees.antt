@@ -9,9 +9,9 @@ use Rattle.base.specs.Below.{allBelow}
 use Rattle.base.specs.Cases.{_∣_, _⇒_, _is_⇒_}
 use Rattle.base.specs.Course.{course}
 use Rattle.blocks.specs.Records.{Model, signalAt, variableAt, nodeAt, statementAt}
-use Rattle.fields.specs.Fields.{absent}
 use Rattle.blocks.specs.declared.records.NodeRecord.{NodeRecord}
 use Rattle.blocks.specs.declared.records.StatementRecord.{StatementRecord}
+use Rattle.fields.specs.Fields.{absent}
 
 -- how many operands a node of the kind has: two, one (not, negate) or none
 unfoldable pub operandsOf : ℕ → ℕ

@@ -19,10 +19,10 @@ use Rattle.base.proofs.Below.{list-none, list-more, list-first, list-length, li
 use Rattle.rules.specs.Configuration.{Transaction}
 use Rattle.rules.specs.Statements.{before, scheduled, overflows, driverAfter}
 use Rattle.rules.specs.Invariant.{Rising}
+use Rattle.rules.proofs.Waves.{scheduled-length}
 use Rattle.waveforms.specs.Pending.{never, pendingOf, firstTime}
 use Rattle.waveforms.specs.Waveform.{Waveform, Kept, Nearer, ScheduledTo, Ahead, Elapsed}
 use Rattle.waveforms.specs.declared.driver.Driver.{Driver}
-use Rattle.rules.proofs.Waves.{scheduled-length}
 
 abbrev pub nothing : Transaction
 nothing = record { time = 0; value = 0 }

@@ -3,9 +3,9 @@ use mathlib.Core.Path.{_≡_}
 use mathlib.Core.List.{List}
 use Prim.Native.Nat.{ℕ, _+_, _≤_, _<_}
 use lib.ListN.{getD}
-use Rattle.waveforms.specs.Pending.{NoneBefore, pendingOf}
 use Rattle.rules.specs.Configuration.{DriverState}
 use Rattle.rules.specs.Statements.{scheduled, overflows, driverAfter}
+use Rattle.waveforms.specs.Pending.{NoneBefore, pendingOf}
 use Rattle.waveforms.specs.declared.driver.Driver.{Driver}
 use Rattle.waveforms.specs.declared.driver.Scheduled.{Scheduled}
 

@@ -1,5 +1,5 @@
-use Rattle.fields.proofs.FieldForms.{total-some, last-there, covered-form}
 use Rattle.blocks.proofs.Lookup.{processes-some}
+use Rattle.fields.proofs.FieldForms.{total-some, last-there, covered-form}
 use Rattle.fields.proofs.all_covered.Statement.{statement}
 use Rattle.fields.proofs.all_covered.Tie as tie
 

@@ -5,8 +5,8 @@ use denote.Ref.{now}
 use Rattle.base.specs.Below.{allBelow}
 use Rattle.base.proofs.Turns.{turn-next, turn-most, all-begun, all-turn, all-ended}
 use Rattle.blocks.specs.Records.{modelOf, driverAt}
-use Rattle.fields.specs.Fields.{driverOk}
 use Rattle.blocks.proofs.Lookup.{drivers-most}
+use Rattle.fields.specs.Fields.{driverOk}
 use Rattle.fields.proofs.drivers_ok.Statement.{statement}
 use Rattle.fields.proofs.drivers_ok.Tie as tie
 

@@ -5,8 +5,8 @@ use denote.Ref.{now}
 use Rattle.base.specs.Below.{allBelow}
 use Rattle.base.proofs.Turns.{turn-next, turn-most, all-begun, all-turn, all-ended}
 use Rattle.blocks.specs.Records.{modelOf, nodeAt}
-use Rattle.fields.specs.Fields.{nodeOk}
 use Rattle.blocks.proofs.Lookup.{nodes-most}
+use Rattle.fields.specs.Fields.{nodeOk}
 use Rattle.fields.proofs.nodes_ok.Statement.{statement}
 use Rattle.fields.proofs.nodes_ok.Tie as tie
 

@@ -8,8 +8,8 @@ use lib.Dec.{ltb}
 use Rattle.base.proofs.Course.{first-found, first-none}
 use Rattle.base.proofs.Turns.{turn-next, turn-most}
 use Rattle.blocks.specs.Records.{modelOf}
-use Rattle.fields.specs.Fields.{endOf, ownerOf}
 use Rattle.blocks.proofs.Lookup.{processes-most}
+use Rattle.fields.specs.Fields.{endOf, ownerOf}
 use Rattle.fields.proofs.owner_of.Statement.{statement}
 use Rattle.fields.proofs.owner_of.Tie as tie
 

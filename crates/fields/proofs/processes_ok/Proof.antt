@@ -4,8 +4,8 @@ use borrow.Author.Count.{falls}
 use Rattle.base.specs.Below.{allBelow}
 use Rattle.base.proofs.Turns.{turn-next, turn-most, all-begun, all-turn, all-ended}
 use Rattle.blocks.specs.Records.{modelOf}
-use Rattle.fields.specs.Fields.{processOk}
 use Rattle.blocks.proofs.Lookup.{processes-most}
+use Rattle.fields.specs.Fields.{processOk}
 use Rattle.fields.proofs.processes_ok.Statement.{statement}
 use Rattle.fields.proofs.processes_ok.Tie as tie
 

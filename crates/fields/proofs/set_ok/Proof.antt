@@ -1,5 +1,5 @@
-use Rattle.fields.proofs.FieldLaws.{power}
 use borrow.Author.Needs.{needs}
+use Rattle.fields.proofs.FieldLaws.{power}
 use Rattle.fields.proofs.set_ok.Statement.{statement}
 use Rattle.fields.proofs.set_ok.Tie as tie
 

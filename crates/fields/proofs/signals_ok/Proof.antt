@@ -4,8 +4,8 @@ use borrow.Author.Count.{falls}
 use Rattle.base.specs.Below.{allBelow}
 use Rattle.base.proofs.Turns.{turn-next, turn-most, all-begun, all-turn, all-ended}
 use Rattle.blocks.specs.Records.{modelOf, signalAt}
-use Rattle.fields.specs.Fields.{signalOk}
 use Rattle.blocks.proofs.Lookup.{signals-most}
+use Rattle.fields.specs.Fields.{signalOk}
 use Rattle.fields.proofs.signals_ok.Statement.{statement}
 use Rattle.fields.proofs.signals_ok.Tie as tie
 

@@ -1,6 +1,6 @@
 use mathlib.Core.Path.{sym}
-use Rattle.fields.proofs.FieldForms.{null-form, variable-set, signal-set, branch-form, jump-form, wait-form, other-form}
 use Rattle.blocks.proofs.Lookup.{signals-most}
+use Rattle.fields.proofs.FieldForms.{null-form, variable-set, signal-set, branch-form, jump-form, wait-form, other-form}
 use Rattle.fields.proofs.statement_ok.Statement.{statement}
 use Rattle.fields.proofs.statement_ok.Tie as tie
 

@@ -5,8 +5,8 @@ use denote.Ref.{now}
 use Rattle.base.specs.Below.{allBelow}
 use Rattle.base.proofs.Turns.{turn-next, turn-most, all-begun, all-turn, all-ended}
 use Rattle.blocks.specs.Records.{modelOf, statementAt}
-use Rattle.fields.specs.Fields.{statementOk}
 use Rattle.blocks.proofs.Lookup.{statements-most}
+use Rattle.fields.specs.Fields.{statementOk}
 use Rattle.fields.proofs.statements_ok.Statement.{statement}
 use Rattle.fields.proofs.statements_ok.Tie as tie
 

@@ -5,8 +5,8 @@ use denote.Ref.{now}
 use Rattle.base.specs.Below.{allBelow}
 use Rattle.base.proofs.Turns.{turn-next, turn-most, all-begun, all-turn, all-ended}
 use Rattle.blocks.specs.Records.{modelOf, variableAt}
-use Rattle.fields.specs.Fields.{variableOk}
 use Rattle.blocks.proofs.Lookup.{variables-most}
+use Rattle.fields.specs.Fields.{variableOk}
 use Rattle.fields.proofs.variables_ok.Statement.{statement}
 use Rattle.fields.proofs.variables_ok.Tie as tie
 

@@ -1,10 +1,10 @@
 -- The loop's invariant: what was read lies within the buffer. Assumes nothing.
 use native.Mathlib.Omega.{arith}
-use Rattle.io.proofs.Counting.{counts}
 use mathlib.Core.Path.{_≡_}
 use Prim.Native.Nat.{_≤_, _-_}
 use lib.ListN.{length}
 use borrow.Author.Needs.{needs}
+use Rattle.io.proofs.Counting.{counts}
 use Rattle.playbench.proofs.fill.Statement.{statement}
 use Rattle.playbench.proofs.fill.Tie as tie
 

@@ -5,8 +5,8 @@ use Prim.Native.Nat.{ℕ, _+_, _-_}
 use borrow.Rule.Slice.PartMut.{same-len-mid}
 use lib.ListN.{length, take, drop, length-take, length-drop}
 use borrow.Author.Needs.{needs}
-use Rattle.text.specs.Text.{decimalOf}
 use Rattle.session.proofs.PlayLaws.{copied}
+use Rattle.text.specs.Text.{decimalOf}
 use Rattle.text.proofs.TextLaws.{decimal-is, put}
 use Rattle.text.proofs.put_number.Statement.{statement}
 use Rattle.text.proofs.put_number.Tie as tie

@@ -1,6 +1,6 @@
 use borrow.Author.Tests.{eq-eqb, ne-eqb}
-use Rattle.blocks.specs.Blocks.{countIn}
 use borrow.Author.Needs.{needs}
+use Rattle.blocks.specs.Blocks.{countIn}
 use Rattle.blocks.proofs.blocks.count_in.Statement.{statement}
 use Rattle.blocks.proofs.blocks.count_in.Tie as tie
 

@@ -2,11 +2,11 @@ use mathlib.Core.Path.{_≡_, refl, ap, _∙_}
 use Prim.Native.Nat.{_-_, _≤_}
 use native.Mathlib.Omega.{arith}
 use lib.ListN.{length}
+use borrow.Author.Needs.{needs}
 use Rattle.blocks.specs.Blocks.{startsOf}
 use Rattle.blocks.specs.Index.{placed}
 use Rattle.blocks.proofs.Starts.{length-most}
 use Rattle.blocks.proofs.Sections.{Filled, section-room, filled-none, filled-next, filled-all}
-use borrow.Author.Needs.{needs}
 use Rattle.blocks.proofs.blocks.put_index.Statement.{statement}
 use Rattle.blocks.proofs.blocks.put_index.Tie as tie
 

@@ -3,13 +3,13 @@ use Prim.Native.Nat.{_+_, _-_, _/_, _≤_, _<_}
 use native.Mathlib.Nat.{le-antisymm}
 use native.Mathlib.Omega.{arith}
 use lib.ListN.{length}
+use borrow.Author.Needs.{needs}
 use Rattle.base.specs.Below.{sumBelow, joinBelow}
 use Rattle.base.proofs.Below.{sum-none, sum-more, join-none}
 use Rattle.blocks.specs.Blocks.{countIn, startsIn, startsOf}
 use Rattle.blocks.specs.Index.{placed}
 use Rattle.blocks.proofs.Starts.{total-upto, placed-block}
 use Rattle.blocks.proofs.Places.{placed-none}
-use borrow.Author.Needs.{needs}
 use Rattle.blocks.proofs.blocks.put_kind.Statement.{statement}
 use Rattle.blocks.proofs.blocks.put_kind.Tie as tie
 

@@ -3,12 +3,12 @@ use Prim.Native.Nat.{_-_, _≤_}
 use native.Mathlib.Nat.{le-antisymm}
 use native.Mathlib.Omega.{arith}
 use lib.ListN.{length, length-set}
+use borrow.Author.Needs.{needs}
 use Rattle.base.specs.Below.{listBelow}
 use Rattle.base.proofs.Below.{list-none}
 use Rattle.blocks.specs.Blocks.{startAt}
 use Rattle.blocks.specs.Index.{placed}
 use Rattle.blocks.proofs.Places.{placed-none, placed-next}
-use borrow.Author.Needs.{needs}
 use Rattle.blocks.proofs.blocks.put_starts.Statement.{statement}
 use Rattle.blocks.proofs.blocks.put_starts.Tie as tie
 

@@ -1,5 +1,5 @@
-use Rattle.blocks.specs.Index.{sectionOf}
 use borrow.Author.Tests.{ne-eqb}
+use Rattle.blocks.specs.Index.{sectionOf}
 use Rattle.blocks.proofs.blocks.section.Statement.{statement}
 use Rattle.blocks.proofs.blocks.section.Tie as tie
 

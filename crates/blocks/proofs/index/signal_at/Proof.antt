@@ -2,10 +2,10 @@ use mathlib.Core.Path.{_∙_}
 use Prim.Native.Nat.{_+_, _≤_}
 use native.Mathlib.Omega.{arith}
 use lib.ListN.{length}
+use borrow.Author.Needs.{needs}
 use Rattle.blocks.specs.Records.{modelOf, signalOf}
 use Rattle.blocks.specs.Index.{sectionOf}
 use Rattle.blocks.proofs.Lookup.{signals-length, signals-most, inside, recorded}
-use borrow.Author.Needs.{needs}
 use Rattle.blocks.proofs.index.signal_at.Statement.{statement}
 use Rattle.blocks.proofs.index.signal_at.Tie as tie
 

@@ -2,11 +2,11 @@ use mathlib.Core.Path.{refl, _∙_}
 use Prim.Native.Nat.{_+_, _≤_}
 use native.Mathlib.Omega.{arith}
 use lib.ListN.{length}
+use borrow.Author.Needs.{needs}
 use Rattle.blocks.specs.Records.{modelOf, statementOf}
 use Rattle.blocks.specs.Index.{sectionOf}
 use Rattle.blocks.proofs.Entries.{entry-place, entry-fits, entry-scaled}
 use Rattle.blocks.proofs.Lookup.{statements-length, statements-most, inside, recorded}
-use borrow.Author.Needs.{needs}
 use Rattle.blocks.proofs.index.statement_at.Statement.{statement}
 use Rattle.blocks.proofs.index.statement_at.Tie as tie
 

@@ -1,8 +1,8 @@
 use mathlib.Core.Path.{ap, refl}
-use Rattle.blocks.specs.declared.records.VariableRecord.{VariableRecord}
 use Prim.Native.Nat.{_≤_, _-_, zero-le}
 use borrow.Author.Count.{falls}
 use Rattle.base.proofs.Turns.{turn-there, turn-room, turn-fours, turn-next, turn-most}
+use Rattle.blocks.specs.declared.records.VariableRecord.{VariableRecord}
 use Rattle.blocks.specs.Records.{modelOf}
 use Rattle.cycle.specs.Arrays.{variableStart}
 use Rattle.cycle.proofs.Arrays.{Filled, filled-none, filled-more, filled-all}

@@ -1,6 +1,6 @@
 -- A driver that is there has its words, any other 0. Assumes nothing.
-use Rattle.exports.proofs.Words.{driver-some, driver-none}
 use borrow.Author.Needs.{needs}
+use Rattle.exports.proofs.Words.{driver-some, driver-none}
 use Rattle.exports.proofs.dump.driver_word.Statement.{statement}
 use Rattle.exports.proofs.dump.driver_word.Tie as tie
 

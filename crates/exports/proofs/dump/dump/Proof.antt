@@ -5,12 +5,12 @@ use Prim.Native.Nat.{_+_, _-_, _≤_}
 use native.Mathlib.Nat.{zero-add}
 use native.Mathlib.Omega.{arith}
 use lib.ListN.{length, length-set, take, drop}
+use borrow.Author.Needs.{needs}
 use Rattle.base.specs.Below.{listBelow}
 use Rattle.base.proofs.Below.{write-none, write-next}
 use Rattle.cycle.specs.View.{viewOf}
 use Rattle.exports.specs.Dump.{wordOf}
 use Rattle.exports.proofs.Words.{all-written}
-use borrow.Author.Needs.{needs}
 use Rattle.exports.proofs.dump.dump.Statement.{statement}
 use Rattle.exports.proofs.dump.dump.Tie as tie
 

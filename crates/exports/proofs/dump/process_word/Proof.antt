@@ -1,6 +1,6 @@
 -- Each test decides a line of the definition. Assumes nothing.
-use Rattle.exports.proofs.Words.{process-none, place-word, standing-word, fault-word, no-deadline, deadline-set, deadline-word}
 use borrow.Author.Needs.{needs}
+use Rattle.exports.proofs.Words.{process-none, place-word, standing-word, fault-word, no-deadline, deadline-set, deadline-word}
 use Rattle.exports.proofs.dump.process_word.Statement.{statement}
 use Rattle.exports.proofs.dump.process_word.Tie as tie
 

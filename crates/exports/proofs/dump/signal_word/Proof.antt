@@ -1,8 +1,8 @@
 -- A signal that is there has its entry of the array, any other 0. Assumes nothing.
-use Rattle.cycle.proofs.ViewLaws.{past-in}
-use Rattle.exports.proofs.Words.{past-none}
 use mathlib.Core.Path.{sym}
 use borrow.Author.Needs.{needs}
+use Rattle.cycle.proofs.ViewLaws.{past-in}
+use Rattle.exports.proofs.Words.{past-none}
 use Rattle.exports.proofs.dump.signal_word.Statement.{statement}
 use Rattle.exports.proofs.dump.signal_word.Tie as tie
 

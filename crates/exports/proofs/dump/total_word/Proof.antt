@@ -1,9 +1,9 @@
 -- The arm that was taken names the total. Assumes nothing.
-use Rattle.cycle.proofs.ViewLaws.{signals-long, variables-long, drivers-long, processes-long}
-use Rattle.exports.proofs.Words.{last-total}
 use mathlib.Core.Path.{sym, _∙_}
-use Rattle.exports.specs.Dump.{totalWord}
 use Rattle.cycle.specs.View.{viewOf}
+use Rattle.cycle.proofs.ViewLaws.{signals-long, variables-long, drivers-long, processes-long}
+use Rattle.exports.specs.Dump.{totalWord}
+use Rattle.exports.proofs.Words.{last-total}
 use Rattle.exports.proofs.dump.total_word.Statement.{statement}
 use Rattle.exports.proofs.dump.total_word.Tie as tie
 

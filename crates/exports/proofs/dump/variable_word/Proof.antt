@@ -1,8 +1,8 @@
 -- A variable that is there has its entry of the array, any other 0. Assumes nothing.
-use Rattle.cycle.proofs.ViewLaws.{variable-in}
-use Rattle.exports.proofs.Words.{variable-none}
 use mathlib.Core.Path.{sym}
 use borrow.Author.Needs.{needs}
+use Rattle.cycle.proofs.ViewLaws.{variable-in}
+use Rattle.exports.proofs.Words.{variable-none}
 use Rattle.exports.proofs.dump.variable_word.Statement.{statement}
 use Rattle.exports.proofs.dump.variable_word.Tie as tie
 

@@ -1,12 +1,12 @@
 -- Each test decides a line of the definition. Assumes nothing.
-use Rattle.exports.proofs.Words.{count-word, time-word, time-none, value-word, value-none}
-use Rattle.exports.specs.Dump.{driverWord}
 use Prim.Native.Nat.{_-_}
 use native.Mathlib.Omega.{arith}
 use lib.ListN.{getD}
 use mir.Syntax.{w32}
 use mir.Val.{Fits}
 use borrow.Author.Needs.{needs}
+use Rattle.exports.specs.Dump.{driverWord}
+use Rattle.exports.proofs.Words.{count-word, time-word, time-none, value-word, value-none}
 use Rattle.exports.proofs.dump.waveform_word.Statement.{statement}
 use Rattle.exports.proofs.dump.waveform_word.Tie as tie
 

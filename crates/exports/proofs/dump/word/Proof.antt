@@ -1,7 +1,7 @@
 -- Each section has its words. Assumes nothing.
-use Rattle.exports.proofs.Words.{in-totals, in-signals, in-variables, in-drivers, in-processes, past-all}
 use mathlib.Core.Path.{sym, _∙_}
 use borrow.Author.Needs.{needs}
+use Rattle.exports.proofs.Words.{in-totals, in-signals, in-variables, in-drivers, in-processes, past-all}
 use Rattle.exports.proofs.dump.word.Statement.{statement}
 use Rattle.exports.proofs.dump.word.Tie as tie
 

@@ -1,9 +1,9 @@
 use Prim.Native.Nat.{_≤_}
 use native.Mathlib.Omega.{arith}
+use borrow.Author.Needs.{needs}
 use Rattle.blocks.specs.Records.{modelOf}
 use Rattle.fields.specs.Fields.{endOf}
 use Rattle.expressions.proofs.Statements.{next-inside, next-first, few-statements}
-use borrow.Author.Needs.{needs}
 use Rattle.expressions.proofs.effect.next_place.Statement.{statement}
 use Rattle.expressions.proofs.effect.next_place.Tie as tie
 

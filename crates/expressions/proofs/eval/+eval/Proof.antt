@@ -3,18 +3,19 @@
 use mathlib.Core.Path.{_∙_, refl, sym}
 use native.Mathlib.Omega.{arith}
 use borrow.Author.Needs.{needs}
-use Rattle.values.specs.Operators.{andOf, orOf}
-use Rattle.rules.specs.Evaluation.{valueBy}
-use Rattle.expressions.proofs.Logical.{decides}
-use Rattle.expressions.proofs.Recursion.{call-a, call-b, type-call, variable-below, signal-below, delay-below, no-other, leaf-value, unary-value, binary-value}
 use Prim.Native.Nat.{ℕ, _<_}
 use borrow.Fn.Kinds.{In}
 use borrow.Fn.PlainCycle.{Measures, is, falls, and}
+use Rattle.values.specs.Operators.{andOf, orOf}
+use Rattle.blocks.proofs.index.node_at.Reads as node-at-reads
+use Rattle.trees.proofs.types.type_at.Reads as type-at-reads
+use Rattle.rules.specs.Evaluation.{valueBy}
+use Rattle.expressions.proofs.Logical.{decides}
+use Rattle.expressions.proofs.Recursion.{call-a, call-b, type-call, variable-below, signal-below, delay-below, no-other, leaf-value, unary-value, binary-value}
 use Rattle.expressions.proofs.eval.eval.Reads as eval
 use Rattle.expressions.proofs.eval.eval.Kinds as eval-kinds
 use Rattle.expressions.proofs.eval.+eval.Lts-eval as eval-lts
 use Rattle.expressions.proofs.eval.signal_of.Reads as signal-of-reads
-use Rattle.trees.proofs.types.type_at.Reads as type-at-reads
 use Rattle.expressions.proofs.eval.variable_of.Reads as variable-of-reads
 use Rattle.expressions.proofs.operators.and.Reads as and-reads
 use Rattle.expressions.proofs.operators.decided.Reads as decided-reads
@@ -26,7 +27,6 @@ use Rattle.expressions.proofs.operators.not.Reads as not-reads
 use Rattle.expressions.proofs.operators.or.Reads as or-reads
 use Rattle.expressions.proofs.operators.plus.Reads as plus-reads
 use Rattle.expressions.proofs.operators.xor.Reads as xor-reads
-use Rattle.blocks.proofs.index.node_at.Reads as node-at-reads
 use Rattle.expressions.proofs.eval.+eval.{statement}
 use Rattle.expressions.proofs.eval.+eval.Tie.{close}
 

@@ -2,8 +2,8 @@
 use mathlib.Core.Path.{ap, _∙_}
 use borrow.Author.Needs.{needs}
 use Rattle.rules.specs.Evaluation.{truth, lessOf}
-use Rattle.rules.proofs.Signed.{less-is}
 use Rattle.rules.specs.declared.value.Value.the-variants.{Of}
+use Rattle.rules.proofs.Signed.{less-is}
 use Rattle.expressions.proofs.operators.less.Statement.{statement}
 use Rattle.expressions.proofs.operators.less.Tie as tie
 

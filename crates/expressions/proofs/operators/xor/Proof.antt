@@ -3,9 +3,9 @@ use mathlib.Core.Path.{ap}
 use borrow.Author.Needs.{needs}
 use borrow.Author.Tests.{eq-eqb, ne-eqb}
 use lib.Dec.{eqb}
+use Rattle.base.proofs.Cases.{either}
 use Rattle.trees.specs.Trees.{boolean}
 use Rattle.rules.specs.declared.value.Value.the-variants.{Of}
-use Rattle.base.proofs.Cases.{either}
 use Rattle.expressions.proofs.operators.xor.Statement.{statement}
 use Rattle.expressions.proofs.operators.xor.Tie as tie
 

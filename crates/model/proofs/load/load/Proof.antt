@@ -1,8 +1,8 @@
 use mathlib.Core.Path.{_≡_, refl, sym, _∙_}
+use borrow.Author.Needs.{needs}
 use Rattle.base.specs.Rules.{firstFailing}
 use Rattle.blocks.specs.Totals.{blockRules}
 use Rattle.model.proofs.Rules.{blocks-refused, blocks-passed, length-holds, heads-hold, totals-hold}
-use borrow.Author.Needs.{needs}
 use Rattle.model.proofs.load.load.Statement.{statement}
 use Rattle.model.proofs.load.load.Tie as tie
 

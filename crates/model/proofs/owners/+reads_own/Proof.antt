@@ -5,17 +5,17 @@ use denote.Ref.{now}
 use borrow.Fn.Kinds.{In}
 use borrow.Fn.PlainCycle.{Measures, is, falls, and}
 use Rattle.blocks.specs.Records.{modelOf}
-use Rattle.trees.specs.Trees.{Measurable}
+use Rattle.blocks.proofs.index.node_at.Reads as node-at-reads
 use Rattle.fields.proofs.NodeFields.{node-ok, names-variable}
+use Rattle.trees.specs.Trees.{Measurable}
 use Rattle.trees.proofs.Operands.{measurable}
-use Rattle.model.proofs.Own.{recur, reads-variable, reads-none, reads-one, reads-two}
 use Rattle.trees.proofs.TreeLaws.{lower-one, lower-first, lower-second}
+use Rattle.trees.proofs.trees.operands_of.Reads as operands-of-reads
+use Rattle.model.proofs.Own.{recur, reads-variable, reads-none, reads-one, reads-two}
 use Rattle.model.proofs.owners.reads_own.Reads as reads-own
 use Rattle.model.proofs.owners.reads_own.Kinds as reads-own-kinds
 use Rattle.model.proofs.owners.+reads_own.Lts-reads_own as reads-own-lts
-use Rattle.blocks.proofs.index.node_at.Reads as node-at-reads
 use Rattle.model.proofs.owners.variable_process.Reads as variable-process-reads
-use Rattle.trees.proofs.trees.operands_of.Reads as operands-of-reads
 use Rattle.model.proofs.owners.+reads_own.{statement}
 use Rattle.model.proofs.owners.+reads_own.Tie.{close}
 

@@ -6,9 +6,9 @@ use borrow.Author.Count.{falls, below-none, below-more}
 use Rattle.base.proofs.Course.{first-found, first-none}
 use Rattle.base.proofs.Turns.{turn-next, turn-most}
 use Rattle.blocks.specs.Records.{modelOf}
+use Rattle.blocks.proofs.Lookup.{drivers-most}
 use Rattle.model.specs.Owners.{driverFor}
 use Rattle.model.proofs.Drivers.{isFor}
-use Rattle.blocks.proofs.Lookup.{drivers-most}
 use Rattle.model.proofs.owners.driver_for.Statement.{statement}
 use Rattle.model.proofs.owners.driver_for.Tie as tie
 

@@ -7,8 +7,8 @@ use Rattle.base.specs.Cases.{_∣_, _⇒_}
 use Rattle.base.proofs.Below.{sum-none}
 use Rattle.base.proofs.Turns.{turn-next, turn-most, sum-turn, sum-ended, count-fits, count-most}
 use Rattle.blocks.specs.Records.{modelOf, driverAt}
-use Rattle.model.specs.Owners.{driversOf}
 use Rattle.blocks.proofs.Lookup.{drivers-most}
+use Rattle.model.specs.Owners.{driversOf}
 use Rattle.model.proofs.owners.drivers_of.Statement.{statement}
 use Rattle.model.proofs.owners.drivers_of.Tie as tie
 

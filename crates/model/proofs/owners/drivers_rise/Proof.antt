@@ -4,8 +4,8 @@ use borrow.Author.Count.{falls}
 use Rattle.base.specs.Below.{allBelow}
 use Rattle.base.proofs.Turns.{first-below, pair-most, pair-fits, pair-ended, all-begun, all-turn}
 use Rattle.blocks.specs.Records.{modelOf, driverAt}
-use Rattle.model.specs.Owners.{pairBelow, driversRise}
 use Rattle.blocks.proofs.Lookup.{drivers-most}
+use Rattle.model.specs.Owners.{pairBelow, driversRise}
 use Rattle.model.proofs.owners.drivers_rise.Statement.{statement}
 use Rattle.model.proofs.owners.drivers_rise.Tie as tie
 

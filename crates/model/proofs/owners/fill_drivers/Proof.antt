@@ -6,14 +6,14 @@ use native.Mathlib.Nat.{le-antisymm}
 use borrow.Author.Count.{falls, below-none}
 use denote.Ref.{now}
 use lib.ListN.{length, length-set}
-use Rattle.blocks.specs.Index.{assignmentsAt}
 use Rattle.base.proofs.Turns.{turn-next, turn-most}
+use Rattle.blocks.specs.Index.{assignmentsAt}
 use Rattle.blocks.specs.Records.{modelOf}
-use Rattle.trees.specs.Types.{TypesIn}
-use Rattle.model.specs.Index.{DriversBelow}
 use Rattle.blocks.proofs.Lookup.{nodes-most, statements-most}
 use Rattle.blocks.proofs.Entries.{entry-place, entry-fits, entry-scaled, value-fits, past, starts-set}
+use Rattle.trees.specs.Types.{TypesIn}
 use Rattle.trees.proofs.TypeEntries.{types-before, types-kept}
+use Rattle.model.specs.Index.{DriversBelow}
 use Rattle.model.proofs.Entries.{drivers-next}
 use Rattle.model.proofs.owners.fill_drivers.Statement.{statement}
 use Rattle.model.proofs.owners.fill_drivers.Tie as tie

@@ -4,8 +4,8 @@ use borrow.Author.Count.{falls}
 use Rattle.base.specs.Below.{allBelow}
 use Rattle.base.proofs.Turns.{turn-next, turn-most, all-begun, all-turn, all-ended}
 use Rattle.blocks.specs.Records.{modelOf}
-use Rattle.model.specs.Owners.{singleOk}
 use Rattle.blocks.proofs.Lookup.{signals-most}
+use Rattle.model.specs.Owners.{singleOk}
 use Rattle.model.proofs.owners.singles_ok.Statement.{statement}
 use Rattle.model.proofs.owners.singles_ok.Tie as tie
 

@@ -5,10 +5,10 @@ use Prim.Native.Nat.{ℕ, _<_}
 use denote.Ref.{now}
 use lib.ListN.{length}
 use Rattle.blocks.specs.Records.{modelOf}
-use Rattle.fields.specs.Fields.{fieldsOk, statementOk}
-use Rattle.trees.specs.Trees.{treesOk}
 use Rattle.blocks.specs.Index.{Starts}
+use Rattle.fields.specs.Fields.{fieldsOk, statementOk}
 use Rattle.fields.proofs.StatementFields.{statement-ok, names-variable, value-at, delay-node, wait-condition, wait-delay}
+use Rattle.trees.specs.Trees.{treesOk}
 use Rattle.model.proofs.RuleForms.{variable-owned, signal-owned, branch-owned, wait-owned, other-owned}
 use Rattle.model.proofs.owners.statement_owned.Statement.{statement}
 use Rattle.model.proofs.owners.statement_owned.Tie as tie

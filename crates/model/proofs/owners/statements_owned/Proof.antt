@@ -4,9 +4,9 @@ use borrow.Author.Count.{falls}
 use Rattle.base.specs.Below.{allBelow}
 use Rattle.base.proofs.Turns.{turn-next, turn-most, all-begun, all-turn, all-ended}
 use Rattle.blocks.specs.Records.{modelOf, statementAt}
+use Rattle.blocks.proofs.Lookup.{statements-most}
 use Rattle.fields.specs.Fields.{ownerOf}
 use Rattle.model.specs.Owners.{statementOwned}
-use Rattle.blocks.proofs.Lookup.{statements-most}
 use Rattle.model.proofs.owners.statements_owned.Statement.{statement}
 use Rattle.model.proofs.owners.statements_owned.Tie as tie
 

@@ -7,9 +7,9 @@ use denote.Ref.{now}
 use lib.ListN.{length}
 use mir.Syntax.{w64}
 use mir.Val.{Fits}
+use Rattle.base.proofs.Turns.{turn-there, turn-room, turn-fours, turn-eights, turn-next, turn-most}
 use Rattle.blocks.specs.Records.{modelOf}
 use Rattle.expressions.specs.Reading.{arrays}
-use Rattle.base.proofs.Turns.{turn-there, turn-room, turn-fours, turn-eights, turn-next, turn-most}
 use Rattle.steps.proofs.DeltaProcesses.{Waking, waking-none, waking-valid, waking-more, waking-same, waking-all}
 use Rattle.steps.proofs.delta.wake.Statement.{statement}
 use Rattle.steps.proofs.delta.wake.Tie as tie

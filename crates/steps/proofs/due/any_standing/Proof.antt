@@ -3,9 +3,9 @@ use mathlib.Core.Path.{_≡_, sym}
 use mathlib.Core.Bool.{false}
 use Prim.Native.Nat.{_≤_, _-_}
 use borrow.Author.Tests.{eq-eqb, ne-eqb}
-use Rattle.steps.specs.Due.{someIs}
-use Rattle.base.proofs.Below.{any-start, any-more, any-done, any-found}
 use borrow.Author.Needs.{needs}
+use Rattle.base.proofs.Below.{any-start, any-more, any-done, any-found}
+use Rattle.steps.specs.Due.{someIs}
 use Rattle.steps.proofs.due.any_standing.Statement.{statement}
 use Rattle.steps.proofs.due.any_standing.Tie as tie
 

@@ -1,10 +1,10 @@
 -- `earliest`: the loop has the least of the times passed; one that is `time` is the least of all. Assumes nothing.
 use mathlib.Core.Path.{_≡_}
 use Prim.Native.Nat.{_≤_, _-_}
-use Rattle.steps.specs.Due.{soonestOf}
-use Rattle.waveforms.specs.Pending.{never}
-use Rattle.rules.proofs.Earliest.{least-start, least-next, least-found, least-done}
 use borrow.Author.Needs.{needs}
+use Rattle.rules.proofs.Earliest.{least-start, least-next, least-found, least-done}
+use Rattle.waveforms.specs.Pending.{never}
+use Rattle.steps.specs.Due.{soonestOf}
 use Rattle.steps.proofs.due.earliest.Statement.{statement}
 use Rattle.steps.proofs.due.earliest.Tie as tie
 

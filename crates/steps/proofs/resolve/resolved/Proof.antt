@@ -1,7 +1,7 @@
 use mathlib.Core.Path.{ap}
-use Rattle.blocks.specs.declared.records.DriverRecord.{DriverRecord}
 use borrow.Author.Needs.{needs}
 use Prim.Native.Nat.{_≤_, _-_}
+use Rattle.blocks.specs.declared.records.DriverRecord.{DriverRecord}
 use Rattle.blocks.specs.Records.{modelOf}
 use Rattle.steps.proofs.Resolving.{Resolving, resolving-none, resolving-more, resolving-all}
 use Rattle.steps.proofs.resolve.resolved.Statement.{statement}

@@ -1,12 +1,12 @@
 use native.Mathlib.Omega.{arith}
-use Rattle.trees.proofs.TreeLaws.{recur, lower-one, lower-first, lower-second, size-most, size-none, size-one, size-two}
 use Prim.Native.Nat.{ℕ, _<_}
 use borrow.Fn.Kinds.{In}
 use borrow.Fn.PlainCycle.{Measures, is, falls, and}
+use Rattle.blocks.proofs.index.node_at.Reads as node-at-reads
+use Rattle.trees.proofs.TreeLaws.{recur, lower-one, lower-first, lower-second, size-most, size-none, size-one, size-two}
 use Rattle.trees.proofs.trees.tree_size.Reads as tree-size
 use Rattle.trees.proofs.trees.tree_size.Kinds as tree-size-kinds
 use Rattle.trees.proofs.trees.+tree_size.Lts-tree_size as tree-size-lts
-use Rattle.blocks.proofs.index.node_at.Reads as node-at-reads
 use Rattle.trees.proofs.trees.operands_of.Reads as operands-of-reads
 use Rattle.trees.proofs.trees.+tree_size.{statement}
 use Rattle.trees.proofs.trees.+tree_size.Tie.{close}

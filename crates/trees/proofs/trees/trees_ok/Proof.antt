@@ -8,8 +8,8 @@ use Rattle.base.specs.Below.{allBelow}
 use Rattle.base.proofs.Below.{all-none, all-at, all-more, all-fails}
 use Rattle.base.proofs.Turns.{turn-next, turn-most}
 use Rattle.blocks.specs.Records.{modelOf}
-use Rattle.trees.specs.Trees.{treeOk, treesOk}
 use Rattle.blocks.proofs.Lookup.{nodes-most}
+use Rattle.trees.specs.Trees.{treeOk, treesOk}
 use Rattle.trees.proofs.trees.trees_ok.Statement.{statement}
 use Rattle.trees.proofs.trees.trees_ok.Tie as tie
 

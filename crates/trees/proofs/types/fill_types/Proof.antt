@@ -7,14 +7,14 @@ use borrow.Author.Count.{falls, below-none}
 use denote.Ref.{now}
 use lib.Dec.{leb}
 use lib.ListN.{length, length-set}
-use Rattle.blocks.specs.Index.{typesAt, indexSize, Starts}
 use Rattle.base.specs.Below.{allBelow}
 use Rattle.base.proofs.Turns.{turn-next, turn-most, all-begun, all-turn}
+use Rattle.blocks.specs.Index.{typesAt, indexSize, Starts}
 use Rattle.blocks.specs.Records.{modelOf}
-use Rattle.trees.specs.Trees.{typeOf}
-use Rattle.trees.specs.Types.{TypesBelow}
 use Rattle.blocks.proofs.Lookup.{nodes-most}
 use Rattle.blocks.proofs.Entries.{entry-place, entry-fits, entry-scaled, value-fits, past, starts-set}
+use Rattle.trees.specs.Trees.{typeOf}
+use Rattle.trees.specs.Types.{TypesBelow}
 use Rattle.trees.proofs.TypeEntries.{types-next}
 use Rattle.trees.proofs.types.fill_types.Statement.{statement}
 use Rattle.trees.proofs.types.fill_types.Tie as tie

@@ -4,8 +4,8 @@ use mathlib.Core.Path.{_≡_}
 use native.Mathlib.Nat.{le-of-lt, lt-of-lt-of-le}
 use denote.Ref.{now}
 use Rattle.blocks.specs.Records.{modelOf}
-use Rattle.fields.specs.Fields.{nodeOk}
 use Rattle.blocks.proofs.Lookup.{nodes-most}
+use Rattle.fields.specs.Fields.{nodeOk}
 use Rattle.fields.proofs.NodeFields.{node-ok}
 use Rattle.trees.proofs.NodeTypes.{type-read, type-small}
 use Rattle.trees.proofs.types.next_type.Statement.{statement}

@@ -4,8 +4,8 @@ use borrow.Author.Count.{falls}
 use Rattle.base.specs.Below.{allBelow}
 use Rattle.base.proofs.Turns.{turn-next, turn-most, all-begun, all-turn, all-ended}
 use Rattle.blocks.specs.Records.{modelOf, statementAt}
-use Rattle.trees.specs.Trees.{statementTyped}
 use Rattle.blocks.proofs.Lookup.{statements-most}
+use Rattle.trees.specs.Trees.{statementTyped}
 use Rattle.trees.proofs.types.statements_typed.Statement.{statement}
 use Rattle.trees.proofs.types.statements_typed.Tie as tie
 

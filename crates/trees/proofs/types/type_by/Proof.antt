@@ -4,12 +4,12 @@ use mathlib.Core.Bool.{Bool, true, false, _&&_}
 use mathlib.Core.Logic.{⊎-elim}
 use Prim.Native.Nat.{ℕ, _≤_}
 use native.Mathlib.Omega.{arith}
-use Rattle.base.proofs.Below.{among}
 use denote.Ref.{now}
+use Rattle.base.proofs.Below.{among}
 use Rattle.blocks.specs.Records.{modelOf}
-use Rattle.trees.specs.Trees.{typeBy}
 use Rattle.fields.proofs.FieldLaws.{at-least-seven}
 use Rattle.fields.proofs.NodeFields.{kind-least, kind-most, names-variable, signal-at}
+use Rattle.trees.specs.Trees.{typeBy}
 use Rattle.trees.proofs.types.type_by.Statement.{statement}
 use Rattle.trees.proofs.types.type_by.Tie as tie
 

@@ -1,5 +1,5 @@
-use Rattle.waveforms.proofs.Drivers.{shifted}
 use borrow.Author.Needs.{needs}
+use Rattle.waveforms.proofs.Drivers.{shifted}
 use Rattle.waveforms.proofs.driver.drop_first.Statement.{statement}
 use Rattle.waveforms.proofs.driver.drop_first.Tie as tie
 

@@ -7,12 +7,12 @@ use denote.Ref.{now}
 use borrow.Author.Needs.{needs}
 use Rattle.blocks.specs.Records.{Model, modelOf}
 use Rattle.model.specs.Facts.{Facts}
+use Rattle.rules.proofs.Lists.{length-mapped}
 use Rattle.cycle.specs.View.{Valid}
 use Rattle.cycle.specs.declared.config.Config.{Config}
 use Rattle.cycle.proofs.Advances.{few-signals, few-drivers, few-processes, advance-refused, DeltaDue, delta-due-now, TimeDue, time-due-later}
 use Rattle.cycle.proofs.DeltaDrivers.{slotOf, some-pending, slot-taken, slot-kept, Taking, taking-none, taking-more, taking-same, time-most, next-timed, next-few, deltas-kept}
 use Rattle.cycle.proofs.DeltaView.{delta-answers, processes-kept}
-use Rattle.rules.proofs.Lists.{length-mapped}
 use Rattle.cycle.proofs.Soonest.{no-first-before, no-deadline-before}
 use Rattle.cycle.proofs.TimeView.{Elapsing, elapsing-none, elapsing-more, next-ahead, each-ahead, time-stepped}
 use Rattle.cycle.proofs.ViewLaws.{ndrivers-is, nprocesses-is}

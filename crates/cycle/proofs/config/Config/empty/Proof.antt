@@ -1,6 +1,6 @@
 use mathlib.Core.Path.{refl}
-use Rattle.cycle.proofs.First.{view-empty}
 use borrow.Author.Needs.{needs}
+use Rattle.cycle.proofs.First.{view-empty}
 use Rattle.cycle.proofs.config.Config.empty.Statement.{statement}
 use Rattle.cycle.proofs.config.Config.empty.Tie as tie
 

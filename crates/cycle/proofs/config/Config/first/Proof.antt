@@ -1,6 +1,6 @@
 use mathlib.Core.Path.{refl}
-use Rattle.cycle.proofs.First.{begins-first}
 use borrow.Author.Needs.{needs}
+use Rattle.cycle.proofs.First.{begins-first}
 use Rattle.cycle.proofs.config.Config.first.Statement.{statement}
 use Rattle.cycle.proofs.config.Config.first.Tie as tie
 

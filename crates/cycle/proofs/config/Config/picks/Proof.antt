@@ -7,10 +7,10 @@ use lib.ListN.{length, getD}
 use borrow.Author.Needs.{needs}
 use Rattle.blocks.specs.Records.{modelOf}
 use Rattle.fields.specs.Facts.{Spans}
+use Rattle.rules.proofs.Lists.{length-mapped}
 use Rattle.expressions.specs.Reading.{Runs}
 use Rattle.cycle.specs.declared.config.Config.{Config}
 use Rattle.cycle.specs.declared.picks.Turns.{Turns}
-use Rattle.rules.proofs.Lists.{length-mapped}
 use Rattle.cycle.proofs.Changes.{Sized}
 use Rattle.cycle.proofs.OrderLaws.{turns-within, picks-answer}
 use Rattle.cycle.proofs.Turning.{Turning, Turn, Stepped, statement-there, is-ready, turning-next, goes-on, turning-none, turning-past, turning-end, early, in-16, process-in-model, place-spans, in-variables, wait-small, skip-turn, store-turn, jump-turn, wait-turn, wait-for-turn, stop-turn, in-drivers, waveform, full-turn, schedule-turn}

@@ -1,6 +1,6 @@
 use mathlib.Core.Path.{refl}
-use Rattle.cycle.proofs.OrderLaws.{read-none, read-some}
 use borrow.Author.Needs.{needs}
+use Rattle.cycle.proofs.OrderLaws.{read-none, read-some}
 use Rattle.cycle.proofs.config.Config.read.Statement.{statement}
 use Rattle.cycle.proofs.config.Config.read.Tie as tie
 

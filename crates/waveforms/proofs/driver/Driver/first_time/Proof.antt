@@ -1,9 +1,9 @@
-use Rattle.waveforms.proofs.Drivers.{first-none, first-some}
 use borrow.Author.Needs.{needs}
 use native.Mathlib.Omega.{arith}
 use lib.ListN.{getD}
 use mir.Syntax.{w32}
 use mir.Val.{Fits}
+use Rattle.waveforms.proofs.Drivers.{first-none, first-some}
 use Rattle.waveforms.proofs.driver.Driver.first_time.Statement.{statement}
 use Rattle.waveforms.proofs.driver.Driver.first_time.Tie as tie
 

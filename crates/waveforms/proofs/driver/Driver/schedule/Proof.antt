@@ -1,5 +1,5 @@
-use Rattle.waveforms.proofs.Drivers.{scheduled-in, scheduled-ninth}
 use borrow.Author.Needs.{needs}
+use Rattle.waveforms.proofs.Drivers.{scheduled-in, scheduled-ninth}
 use Rattle.waveforms.proofs.driver.Driver.schedule.Statement.{statement}
 use Rattle.waveforms.proofs.driver.Driver.schedule.Tie as tie
 

@@ -1,5 +1,5 @@
-use Rattle.waveforms.proofs.Drivers.{shifted-pending}
 use borrow.Author.Needs.{needs}
+use Rattle.waveforms.proofs.Drivers.{shifted-pending}
 use Rattle.waveforms.proofs.driver.Driver.without_first.Statement.{statement}
 use Rattle.waveforms.proofs.driver.Driver.without_first.Tie as tie
 
