@@ -22,9 +22,8 @@ use Rattle.blocks.specs.Totals.{blockRules}
 use Rattle.blocks.proofs.Starts.{length-most}
 use Rattle.model.specs.Rules.{rulesOf, refusalOf}
 use Rattle.rules.specs.Configuration.{first}
-use Rattle.session.specs.declared.Ended.{Ended}
 use Rattle.session.specs.Lists.{ordersOf, played}
-use Rattle.session.specs.Sessions.{ordersOk, bufferOk, numberOf, bytesOf, sessionOf, SessionIs}
+use Rattle.session.specs.Sessions.{ordersOk, bufferOk, numberOf, bytesOf, sessionOf}
 use Rattle.session.proofs.SessionLaws.{nine, orders-few, model-refused, model-accepted}
 use Rattle.text.specs.Text.{lineMost, lineOf, numberLineOf, linesOf, answersIn, sessionText, textOf, modelRoom, ordersRoom, textRoom, RoomsSuffice, AnswerRoom, Written}
 
@@ -137,14 +136,14 @@ module _ (m o : List ℕ) where
     text-is = by-number b ∙ rw number-is (sym (by-number _))
 
     -- what the program writes: the number of a refused session, or the lines of the answers in the buffer
-    module _ {new : List ℕ} {r : Ended} (s : SessionIs m o b new r) where
-      pub refused-writes : (r .number ≡ 0 → ⊥) → numberLineOf (r .number) ≡ textOf m o
+    module _ {n : ℕ} (e : n ≡ sessionOf m o b .number) where
+      pub refused-writes : (n ≡ 0 → ⊥) → numberLineOf n ≡ textOf m o
       unfolding sessionText
-      refused-writes h = rw (← text-is, ← s .number, ne-eqb _ _ h)
+      refused-writes h = rw (← text-is, ← e, ne-eqb _ _ h)
 
-      pub played-writes : r .number ≡ 0 → linesOf (answersIn new) ≡ textOf m o
+      pub played-writes : {new : List ℕ} → new ≡ sessionOf m o b .buffer → n ≡ 0 → linesOf (answersIn new) ≡ textOf m o
       unfolding sessionText
-      played-writes h = rw (← text-is, ← s .number, ← s .buffer, eq-eqb _ _ h)
+      played-writes f h = rw (← text-is, ← e, ← f, eq-eqb _ _ h)
 
 -- a file that is longer than its room
 model-room : (m o : List ℕ) → textOf (take modelRoom m) o ≡ textOf m o

@@ -2,6 +2,7 @@
 ghost use mathlib.Core.Path.{_≡_};
 ghost use Prim.Native.Nat.{_+_, _*_, _/_, _≤_, _<_};
 ghost use lib.ListN.{length, take, replicate};
+ghost use Rattle.session.specs.Sessions.{sessionOf};
 ghost use Rattle.text.specs.Text.{decimalOf, signedOf, space, ended, timeIn, lineOf, numberLineOf, answersIn, linesOf, textOf, lineMost, modelRoom, ordersRoom, textRoom, RoomsSuffice, AnswerRoom, Prints, Written};
 use base::byte;
 use base::long;
@@ -94,6 +95,15 @@ fn put_refusal(number: usize, out: &mut [u8]) -> usize
     put_number(number as u64, 10, out, 0)
 }
 
+// Plays the session, and answers its number.
+fn played(model: &[u8], orders: &[u8], answers: &mut [u8]) -> usize
+    ensures { λ r. ⌜ r ≡ sessionOf (now (model .entry)) (now (orders .entry)) (now (answers .entry)) .number ⌝ }
+    ensures { λ r. ⌜ now (answers .exit) ≡ sessionOf (now (model .entry)) (now (orders .entry)) (now (answers .entry)) .buffer ⌝ }
+{
+    let ended = session(model, orders, answers);
+    ended.number
+}
+
 // Plays the session, and writes its text: the line of each answer, or the number of a refused session.
 fn put_text(model: &[u8], orders: &[u8], answers: &mut [u8], out: &mut [u8]) -> usize
     requires { ⌜ AnswerRoom (now orders) (length (now answers)) ⌝ }
@@ -101,8 +111,7 @@ fn put_text(model: &[u8], orders: &[u8], answers: &mut [u8], out: &mut [u8]) -> 
     ensures { λ r. ⌜ r ≤ length (now (out .exit)) ⌝ }
     ensures { λ r. ⌜ take r (now (out .exit)) ≡ textOf (now (model .entry)) (now (orders .entry)) ⌝ }
 {
-    let ended = session(model, orders, answers);
-    let number = ended.number;
+    let number = played(model, orders, answers);
     if number != 0 {
         return put_refusal(number, out);
     }
