@@ -243,10 +243,14 @@ fn piecemeal(program: Program, found: &mut Findings) -> Result<(), String> {
                 .args(["10", "sh", "-c", script, name])
                 .current_dir(&folder.0)
                 .spawn();
-            writers.push(writer.map_err(|e| format!("sh: {e}"))?);
+            let mut writer = writer.map_err(|e| format!("sh: {e}"))?;
             while !folder.0.join(name).exists() {
+                if writer.try_wait().map_err(|e| format!("sh: {e}"))?.is_some() {
+                    return Err(format!("no pipe `{name}` could be made"));
+                }
                 std::thread::yield_now();
             }
+            writers.push(writer);
         }
         let output = folder.run(program, Stdio::piped())?;
         let expected = session::print(&case.model, &case.orders);
