@@ -16,7 +16,7 @@ use Rattle.blocks.specs.Records.{Model}
 use Rattle.rules.specs.Statements.{stepped}
 use Rattle.rules.specs.Orders.{Outcome, Settled, refused, isReady, picked, lowestReady, settledFrom, settled, readOf}
 use Rattle.rules.proofs.Settling.{turnedFrom, turned-settled, turned-none, turned-ready, turned-waiting}
-use Rattle.cycle.specs.View.{viewOf, Valid, outcomeOf, Answers, ReadTo, picksOf}
+use Rattle.cycle.specs.View.{viewOf, Valid, outcomeOf, Answers, ReadTo, pickedBy}
 use Rattle.cycle.specs.Turns.{turnsOf, replyOf}
 use Rattle.cycle.specs.declared.config.Config.{Config}
 use Rattle.cycle.specs.declared.orders.Answer.{Answer}
@@ -112,12 +112,12 @@ module _ {M : Model} {which : Picks} {c₀ : Config} {n : ℕ} {c : Config} (d :
         ⊎-elim (λ (h : p < c₀ .nprocesses). either-way (isReady p (viewOf c₀)) (pick-made h) (pick-waiting h)) (λ (h : c₀ .nprocesses ≤ p). pick-none h) (split p (c₀ .nprocesses))
 
 -- what the loop left is what the order asks for
-picks-done : {M : Model} (which : Picks) {c₀ : Config} {n : ℕ} {c : Config} (d : Made M which c₀ n c) → told d ≡ picksOf M which (viewOf c₀)
+picks-done : {M : Model} (which : Picks) {c₀ : Config} {n : ℕ} {c : Config} (d : Made M which c₀ n c) → told d ≡ pickedBy M which (viewOf c₀)
 picks-done (One p) d = pick-done d p refl
 picks-done (Settle k) d = settle-done d k refl
 
 pub picks-answer : {M : Model} (which : Picks) {c₀ : Config} {n : ℕ} {c : Config} → Made M which c₀ n c → (a : Answer) → a ≡ replyOf which (c .standings) (c .faults) (c₀ .nprocesses) n
-    → Answers M (record { answer = a; config = c }) (picksOf M which (viewOf c₀))
+    → Answers M (record { answer = a; config = c }) (pickedBy M which (viewOf c₀))
 picks-answer which d a e = record { is = rw e (picks-done which d); valid = d .valid }
 
 -- the loop stays within the processes

@@ -6,7 +6,7 @@ use lib.ListN.{getD}
 use Rattle.base.specs.Cases.{_∣_, _⇒_}
 use Rattle.rules.specs.Configuration.{ready}
 use Rattle.steps.specs.Due.{someIs}
-use Rattle.cycle.specs.View.{refusalOf}
+use Rattle.cycle.specs.View.{refusedAnswer}
 use Rattle.cycle.specs.declared.orders.Answer.{Answer}
 use Rattle.cycle.specs.declared.picks.Turns.{Turns}
 use Rattle.cycle.specs.declared.picks.Picks.{Picks}
@@ -21,8 +21,8 @@ turnsOf (Settle n) nprocesses = record { first = 0; end = nprocesses; count = n 
 -- the answer once n picks are made
 abbrev pub replyOf : Picks → List ℕ → List ℕ → ℕ → ℕ → Answer
 replyOf (One p) standings faults nprocesses n =
-    leb nprocesses p ⇒ refusalOf 12
-    ∣ eqb n 0 ⇒ refusalOf 13
+    leb nprocesses p ⇒ refusedAnswer 12
+    ∣ eqb n 0 ⇒ refusedAnswer 13
     ∣ record { refusal = 0; byte = getD standings p 0; picks = n; value = getD faults p 0 }
 replyOf (Settle k) standings faults nprocesses n =
     record { refusal = 0; byte = someIs standings nprocesses ready ⇒ 1 ∣ 0; picks = n; value = 0 }

@@ -51,8 +51,8 @@ pub record StepsTo (M : Model) (p : ℕ) (c r : Config) : Type 0 where
   pub valid : Valid M r
 
 -- the answer to a refused order
-abbrev pub refusalOf : ℕ → Answer
-refusalOf n = record { refusal = n; byte = 0; picks = 0; value = 0 }
+abbrev pub refusedAnswer : ℕ → Answer
+refusedAnswer n = record { refusal = n; byte = 0; picks = 0; value = 0 }
 
 unfoldable pub outcomeOf : Answered → Outcome
 outcomeOf r =
@@ -77,7 +77,7 @@ Keeps c r = (M : Model) → Valid M c → Valid M (r .config)
 abbrev pub ReadTo : ℕ → Config → Answered → Type 0
 ReadTo s c r = (M : Model) → length (M .signals) ≡ c .nsignals → outcomeOf r ≡ readOf M s (viewOf c)
 
--- the picks that an order asks for
-abbrev pub picksOf : Model → Picks → Configuration → Outcome
-picksOf M (One p) c = picked M p c
-picksOf M (Settle n) c = settled M n c
+-- the outcome of the picks that an order asks for
+abbrev pub pickedBy : Model → Picks → Configuration → Outcome
+pickedBy M (One p) c = picked M p c
+pickedBy M (Settle n) c = settled M n c

@@ -4,7 +4,7 @@ ghost use Prim.Native.Nat.{_≤_};
 ghost use Rattle.blocks.specs.Records.{modelOf};
 ghost use Rattle.rules.specs.Orders.{refused, picked, settled};
 ghost use Rattle.expressions.specs.Reading.{Runs};
-ghost use Rattle.cycle.specs.View.{viewOf, Valid, Answers, outcomeOf, refusalOf, ReadTo, Keeps};
+ghost use Rattle.cycle.specs.View.{viewOf, Valid, Answers, outcomeOf, refusedAnswer, ReadTo, Keeps};
 use crate::config::Config;
 use crate::picks::Picks;
 use blocks::index::Index;
@@ -26,7 +26,7 @@ pub struct Answered {
 impl Answer {
     // "1 to 7 [..] when refused, are zero"
     pub fn refused(n: usize) -> Answer
-        ensures { λ r. ⌜ r ≡ refusalOf n ⌝ }
+        ensures { λ r. ⌜ r ≡ refusedAnswer n ⌝ }
     {
         Answer {
             refusal: n,

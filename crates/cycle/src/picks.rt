@@ -3,7 +3,7 @@ ghost use mathlib.Core.Path.{_≡_};
 ghost use Prim.Native.Nat.{_≤_};
 ghost use Rattle.base.specs.Cases.{_∣_, _⇒_};
 ghost use Rattle.blocks.specs.Records.{modelOf};
-ghost use Rattle.cycle.specs.View.{viewOf, Valid, Answers, picksOf};
+ghost use Rattle.cycle.specs.View.{viewOf, Valid, Answers, pickedBy};
 ghost use Rattle.expressions.specs.Reading.{Runs};
 use crate::config::Config;
 use crate::orders::Answer;
@@ -107,7 +107,7 @@ impl Config {
     pub fn picks<'a>(mut self, m: &'a [u8], index: &'a Index, which: Picks) -> Answered
         requires { ⌜ Runs (now m) (now index) ⌝ }
         requires { ⌜ Valid (modelOf (now m)) self ⌝ }
-        ensures { λ r. ⌜ Answers (modelOf (now (m .entry))) r (picksOf (modelOf (now (m .entry))) which (viewOf self)) ⌝ }
+        ensures { λ r. ⌜ Answers (modelOf (now (m .entry))) r (pickedBy (modelOf (now (m .entry))) which (viewOf self)) ⌝ }
     {
         let now = self.time;
         let nprocesses = self.nprocesses;

@@ -20,7 +20,7 @@ use Rattle.base.proofs.Below.{list-length, list-at}
 use Rattle.blocks.specs.Records.{Model}
 use Rattle.rules.specs.Configuration.{Configuration}
 use Rattle.rules.specs.Orders.{refused, picked, advanced, settled, readOf}
-use Rattle.cycle.specs.View.{Valid, Answers, Keeps, ReadTo, viewOf, outcomeOf, picksOf, refusalOf}
+use Rattle.cycle.specs.View.{Valid, Answers, Keeps, ReadTo, viewOf, outcomeOf, pickedBy, refusedAnswer}
 use Rattle.cycle.specs.declared.config.Config.{Config}
 use Rattle.cycle.specs.declared.orders.Answer.{Answer}
 use Rattle.cycle.specs.declared.orders.Answered.{Answered}
@@ -108,7 +108,7 @@ module _ {M : Model} {os : List ℕ} {c₀ : Configuration} {i : ℕ} {at : Conf
     settle-order is = rw (← (t .known), k, is)
 
     picks-order : (w : Picks) → w ≡ (eqb kind 1 ⇒ One argument ∣ Settle count) → (kind ≡ 1) ⊎ (kind ≡ 3)
-        → performed M (order kind argument count) (viewOf at) ≡ picksOf M w (viewOf at)
+        → performed M (order kind argument count) (viewOf at) ≡ pickedBy M w (viewOf at)
     picks-order w e = ⊎-elim (λ (is : kind ≡ 1). pick-order is ∙ rw (e, is)) (λ (is : kind ≡ 3). settle-order is ∙ rw (e, is))
 
     advance-order : kind ≡ 2 → performed M (order kind argument count) (viewOf at) ≡ advanced M (viewOf at)
@@ -123,11 +123,11 @@ module _ {M : Model} {os : List ℕ} {c₀ : Configuration} {i : ℕ} {at : Conf
   abbrev Gives : Answer → Config → Type 0
   Gives answer end = Answers M (record { answer = answer; config = end }) (performed M (order kind argument count) (viewOf at))
 
-  pub refused-gives : b ≡ false → (a : Answer) → a ≡ refusalOf 11 → Gives a at
+  pub refused-gives : b ≡ false → (a : Answer) → a ≡ refusedAnswer 11 → Gives a at
   refused-gives k a e = rw (refused-order k) (record { is = rw e (refused-is at 11); valid = t .playing .valid })
 
   module _ (k : b ≡ true) where
-    pub picks-give : (w : Picks) → w ≡ (eqb kind 1 ⇒ One argument ∣ Settle count) → (kind ≡ 1) ⊎ (kind ≡ 3) → (r : Answered) → Answers M r (picksOf M w (viewOf at)) → Gives (r .answer) (r .config)
+    pub picks-give : (w : Picks) → w ≡ (eqb kind 1 ⇒ One argument ∣ Settle count) → (kind ≡ 1) ⊎ (kind ≡ 3) → (r : Answered) → Answers M r (pickedBy M w (viewOf at)) → Gives (r .answer) (r .config)
     picks-give w e is r a = rw (picks-order k w e is) a
 
     pub advance-gives : kind ≡ 2 → (r : Answered) → Answers M r (advanced M (viewOf at)) → Gives (r .answer) (r .config)
