@@ -22,9 +22,9 @@ module _ (l : ℕ) (e : l ≡ 12) where
   up-to i t = rw e (lit≤ t)
 
 module _ (r : List ℕ) where
-  pub signal-is : {ty start : ℕ} {x y : Bool} → ByteIs r 0 ty → LongIs r 4 start → x ≡ zerosAt r 1 3 → y ≡ zerosAt r 8 4 → _≡_ {A = SignalRecord} (record { ty = ty; start = start; zeros = x && y }) (signalOf r)
+  pub signal-is : {ty kind start : ℕ} {x y : Bool} → ByteIs r 0 ty → ByteIs r 1 kind → LongIs r 4 start → x ≡ zerosAt r 2 2 → y ≡ zerosAt r 8 4 → _≡_ {A = SignalRecord} (record { ty = ty; kind = kind; start = start; zeros = x && y }) (signalOf r)
   unfolding signalOf
-  signal-is a b p q = rw (a .value, b .value, p, q)
+  signal-is a b d p q = rw (a .value, b .value, d .value, p, q)
 
   pub variable-is : {ty process start : ℕ} {x y : Bool} → ByteIs r 0 ty → ByteIs r 1 process → LongIs r 4 start → x ≡ zerosAt r 2 2 → y ≡ zerosAt r 8 4 → _≡_ {A = VariableRecord} (record { ty = ty; process = process; start = start; zeros = x && y }) (variableOf r)
   unfolding variableOf

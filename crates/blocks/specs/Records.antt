@@ -1,5 +1,5 @@
 -- The six kinds of records of 12 bytes, and the model that the blocks hold.
--- 1. Signal: byte 0 type (0 integer, 1 logic); 4-7 signed starting value.
+-- 1. Signal: byte 0 type (0 integer, 1 logic); byte 1 its kind ("0 plain, 1 bus, 2 register"); 4-7 signed starting value.
 -- 2. Variable: type (2 boolean, 0 or 1, allowed too); byte 1 its process; 4-7 starting value.
 -- 3. Process: 0-1 first statement; 2-3 how many.
 -- 4. Driver: byte 0 process, byte 1 signal.
@@ -25,8 +25,18 @@ use Rattle.blocks.specs.declared.records.StatementRecord.{StatementRecor
 unfoldable pub zerosAt : List ℕ → ℕ → ℕ → Bool
 zerosAt r i n = allBelow (λ j. eqb (byteAt r (i + j)) 0) n
 
+-- kinds of a signal
+abbrev pub plain : ℕ
+plain = 0
+
+abbrev pub bus : ℕ
+bus = 1
+
+abbrev pub register : ℕ
+register = 2
+
 unfoldable pub signalOf : List ℕ → SignalRecord
-signalOf r = record { ty = byteAt r 0; start = longAt r 4; zeros = zerosAt r 1 3 && zerosAt r 8 4 }
+signalOf r = record { ty = byteAt r 0; kind = byteAt r 1; start = longAt r 4; zeros = zerosAt r 2 2 && zerosAt r 8 4 }
 
 unfoldable pub variableOf : List ℕ → VariableRecord
 variableOf r = record { ty = byteAt r 0; process = byteAt r 1; start = longAt r 4; zeros = zerosAt r 2 2 && zerosAt r 8 4 }
@@ -70,7 +80,7 @@ modelOf m =
 
 -- record n of each kind, and what stands for one that is not there
 abbrev pub signalAt : Model → ℕ → SignalRecord
-signalAt M n = getD (M .signals) n (record { ty = 0; start = 0; zeros = false })
+signalAt M n = getD (M .signals) n (record { ty = 0; kind = 0; start = 0; zeros = false })
 
 abbrev pub variableAt : Model → ℕ → VariableRecord
 variableAt M n = getD (M .variables) n (record { ty = 0; process = 0; start = 0; zeros = false })

@@ -8,8 +8,16 @@ use base::byte;
 use base::long32;
 use base::word;
 
+// Kinds of a signal.
+pub const PLAIN: usize = 0;
+
+pub const BUS: usize = 1;
+
+pub const REGISTER: usize = 2;
+
 pub struct SignalRecord {
     pub ty: usize,
+    pub kind: usize,
     pub start: u32,
     pub zeros: bool,
 }
@@ -71,8 +79,9 @@ pub(crate) fn read_signal(r: &[u8]) -> SignalRecord
 {
     SignalRecord {
         ty: byte(r, 0),
+        kind: byte(r, 1),
         start: long32(r, 4),
-        zeros: zeros(r, 1, 3) & zeros(r, 8, 4),
+        zeros: zeros(r, 2, 2) & zeros(r, 8, 4),
     }
 }
 

@@ -18,6 +18,6 @@ whole =
       settles = refl;
       pendings = refl;
       all = refl;
-      adder-accepted = record { totals = refl; fields = refl; trees = refl; types = refl; owners = refl };
-      scheduler-accepted = record { totals = refl; fields = refl; trees = refl; types = refl; owners = refl };
+      adder-accepted = record { totals = refl; fields = refl; trees = refl; types = refl; owners = refl; nulls = refl };
+      scheduler-accepted = record { totals = refl; fields = refl; trees = refl; types = refl; owners = refl; nulls = refl };
     }

@@ -1,16 +1,21 @@
--- Rules 2 and 3 block by block: a test of block n + 1 is the test of block n behind the first block. Assumes nothing.
+-- Rules 2 and 3 block by block: a test of block n + 1 is the test of block n behind the first block. Bytes whose blocks pass, and which
+-- are read as an accepted model, are accepted. Assumes nothing.
 use mathlib.Core.Path.{_≡_, refl, ap, fun-ext}
 use mathlib.Core.Bool.{Bool, true}
 use mathlib.Core.List.{List, [], _∷_, _++_, flatten}
-use Prim.Native.Nat.{ℕ, zero, suc, _+_, _*_, _%_}
+use Prim.Native.Nat.{ℕ, zero, suc, _+_, _-_, _*_, _%_}
 use native.Mathlib.Omega.{arith}
-use lib.Dec.{eqb}
+use lib.Dec.{eqb, leb}
 use lib.ListN.{length}
 use lib.Seq.{getD-append-add}
-use Rattle.base.specs.Below.{allBelow, sumBelow}
-use Rattle.base.specs.Bytes.{byteAt}
+use Rattle.base.specs.Below.{allBelow, sumBelow, every}
+use Rattle.base.specs.Bytes.{byteAt, wordAt}
+use Rattle.base.specs.Rules.{firstFailing}
 use Rattle.base.proofs.Below.{and-left, and-right}
-use Rattle.blocks.specs.Blocks.{blockSum, sumOk, trailingAt, trailingOk}
+use Rattle.blocks.specs.Blocks.{blocksOf, lengthOk, blockSum, sumOk, sumsOk, kindAt, countAt, trailingAt, trailingOk, headOk, headsOk}
+use Rattle.blocks.specs.Records.{Model, modelOf}
+use Rattle.blocks.specs.Totals.{blockRules}
+use Rattle.model.specs.Rules.{recordRules, rulesOf, refusalOf, Accepted}
 
 all-first : (f : ℕ → Bool) (n : ℕ) → f 0 ≡ true → allBelow (λ i. f (suc i)) n ≡ true → allBelow f (suc n) ≡ true
 unfolding allBelow
@@ -62,3 +67,44 @@ pub all-pass : (bs : List (List ℕ)) → Blocks bs → Pass (flatten bs) (lengt
 unfolding allBelow flatten
 all-pass [] is = record { sums = refl; trailing = refl }
 all-pass (b ∷ bs) is = in-front b (flatten bs) (is .0) (length bs) (all-pass bs (is .1))
+
+-- what rule 3 says of a block but for its trailing zeros
+abbrev pub numbersOk : List ℕ → ℕ → Bool
+numbersOk m b =
+    every
+    (eqb (wordAt m (512 * b)) b
+    ∷ leb 1 (kindAt m b)
+    ∷ leb (kindAt m b) 6
+    ∷ leb (countAt m b) 42
+    ∷ leb (kindAt m (b - 1)) (kindAt m b)
+    ∷ [])
+
+heads-hold : (m : List ℕ) (n : ℕ) → allBelow (numbersOk m) n ≡ true → allBelow (trailingOk m) n ≡ true → allBelow (headOk m) n ≡ true
+unfolding allBelow headOk every
+heads-hold m zero h t = refl
+heads-hold m (suc n) h t =
+    rw (
+      heads-hold m n (and-left (allBelow (numbersOk m) n) (numbersOk m n) h) (and-left (allBelow (trailingOk m) n) (trailingOk m n) t),
+      and-right (allBelow (numbersOk m) n) (numbersOk m n) h,
+      and-right (allBelow (trailingOk m) n) (trailingOk m n) t,
+    )
+
+-- no rule of the model applies
+pub accepted-bytes : (bs : List (List ℕ)) (M : Model) → Blocks bs → lengthOk (flatten bs) ≡ true → blocksOf (flatten bs) ≡ length bs
+    → allBelow (numbersOk (flatten bs)) (length bs) ≡ true → modelOf (flatten bs) ≡ M → Accepted M → refusalOf (flatten bs) ≡ 0
+unfolding refusalOf rulesOf blockRules recordRules firstFailing sumsOk headsOk
+accepted-bytes bs M is size counted numbers read rules =
+    let pass = all-pass bs is in
+    rw (
+      size,
+      counted,
+      pass .sums,
+      heads-hold (flatten bs) (length bs) numbers (pass .trailing),
+      read,
+      rules .totals,
+      rules .fields,
+      rules .trees,
+      rules .types,
+      rules .owners,
+      rules .nulls,
+    )

@@ -1,52 +1,58 @@
--- The claims on the inverter: its lists are played by computation, and the claims say the rest. Assumes nothing.
+-- The claims on the inverter and on the cards: their lists are played by computation, and the claims say the rest. Assumes nothing.
 use mathlib.Core.Path.{_≡_, refl}
 use mathlib.Core.Bool.{true, false}
+use mathlib.Core.List.{List, [], _∷_}
 use mathlib.Core.Logic.{_≢_}
 use Prim.Native.Nat.{ℕ, zero, suc}
 use native.Mathlib.Omega.{arith}
 use borrow.Author.Tests.{le-leb}
+use lib.ListN.{length}
 use Rattle.determinacy.specs.Kernel.{NormalForm}
 use Rattle.determinacy.specs.Determinacy.{Exactly}
+use Rattle.blocks.specs.Records.{Model, modelOf}
+use Rattle.rules.specs.declared.driven.Driven.the-variants.{Null}
 use Rattle.rules.specs.Configuration.{Configuration}
 use Rattle.rules.specs.Orders.{isReady, picked}
 use Rattle.session.specs.Demand3.{Bytes, picksOf, advancesOf, kernelOf, tallyOf}
 use Rattle.session.proofs.Demand3.{determinate}
 use Rattle.session.proofs.ListLaws.{list-laws}
-use Rattle.cases.specs.Inverter.{inverter}
-use Rattle.cases.specs.Claims.{settling, picking, woken, waking, kernel, tally, Comes, Ends, alike, behind, InverterDetermined, early, InverterLaws}
+use Rattle.cases.specs.Inverter.{inverter, inverterBytes}
+use Rattle.cases.specs.Lines.{cards, cardsBytes, carried}
+use Rattle.cases.specs.Claims.{settling, picking, woken, waking, kernel, tally, Comes, Ends, alike, behind, InverterDetermined, releasing, swapping, CardsDetermined, early, InverterLaws}
 use Rattle.cases.proofs.Rules.{the-orders}
-use Rattle.cases.proofs.Inverter.{model-read, accepted-bytes}
+use Rattle.cases.proofs.Inverter.{model-read, accepted-inverter}
+use Rattle.cases.proofs.Lines.{cards-read, accepted-cards}
 
--- the processes that are there are not ready, and no other can be picked
-quiet-by : (c : Configuration) → isReady 0 c ≡ false → isReady 1 c ≡ false → NormalForm (kernelOf inverter) c
-unfolding inverter picked
-quiet-by c h k zero = rw h
-quiet-by c h k (suc zero) = rw k
-quiet-by c h k (suc (suc p)) = rw (le-leb 2 (suc (suc p)) (omega arith))
+-- the two processes that are there are not ready, and no other can be picked
+quiet-by : (M : Model) → length (M .processes) ≡ 2 → (c : Configuration) → isReady 0 c ≡ false → isReady 1 c ≡ false → NormalForm (kernelOf M) c
+unfolding picked
+quiet-by M e c h k zero = rw (e, h)
+quiet-by M e c h k (suc zero) = rw (e, k)
+quiet-by M e c h k (suc (suc p)) = rw (e, le-leb 2 (suc (suc p)) (omega arith))
 
--- what a list comes to on the model is what it comes to on its bytes
-module _ (xs : Bytes) {p a : ℕ} (picks : tallyOf inverter xs .picks ≡ p) (advances : tallyOf inverter xs .advances ≡ a) where
-  comes : Comes xs p a
-  comes = record { picks = rw model-read picks; advances = rw model-read advances }
+-- what a list comes to on the model M is what it comes to on its bytes m
+module _ {m : List ℕ} {M : Model} (read : modelOf m ≡ M) (xs : Bytes) {p a : ℕ} (picks : tallyOf M xs .picks ≡ p) (advances : tallyOf M xs .advances ≡ a) where
+  comes : Comes m xs p a
+  comes = record { picks = rw read picks; advances = rw read advances }
 
-  ends : isReady 0 (tallyOf inverter xs .end) ≡ false → isReady 1 (tallyOf inverter xs .end) ≡ false → Ends xs p a
-  ends h k = record { comes = comes; quiet = rw model-read (quiet-by (tallyOf inverter xs .end) h k) }
+  ends : length (M .processes) ≡ 2 → isReady 0 (tallyOf M xs .end) ≡ false → isReady 1 (tallyOf M xs .end) ≡ false → Ends m xs p a
+  ends two h k = record { comes = comes; quiet = rw read (quiet-by M two (tallyOf M xs .end) h k) }
 
-settling-ends : Ends settling 6 4
+settling-ends : Ends inverterBytes settling 6 4
 unfolding the-orders inverter picksOf advancesOf
-settling-ends = ends settling refl refl refl refl
+settling-ends = ends model-read settling refl refl refl refl refl
 
-picking-ends : Ends picking 6 4
+picking-ends : Ends inverterBytes picking 6 4
 unfolding the-orders inverter picksOf advancesOf
-picking-ends = ends picking refl refl refl refl
+picking-ends = ends model-read picking refl refl refl refl refl
 
-woken-ends : Ends woken 6 3
+woken-ends : Ends inverterBytes woken 6 3
 unfolding the-orders inverter picksOf advancesOf
-woken-ends = ends woken refl refl refl refl
+woken-ends = ends model-read woken refl refl refl refl refl
 
-waking-comes : Comes waking 4 3
+waking-comes : Comes inverterBytes waking 4 3
 unfolding the-orders inverter picksOf advancesOf
-waking-comes = comes waking refl refl
+waking-comes = comes model-read waking refl refl
 
 -- process 0 can be picked twice
 first-ready : kernelOf inverter .ready 0 (tallyOf inverter waking .end) ≡ true
@@ -59,13 +65,13 @@ second-ready = refl
 
 pub determined : InverterDetermined
 determined =
-    let same = alike determinate accepted-bytes settling picking settling-ends picking-ends in
-    let late = behind determinate accepted-bytes woken waking woken-ends waking-comes in
+    let same = alike determinate accepted-inverter settling picking settling-ends picking-ends in
+    let late = behind determinate accepted-inverter woken waking woken-ends waking-comes in
     let two : Exactly kernel 2 (tally waking .end) (tally woken .end) = rw (woken-ends .comes .picks, waking-comes .picks) at (late .still-to-do) in
     let first : kernel .ready 0 (tally waking .end) ≡ true = rw model-read first-ready in
     let second : kernel .ready 0 (kernel .step 0 (tally waking .end)) ≡ true = rw model-read second-ready in
     record {
-      accepted = accepted-bytes;
+      accepted = accepted-inverter;
       demand3 = determinate;
       settling-ends = settling-ends;
       picking-ends = picking-ends;
@@ -81,6 +87,30 @@ determined =
       lead-there = (two .1 0 first .1 0 second) .1;
     }
 
+releasing-ends : Ends cardsBytes releasing 8 3
+unfolding the-orders cards picksOf advancesOf
+releasing-ends = ends cards-read releasing refl refl refl refl refl
+
+swapping-ends : Ends cardsBytes swapping 8 3
+unfolding the-orders cards picksOf advancesOf
+swapping-ends = ends cards-read swapping refl refl refl refl refl
+
+swapped-off : carried (tallyOf cards swapping .end) ≡ Null ∷ Null ∷ Null ∷ Null ∷ []
+unfolding the-orders cards
+swapped-off = refl
+
+pub cards-determined : CardsDetermined
+cards-determined =
+    record {
+      read = cards-read;
+      accepted = accepted-cards;
+      demand3 = determinate;
+      releasing-ends = releasing-ends;
+      swapping-ends = swapping-ends;
+      same-end = alike determinate accepted-cards releasing swapping releasing-ends swapping-ends .same-end;
+      all-off = rw cards-read swapped-off;
+    }
+
 early-refusal : early .refusal ≡ 14
 unfolding the-orders inverter
 early-refusal = refl
@@ -89,11 +119,11 @@ pub by-laws : InverterLaws
 by-laws =
     let refused : early .refusal ≢ 0 = λ z. omega (arith, early-refusal) in
     record {
-      accepted = accepted-bytes;
+      accepted = accepted-inverter;
       laws = list-laws;
       refusal = early-refusal;
       not-done = refused;
       kept = list-laws .refused-kept _ _ _ refused;
       played-on = list-laws .after-refused _ _ _ _ refused;
-      no-orders = list-laws .no-orders _ accepted-bytes;
+      no-orders = list-laws .no-orders _ accepted-inverter;
     }

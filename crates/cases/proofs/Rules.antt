@@ -10,11 +10,12 @@ use Rattle.blocks.specs.Records.{zerosAt, signalOf, variableOf, processOf, driv
 use Rattle.blocks.specs.Totals.{totalsOk}
 use Rattle.fields.specs.Fields.{valueOk, signalOk, variableOk, processOk, covered, driverOk, nodeOk, ownerOf, inSpan, statementOk, fieldsOk}
 use Rattle.trees.specs.Trees.{operandsOf, lowerOk, sizeBy, nextSize, sizeOf, treeOk, treesOk, typeBy, nextType, typeOf, statementTyped, typesOk}
+use Rattle.model.specs.Nulls.{nullOk, nullsOk}
 use Rattle.model.specs.Owners.{pairBelow, driversRise, driversOf, singleOk, driverFor, readsBy, nextReads, readsOwn, statementOwned, ownersOk}
 use Rattle.rules.specs.Configuration.{drivingOf, firstDrivers, firstSignal, first}
 use Rattle.rules.specs.Evaluation.{ranged, negateOf, sumOf, differenceOf, equalOf, lessOf, valueBy, nextValue, evalOf}
 use Rattle.rules.specs.Statements.{withDelay, effectBy, effectOf, before, scheduled, overflows, nextPlace, driverAfter, applied, stepped}
-use Rattle.rules.specs.Steps.{transactionDue, taken, deadlineDue, active, signalAfter, signalsAfter, inSet, changedIn, wokenIf, wokenAt, processAfterDelta, deltaStep, shifted, timeStep}
+use Rattle.rules.specs.Steps.{transactionDue, taken, deadlineDue, active, undriven, signalAfter, signalsAfter, inSet, changedIn, wokenIf, wokenAt, processAfterDelta, deltaStep, shifted, timeStep}
 use Rattle.rules.specs.Orders.{isReady, isStopped, picked, dueTimes, dueNow, advanced, lowestReady, settledFrom, settled, readOf}
 use Rattle.session.specs.Lists.{orderOf, ordersOf, isKnown, performed, answerOf, played}
 
@@ -26,18 +27,19 @@ unfolding anyBelow joinBelow listBelow upTo course firstWith
     drivingOf firstDrivers firstSignal first
     ranged negateOf sumOf differenceOf equalOf lessOf valueBy nextValue evalOf
     withDelay effectBy effectOf before scheduled overflows nextPlace driverAfter applied stepped
-    transactionDue taken deadlineDue active signalAfter signalsAfter inSet changedIn wokenIf wokenAt processAfterDelta deltaStep
+    transactionDue taken deadlineDue active undriven signalAfter signalsAfter inSet changedIn wokenIf wokenAt processAfterDelta deltaStep
     shifted timeStep
     isReady isStopped picked dueTimes dueNow advanced lowestReady settledFrom settled readOf
     orderOf ordersOf isKnown performed answerOf played
 the-orders = 0
 
--- rules 4 to 8
+-- the rules of the records
 unfoldable pub the-checks : ℕ
 unfolding every allBelow sumBelow upTo course firstWith
     totalsOk valueOk signalOk variableOk processOk covered driverOk nodeOk ownerOf inSpan statementOk fieldsOk
     operandsOf lowerOk sizeBy nextSize sizeOf treeOk treesOk typeBy nextType typeOf statementTyped typesOk
     pairBelow driversRise driversOf singleOk driverFor readsBy nextReads readsOwn statementOwned ownersOk
+    nullOk nullsOk
 the-checks = 0
 
 -- a model is read from its bytes

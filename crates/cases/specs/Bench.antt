@@ -8,7 +8,7 @@ use Rattle.base.specs.Bytes.{byteAt, wordAt, longAt}
 use Rattle.values.specs.Nine.{U, X, ‘0’, ‘-’, W, L}
 use Rattle.values.specs.Bench as Values
 use Rattle.values.specs.Bench.{Row, _gives_}
-use Rattle.blocks.specs.Records.{Model}
+use Rattle.blocks.specs.Records.{plain, Model}
 use Rattle.trees.specs.Trees.{integer}
 use Rattle.model.specs.Rules.{Accepted}
 use Rattle.rules.specs.Configuration.{Configuration, driverIn, first}
@@ -63,7 +63,7 @@ settleRows =
 abbrev pub scheduler : Model
 scheduler =
     record {
-      signals = signal integer 0 ∷ [];
+      signals = signal integer plain 0 ∷ [];
       variables = variable integer 0 1 ∷ [];
       processes = process 0 2 ∷ [];
       drivers = driver 0 0 ∷ [];

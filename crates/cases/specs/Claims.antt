@@ -1,14 +1,15 @@
--- The claims over all models and lists of orders, used on the inverter. Each fact stands with the part of the claim that proves
--- it: a claim with a premise more, or with a part less, is no proof of it.
+-- The claims over all models and lists of orders, used on the inverter and on the cards. Each fact stands with the part of the claim
+-- that proves it: a claim with a premise more, or with a part less, is no proof of it.
 use mathlib.Core.Path.{_≡_, refl, sym, _∙_}
 use mathlib.Core.Bool.{true}
 use mathlib.Core.Logic.{_≢_}
-use mathlib.Core.List.{[], _∷_}
+use mathlib.Core.List.{List, [], _∷_}
 use Prim.Native.Nat.{ℕ, _-_, _≤_}
 use Rattle.determinacy.specs.Kernel.{Kernel, NormalForm}
 use Rattle.determinacy.specs.Determinacy.{Tally, Exactly, Alike, Behind}
 use Rattle.blocks.specs.Records.{modelOf}
 use Rattle.model.specs.Rules.{refusalOf}
+use Rattle.rules.specs.declared.driven.Driven.the-variants.{Null}
 use Rattle.rules.specs.Configuration.{Configuration, first}
 use Rattle.rules.specs.Orders.{Outcome, refused}
 use Rattle.session.specs.Lists.{performed, answered, played}
@@ -17,6 +18,7 @@ use Rattle.session.specs.Demand3.{Bytes, kernelOf, tallyOf, Determinate}
 use Rattle.session.specs.ListLaws.{ListLaws}
 use Rattle.cases.specs.Forms.{pickOrder, advanceOrder, settleOrder, orderBytes, asBytes}
 use Rattle.cases.specs.Inverter.{inverter, inverterBytes, inverterOrders, inverterOrderBytes}
+use Rattle.cases.specs.Lines.{cards, cardsBytes, released, swapped, carried}
 
 -- a fact, and what proves it: nothing else may stand behind `by`
 infix 2 _by_
@@ -46,39 +48,38 @@ woken = asBytes (orderBytes (settleOrder 10 ∷ advanceOrder ∷ advanceOrder �
 abbrev pub waking : Bytes
 waking = asBytes (orderBytes (settleOrder 10 ∷ advanceOrder ∷ advanceOrder ∷ advanceOrder ∷ [])) refl
 
+-- on the model of the bytes m, a list comes to p picks and a done advances
+pub record Comes (m : List ℕ) (xs : Bytes) (p a : ℕ) : Type 0 where
+  pub picks : tallyOf (modelOf m) xs .picks ≡ p
+  pub advances : tallyOf (modelOf m) xs .advances ≡ a
+
+-- and ends with no process ready
+pub record Ends (m : List ℕ) (xs : Bytes) (p a : ℕ) : Type 0 where
+  pub comes : Comes m xs p a
+  pub quiet : NormalForm (kernelOf (modelOf m)) (tallyOf (modelOf m) xs .end)
+
+-- what demand 3 says of two lists with equally many advances, where both end with no process ready, and where the first does
+module _ (demand3 : Determinate) {m : List ℕ} (accepted : refusalOf m ≡ 0) {a p q : ℕ} where
+  abbrev pub alike : (xs ys : Bytes) → Ends m xs p a → Ends m ys q a → Alike (kernelOf (modelOf m)) (tallyOf (modelOf m) xs) (tallyOf (modelOf m) ys)
+  alike xs ys x y = demand3 m accepted .alike xs ys (x .quiet) (y .quiet) (x .comes .advances ∙ sym (y .comes .advances))
+
+  abbrev pub behind : (xs ys : Bytes) → Ends m xs p a → Comes m ys q a → Behind (kernelOf (modelOf m)) (tallyOf (modelOf m) xs) (tallyOf (modelOf m) ys)
+  behind xs ys x y = demand3 m accepted .behind xs ys (x .quiet) (x .comes .advances ∙ sym (y .advances))
+
 abbrev pub kernel : Kernel
 kernel = kernelOf (modelOf inverterBytes)
 
 abbrev pub tally : Bytes → Tally Configuration
 tally xs = tallyOf (modelOf inverterBytes) xs
 
--- a list comes to p picks and a done advances
-pub record Comes (xs : Bytes) (p a : ℕ) : Type 0 where
-  pub picks : tally xs .picks ≡ p
-  pub advances : tally xs .advances ≡ a
-
--- and ends with no process ready
-pub record Ends (xs : Bytes) (p a : ℕ) : Type 0 where
-  pub comes : Comes xs p a
-  pub quiet : NormalForm kernel (tally xs .end)
-
--- demand 3 on the inverter: what it says of two lists with equally many advances, where both end with no process ready, and where
--- the first does
-module _ (demand3 : Determinate) (accepted : refusalOf inverterBytes ≡ 0) {a p q : ℕ} where
-  abbrev pub alike : (xs ys : Bytes) → Ends xs p a → Ends ys q a → Alike kernel (tally xs) (tally ys)
-  alike xs ys x y = demand3 inverterBytes accepted .alike xs ys (x .quiet) (y .quiet) (x .comes .advances ∙ sym (y .comes .advances))
-
-  abbrev pub behind : (xs ys : Bytes) → Ends xs p a → Comes ys q a → Behind kernel (tally xs) (tally ys)
-  behind xs ys x y = demand3 inverterBytes accepted .behind xs ys (x .quiet) (x .comes .advances ∙ sym (y .advances))
-
--- Demand 3
+-- Demand 3 on the inverter
 pub record InverterDetermined : Type 0 where
   pub accepted : refusalOf inverterBytes ≡ 0
   pub demand3 : Determinate
-  pub settling-ends : Ends settling 6 4
-  pub picking-ends : Ends picking 6 4
-  pub woken-ends : Ends woken 6 3
-  pub waking-comes : Comes waking 4 3
+  pub settling-ends : Ends inverterBytes settling 6 4
+  pub picking-ends : Ends inverterBytes picking 6 4
+  pub woken-ends : Ends inverterBytes woken 6 3
+  pub waking-comes : Comes inverterBytes waking 4 3
   -- the order and choice of picks changes neither their number nor the end
   pub same-picks : tally settling .picks ≡ tally picking .picks by alike demand3 accepted settling picking settling-ends picking-ends .same-picks
   pub same-end : tally settling .end ≡ tally picking .end by alike demand3 accepted settling picking settling-ends picking-ends .same-end
@@ -91,6 +92,24 @@ pub record InverterDetermined : Type 0 where
   pub second-ready : kernel .ready 0 (kernel .step 0 (tally waking .end)) ≡ true
   pub lead-there : kernel .step 0 (kernel .step 0 (tally waking .end)) ≡ tally woken .end
       by (two-missing .1 0 first-ready .1 0 second-ready) .1
+
+-- the cards' orders, and the same with card 1 picked first
+abbrev pub releasing : Bytes
+releasing = asBytes (orderBytes released) refl
+
+abbrev pub swapping : Bytes
+swapping = asBytes (orderBytes swapped) refl
+
+-- Demand 3 on the cards: the order of picks does not change which drivers are off
+pub record CardsDetermined : Type 0 where
+  pub read : modelOf cardsBytes ≡ cards
+  pub accepted : refusalOf cardsBytes ≡ 0
+  pub demand3 : Determinate
+  pub releasing-ends : Ends cardsBytes releasing 8 3
+  pub swapping-ends : Ends cardsBytes swapping 8 3
+  pub same-end : tallyOf (modelOf cardsBytes) releasing .end ≡ tallyOf (modelOf cardsBytes) swapping .end
+      by alike demand3 accepted releasing swapping releasing-ends swapping-ends .same-end
+  pub all-off : carried (tallyOf (modelOf cardsBytes) swapping .end) ≡ Null ∷ Null ∷ Null ∷ Null ∷ []
 
 -- an advance before any pick
 abbrev pub early : Outcome

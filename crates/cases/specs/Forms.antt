@@ -18,8 +18,8 @@ use Rattle.session.specs.Lists.{Order}
 use Rattle.session.specs.Demand3.{Bytes}
 
 -- records
-abbrev pub signal : ℕ → ℕ → SignalRecord
-signal ty start = record { ty = ty; start = start; zeros = true }
+abbrev pub signal : ℕ → ℕ → ℕ → SignalRecord
+signal ty kind start = record { ty = ty; kind = kind; start = start; zeros = true }
 
 abbrev pub variable : ℕ → ℕ → ℕ → VariableRecord
 variable ty process start = record { ty = ty; process = process; start = start; zeros = true }

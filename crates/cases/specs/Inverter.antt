@@ -6,7 +6,7 @@ use Prim.Native.Char.{code}
 use Prim.Native.String.{String, len, charAt}
 use lib.ListN.{replicate}
 use Rattle.base.specs.Below.{listBelow}
-use Rattle.blocks.specs.Records.{Model, modelOf}
+use Rattle.blocks.specs.Records.{plain, Model, modelOf}
 use Rattle.fields.specs.Fields.{absent}
 use Rattle.trees.specs.Trees.{logic}
 use Rattle.model.specs.Rules.{refusalOf}
@@ -20,7 +20,7 @@ use Rattle.cases.specs.Forms.{signal, process, driver, node, statement, 
 unfoldable pub inverter : Model
 inverter =
     record {
-      signals = signal logic 2 ∷ signal logic 2 ∷ [];
+      signals = signal logic plain 2 ∷ signal logic plain 2 ∷ [];
       variables = [];
       processes = process 0 2 ∷ process 2 2 ∷ [];
       drivers = driver 0 1 ∷ driver 1 0 ∷ [];

@@ -1,11 +1,12 @@
 // The bench cases of document 01, by the definitions alone: the proved table, what the inverter prints, and the claims over all
-// models and lists of orders, used on the inverter.
+// models and lists of orders, used on the inverter; and two cards that let go of shared lines.
 ghost use mathlib.Core.Path.{_≡_};
 ghost use lib.ListN.{length};
 ghost use Rattle.values.specs.Bench.{Holds};
 ghost use Rattle.cases.specs.Bench.{rows, TableWhole};
 ghost use Rattle.cases.specs.Inverter.{inverterLines, InverterPlayed};
-ghost use Rattle.cases.specs.Claims.{settling, tally, InverterDetermined, InverterLaws};
+ghost use Rattle.cases.specs.Lines.{lineRows, LinesReleased};
+ghost use Rattle.cases.specs.Claims.{settling, tally, InverterDetermined, CardsDetermined, InverterLaws};
 
 // How many rows the proved table has; that they hold, and that none is missing.
 pub fn bench_rows() -> usize
@@ -31,4 +32,14 @@ pub fn inverter_picks() -> usize
     ensures { λ r. ⌜ InverterDetermined ⌝ }
 {
     6
+}
+
+// How many rows the table of the shared lines has; that they hold, and that picks in another order lead to the same drivers being off.
+pub fn line_rows() -> usize
+    ensures { λ r. ⌜ r ≡ length lineRows ⌝ }
+    ensures { λ r. ⌜ Holds lineRows ⌝ }
+    ensures { λ r. ⌜ LinesReleased ⌝ }
+    ensures { λ r. ⌜ CardsDetermined ⌝ }
+{
+    9
 }

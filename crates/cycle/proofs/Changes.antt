@@ -14,7 +14,8 @@ use Rattle.rules.specs.Configuration.{DriverState, ProcessState, Configuration,
 use Rattle.rules.specs.Statements.{moved, stops, nextPlace, processAfter, fullAfter, driverAfter, driversAfter, variablesAfter, applied}
 use Rattle.rules.specs.declared.effect.Effect.{Effect}
 use Rattle.rules.specs.declared.effect.Effect.the-variants.{Skip, Store, Schedule, Jump, Wait, WaitFor, Stop}
-use Rattle.waveforms.specs.Pending.{noDriver}
+use Rattle.rules.specs.declared.driven.Driven.{Driven}
+use Rattle.waveforms.specs.Pending.{drivenOf, noDriver}
 use Rattle.waveforms.specs.Waveform.{driving, ScheduledTo}
 use Rattle.waveforms.specs.declared.driver.Driver.{Driver}
 use Rattle.waveforms.specs.declared.driver.Scheduled.{Scheduled}
@@ -161,13 +162,13 @@ module _ (M : Model) (c : Config) (p : ℕ) (h : p < c .nprocesses) where
     unfolding viewOf driverView
     stop-view f = change-is (Stop f) (stopsBy c p f) refl refl refl refl (stopped-is f) refl
 
-    module _ (k d v : ℕ) (kd : k < c .ndrivers) (k64 : k < 64) (r : Scheduled) (to : ScheduledTo (getD (c .drivers) k noDriver) d v r) where
+    module _ (k d : ℕ) (v : Driven) (kd : k < c .ndrivers) (k64 : k < 64) (r : Scheduled) (to : ScheduledTo (getD (c .drivers) k noDriver) d v r) where
       full-is : r .full ≡ fullAfter (Schedule k d v) (c .time) (viewOf c .drivers)
       full-is = to .full (c .time) ∙ rw (pending-in c k kd)
 
-      driver-is : driving (c .time) (getD (c .currents) k 0) (r .driver) ≡ driverAfter (c .time + d) v (driverIn (viewOf c .drivers) k)
+      driver-is : driving (c .time) (drivenOf (getD (c .currents) k 0)) (r .driver) ≡ driverAfter (c .time + d) v (driverIn (viewOf c .drivers) k)
       unfolding driverView
-      driver-is = to .driver (c .time) (getD (c .currents) k 0) ∙ rw (driver-in c k kd)
+      driver-is = to .driver (c .time) (drivenOf (getD (c .currents) k 0)) ∙ rw (driver-in c k kd)
 
       pub schedule-view : (t i : ℕ) → i ≡ next → r .full ≡ false → viewOf (scheduledTo c p k (r .driver) t i) ≡ applied M p (Schedule k d v) (viewOf c)
       unfolding viewOf driverView processView

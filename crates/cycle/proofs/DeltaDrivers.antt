@@ -13,7 +13,8 @@ use borrow.Author.Tests.{eq-eqb, ne-eqb}
 use Rattle.blocks.specs.Records.{Model}
 use Rattle.rules.specs.Configuration.{Transaction, DriverState, lastTime}
 use Rattle.rules.specs.Steps.{dueIn, takenIn, taken}
-use Rattle.waveforms.specs.Pending.{never, pendingOf, noDriver, firstTime}
+use Rattle.rules.specs.declared.driven.Driven.{Driven}
+use Rattle.waveforms.specs.Pending.{never, drivenOf, pendingOf, noDriver, firstTime}
 use Rattle.waveforms.specs.declared.driver.Driver.{Driver}
 use Rattle.waveforms.proofs.Drivers.{pending-length, pending-first, first-none, first-some}
 use Rattle.cycle.specs.View.{viewOf, Valid}
@@ -30,7 +31,7 @@ abbrev pub slotOf : Config → ℕ → Slot
 slotOf c k = record { current = getD (c .currents) k 0; due = getD (c .due) k 0; driver = getD (c .drivers) k noDriver }
 
 abbrev pub heldBy : ℕ → Slot → DriverState
-heldBy t x = record { current = x .current; pending = pendingOf t (x .driver) }
+heldBy t x = record { current = drivenOf (x .current); pending = pendingOf t (x .driver) }
 
 -- `due` has the first pending time
 abbrev pub Timed : ℕ → Slot → Type 0
@@ -45,14 +46,14 @@ pub first-due : (t : ℕ) (w : List Transaction) → t ≤ lastTime → dueIn t 
 first-due t [] h = sym (ne-eqb never t (λ e. omega arith))
 first-due t (x ∷ w) h = refl
 
-not-due : (t current : ℕ) (w : List Transaction) → (firstTime w ≡ t → ⊥) → record { current = current; pending = w } ≡ takenIn t current w
+not-due : (t : ℕ) (current : Driven) (w : List Transaction) → (firstTime w ≡ t → ⊥) → record { current = current; pending = w } ≡ takenIn t current w
 not-due t current [] n = refl
 not-due t current (x ∷ w) n = rw (ne-eqb (x .time) t n)
 
 module _ (t : ℕ) (x : Slot) (m : Timed t x) where
   pub slot-kept : (x .due ≡ t → ⊥) → TakenSlot t x x
   unfolding taken
-  slot-kept n = record { state = not-due t (x .current) (pendingOf t (x .driver)) (λ e. n (m ∙ e)); due = m }
+  slot-kept n = record { state = not-due t (drivenOf (x .current)) (pendingOf t (x .driver)) (λ e. n (m ∙ e)); due = m }
 
   module _ (h : t ≤ lastTime) (d : x .due ≡ t) where
     pub some-pending : 1 ≤ x .driver .count

@@ -12,18 +12,18 @@ use borrow.Author.Tests.{eqb-true, eqb-false, eq-eqb}
 use Rattle.base.specs.Below.{anyBelow, listBelow}
 use Rattle.base.proofs.Below.{map-at, any-same, list-first, list-same, list-length, list-at}
 use Rattle.base.proofs.Cases.{by-test, choices-same}
-use Rattle.blocks.specs.Records.{Model, statementAt}
+use Rattle.blocks.specs.Records.{Model, signalAt, statementAt}
 use Rattle.blocks.specs.declared.records.StatementRecord.{StatementRecord}
 use Rattle.fields.specs.Fields.{absent}
 use Rattle.model.specs.Facts.{Facts}
 use Rattle.rules.specs.Configuration.{DriverState, ProcessState, Configuration, driverIn, currentOf, drivingOf, resolvedOr, waiting}
 use Rattle.rules.specs.Evaluation.{Environment, environmentOf, evalOf}
-use Rattle.rules.specs.Steps.{transactionDue, taken, active, withCurrent, signalAfter, signalsAfter, inSet, changedIn, wokenBy, wokenIf, wokenAt, processAfterDelta, deltaStep}
+use Rattle.rules.specs.Steps.{transactionDue, taken, active, withCurrent, undriven, signalAfter, signalsAfter, inSet, changedIn, wokenBy, wokenIf, wokenAt, processAfterDelta, deltaStep}
 use Rattle.rules.specs.Orders.{advanceDone}
 use Rattle.rules.specs.Invariant.{ProcessValid}
 use Rattle.rules.proofs.AdvanceReachable.{delta-reachable}
 use Rattle.expressions.specs.Reading.{arrays}
-use Rattle.waveforms.specs.Pending.{pendingOf, noDriver}
+use Rattle.waveforms.specs.Pending.{drivenOf, pendingOf, noDriver}
 use Rattle.waveforms.specs.declared.driver.Driver.{Driver}
 use Rattle.steps.specs.Entries.{historyOf, drivingIn}
 use Rattle.steps.specs.Delta.{SetOf, activeIn, currentAfter, ResolvedTo, stateOf, entryOf, wokenFor, wokenIn, afterDelta, ProcessesValid, WokenTo}
@@ -138,7 +138,7 @@ module _ (M : Model) (fs : Facts M) (c : Config) (f : Valid M c) (set : ℕ) (a 
     unfolding driverView
     drivers-are = list-same _ _ (c .ndrivers) (λ j h. done j h .state) ∙ sym (map-below (taken (c .time)) (driverView c) (c .ndrivers))
 
-    current-is : (k : ℕ) → k < c .ndrivers → getD currents k 0 ≡ driverIn drivers-now k .current
+    current-is : (k : ℕ) → k < c .ndrivers → drivenOf (getD currents k 0) ≡ driverIn drivers-now k .current
     unfolding driverView viewOf
     current-is k h =
         let l : k < length (listBelow (driverView c) (c .ndrivers)) = omega (arith, list-length (driverView c) (c .ndrivers)) in
@@ -165,7 +165,7 @@ module _ (M : Model) (fs : Facts M) (c : Config) (f : Valid M c) (set : ℕ) (a 
         (λ e. history-changed (c .signals) new s (past s) _ (parts .resolved .current s h ∙ rw (e, value)))
         (λ e. history-kept (c .signals) new s (past s) (parts .resolved .current s h ∙ rw e)))
       where
-        value : resolvedOr (getD (c .signals) (32 * s) 0) (drivingIn M currents s (c .ndrivers)) ≡ resolvedOr (getD (historyOf (c .signals) s) 0 0) (drivingOf M drivers-now s)
+        value : resolvedOr (undriven (signalAt M s) (getD (c .signals) (32 * s) 0)) (drivingIn M currents s (c .ndrivers)) ≡ resolvedOr (undriven (signalAt M s) (getD (historyOf (c .signals) s) 0 0)) (drivingOf M drivers-now s)
         value = rw (current-in (c .signals) s, driving-is M currents drivers-now (c .ndrivers) s (ndrivers-is M c (f .reachable)) current-is)
 
     signals-are : listBelow (historyOf new) (c .nsignals) ≡ signalsAfter M v

@@ -7,11 +7,13 @@ use native.Mathlib.Omega.{arith}
 use lib.ListN.{length, getD, replicate, length-map, length-replicate, getD-replicate}
 use Rattle.base.specs.Below.{listBelow}
 use Rattle.base.proofs.Below.{list-is, list-same}
-use Rattle.blocks.specs.Records.{Model}
+use Rattle.blocks.specs.Records.{Model, signalAt, driverAt}
 use Rattle.model.specs.Facts.{Facts}
 use Rattle.rules.specs.Configuration.{DriverState, driverIn, processIn, firstDrivers, firstSignal, first, empty}
 use Rattle.rules.proofs.FirstReachable.{first-reachable, driver-at, process-at, variable-at}
-use Rattle.waveforms.specs.Pending.{never, pendingOf, noDriver, firstTime}
+use Rattle.rules.specs.declared.driven.Driven.the-variants.{To}
+use Rattle.waveforms.specs.Pending.{never, drivenOf, pendingOf, noDriver, firstTime}
+use Rattle.waveforms.proofs.Held.{value-held}
 use Rattle.waveforms.specs.declared.driver.Driver.{Driver}
 use Rattle.steps.specs.Entries.{historyOf}
 use Rattle.steps.proofs.Resolving.{driving-is}
@@ -66,11 +68,17 @@ module _ (M : Model) (fs : Facts M) (c : Config) (d : Driver) (vs : List ℕ) (b
         process-at M fs p (omega (arith, b .nprocesses)),
       ))
 
+  -- a starting value is no null
+  current-is : (k : ℕ) → k < c .ndrivers → drivenOf (getD (c .currents) k 0) ≡ To (driverStart M k)
+  current-is k h =
+      let s = driverAt M k .signal in
+      rw (b .currents .at k h) (value-held (signalAt M s .ty) (signalAt M s .start) (fs .signal s (fs .driver k (omega (arith, b .ndrivers)) .signal) .start))
+
   driver-is : (k : ℕ) → k < c .ndrivers → driverView c k ≡ driverIn (firstDrivers M) k
   unfolding driverView
   driver-is k h =
       let l : k < 64 = omega (arith, b .ndrivers, fs .totals .drivers) in
-      rw (b .drivers, getD-replicate 64 k d noDriver l, b .none (c .time), b .currents .at k h, driver-at M fs k (omega (arith, b .ndrivers)))
+      rw (b .drivers, getD-replicate 64 k d noDriver l, b .none (c .time), current-is k h, driver-at M fs k (omega (arith, b .ndrivers)))
 
   drivers-are : listBelow (driverView c) (c .ndrivers) ≡ firstDrivers M
   unfolding firstDrivers
@@ -78,7 +86,7 @@ module _ (M : Model) (fs : Facts M) (c : Config) (d : Driver) (vs : List ℕ) (b
 
   value-is : (s : ℕ) → firstValue M (c .currents) (c .ndrivers) s ≡ firstSignal M s
   unfolding firstSignal
-  value-is s = rw (driving-is M (c .currents) (firstDrivers M) (c .ndrivers) s (b .ndrivers) (λ k h. b .currents .at k h ∙ ap (λ (d : DriverState). d .current) (sym (driver-at M fs k (omega (arith, b .ndrivers))))))
+  value-is s = rw (driving-is M (c .currents) (firstDrivers M) (c .ndrivers) s (b .ndrivers) (λ k h. current-is k h ∙ ap (λ (d : DriverState). d .current) (sym (driver-at M fs k (omega (arith, b .ndrivers))))))
 
   entry-is : (s k : ℕ) → s < c .nsignals → k < 32 → getD (c .signals) (32 * s + k) 0 ≡ firstSignal M s
   entry-is s k h l =

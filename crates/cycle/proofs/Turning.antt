@@ -12,7 +12,7 @@ use lib.Seq.{getD-set-same, getD-set-other}
 use borrow.Author.Count.{below-more}
 use borrow.Author.Tests.{lt-leb, lt-ltb, eq-eqb, ne-eqb, ltb-true, ltb-false}
 use Rattle.base.proofs.Below.{split, and-left, and-right}
-use Rattle.blocks.specs.Records.{Model, statementAt}
+use Rattle.blocks.specs.Records.{Model, signalAt, driverAt, statementAt}
 use Rattle.fields.specs.Fields.{ownerOf}
 use Rattle.fields.specs.Facts.{Spans}
 use Rattle.model.specs.Facts.{Facts}
@@ -20,6 +20,7 @@ use Rattle.rules.specs.Configuration.{driverIn, lastTime}
 use Rattle.rules.specs.Statements.{nextPlace, applied, effectBy, effectOf, stepped}
 use Rattle.rules.specs.Orders.{isReady}
 use Rattle.rules.specs.Invariant.{DriverValid, EffectFits, StoreFits, ScheduleFits}
+use Rattle.rules.specs.declared.driven.Driven.{Driven}
 use Rattle.rules.specs.declared.effect.Effect.{Effect}
 use Rattle.rules.specs.declared.effect.Effect.the-variants.{Skip, Store, Schedule, Jump, Wait, WaitFor, Stop}
 use Rattle.rules.proofs.Effects.{own-statement, placed, effect-fits}
@@ -27,7 +28,8 @@ use Rattle.rules.proofs.Picks.{standing-stays}
 use Rattle.rules.proofs.StepReachable.{stepped-reachable}
 use Rattle.rules.proofs.Settling.{Passed, turnedFrom, turned-over, turned-passed, turned-next, and-false}
 use Rattle.expressions.specs.Reading.{arrays}
-use Rattle.waveforms.specs.Pending.{never, pendingOf, firstTime, noDriver}
+use Rattle.waveforms.specs.Pending.{never, drivenOf, wordFor, pendingOf, firstTime, noDriver}
+use Rattle.waveforms.proofs.Held.{held}
 use Rattle.waveforms.specs.Waveform.{Waveform, ScheduledTo}
 use Rattle.waveforms.specs.declared.driver.Scheduled.{Scheduled}
 use Rattle.waveforms.proofs.Drivers.{waveform-of}
@@ -170,7 +172,7 @@ module _ {M : Model} {now p : ℕ} {c : Config} {e : Effect} (t : Turn M now p c
   pub stop-turn : (i : ℕ) → e ≡ Stop i → Next (stopsBy c p i)
   stop-turn i x = turned (stopsBy c p i) (rw x (stop-view M c p in-nprocesses s in-16 i)) refl refl (stops-sized c p s i) (f .due)
 
-  module _ (k d v : ℕ) (x : e ≡ Schedule k d v) where
+  module _ (k d : ℕ) (v : Driven) (x : e ≡ Schedule k d v) where
     schedule-fits : ScheduleFits M p k d v
     schedule-fits = rw x at fits
 
@@ -185,6 +187,10 @@ module _ {M : Model} {now p : ℕ} {c : Config} {e : Effect} (t : Turn M now p c
     waveform =
         let g : DriverValid _ (viewOf c .time) (driverIn (viewOf c .drivers) k) = f .reachable .each-driver k (schedule-fits .driver) in
         waveform-of (c .time) (getD (c .drivers) k noDriver) (viewOf c .time) (rw (pending-in c k in-ndrivers) at (g .rising)) (few-pending M c f k in-ndrivers)
+
+    -- what is scheduled is held as a word
+    pub word-held : drivenOf (wordFor v) ≡ v
+    word-held = held (signalAt M (driverAt M k .signal)) v (schedule-fits .value)
 
     module _ (r : Scheduled) (to : ScheduledTo (getD (c .drivers) k noDriver) d v r) where
       pub full-turn : r .full ≡ true → Next (stopsBy c p 3)

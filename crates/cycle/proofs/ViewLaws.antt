@@ -12,7 +12,7 @@ use Rattle.rules.specs.Configuration.{DriverState, ProcessState, driverIn, proc
 use Rattle.rules.specs.Statements.{moved, waits, stops}
 use Rattle.rules.specs.Orders.{isReady}
 use Rattle.rules.specs.Invariant.{Reachable}
-use Rattle.waveforms.specs.Pending.{pendingOf, noDriver}
+use Rattle.waveforms.specs.Pending.{drivenOf, pendingOf, noDriver}
 use Rattle.waveforms.specs.declared.driver.Driver.{Driver}
 use Rattle.steps.specs.Entries.{deadlineOf, historyOf}
 use Rattle.steps.proofs.Shifts.{history-at}
@@ -105,7 +105,7 @@ rowOf places standings deadlines faults p =
     record { place = getD places p 0; standing = getD standings p 0; deadline = deadlineOf (getD deadlines p 0); fault = getD faults p 0 }
 
 abbrev pub driverOf : ℕ → List ℕ → List Driver → ℕ → DriverState
-driverOf t currents drivers k = record { current = getD currents k 0; pending = pendingOf t (getD drivers k noDriver) }
+driverOf t currents drivers k = record { current = drivenOf (getD currents k 0); pending = pendingOf t (getD drivers k noDriver) }
 
 -- the view, with its lists written out
 pub view-is : (c : Config) → viewOf c ≡ record {
@@ -146,6 +146,6 @@ module _ (places standings deadlines faults : List ℕ) (n p : ℕ) where
       ∙ rw (getD-set-same standings p 2 0 h, getD-set-same faults p f 0 l)
 
 -- the waveform of driver k is changed
-pub driver-set : (t : ℕ) (currents : List ℕ) (drivers : List Driver) (n k : ℕ) (d : Driver) → k < length drivers → listBelow (driverOf t currents (set drivers k d)) n ≡ set (listBelow (driverOf t currents drivers) n) k (record { current = getD currents k 0; pending = pendingOf t d })
+pub driver-set : (t : ℕ) (currents : List ℕ) (drivers : List Driver) (n k : ℕ) (d : Driver) → k < length drivers → listBelow (driverOf t currents (set drivers k d)) n ≡ set (listBelow (driverOf t currents drivers) n) k (record { current = drivenOf (getD currents k 0); pending = pendingOf t d })
 driver-set t currents drivers n k d h =
     list-change (driverOf t currents drivers) _ n k (λ j o. rw (getD-set-other drivers k j d noDriver o)) ∙ rw (getD-set-same drivers k d noDriver h)

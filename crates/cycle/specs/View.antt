@@ -8,7 +8,7 @@ use Rattle.rules.specs.Configuration.{DriverState, ProcessState, Configuration}
 use Rattle.rules.specs.Statements.{stepped}
 use Rattle.rules.specs.Orders.{Outcome, picked, settled, readOf}
 use Rattle.rules.specs.Invariant.{Reachable}
-use Rattle.waveforms.specs.Pending.{pendingOf, noDriver, firstTime}
+use Rattle.waveforms.specs.Pending.{drivenOf, pendingOf, noDriver, firstTime}
 use Rattle.steps.specs.Entries.{deadlineOf, historyOf}
 use Rattle.cycle.specs.declared.config.Config.{Config}
 use Rattle.cycle.specs.declared.orders.Answer.{Answer}
@@ -17,7 +17,7 @@ use Rattle.cycle.specs.declared.picks.Picks.{Picks}
 use Rattle.cycle.specs.declared.picks.Picks.the-variants.{One, Settle}
 
 unfoldable pub driverView : Config → ℕ → DriverState
-driverView c k = record { current = getD (c .currents) k 0; pending = pendingOf (c .time) (getD (c .drivers) k noDriver) }
+driverView c k = record { current = drivenOf (getD (c .currents) k 0); pending = pendingOf (c .time) (getD (c .drivers) k noDriver) }
 
 unfoldable pub processView : Config → ℕ → ProcessState
 processView c p =

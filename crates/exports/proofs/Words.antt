@@ -13,12 +13,14 @@ use Rattle.base.specs.Cases.{_∣_, _⇒_}
 use Rattle.base.proofs.Below.{list-length, list-at, NoneOf, none-of}
 use Rattle.base.proofs.Cases.{either}
 use Rattle.rules.specs.Configuration.{Transaction, Configuration, driverIn, pastOf, lastTime}
-use Rattle.waveforms.specs.Pending.{never, pendingOf, noDriver}
+use Rattle.rules.specs.declared.driven.Driven.{Driven}
+use Rattle.rules.specs.declared.driven.Driven.the-variants.{To}
+use Rattle.waveforms.specs.Pending.{never, drivenOf, pendingOf, noDriver}
 use Rattle.waveforms.specs.declared.driver.Driver.{Driver}
 use Rattle.cycle.specs.View.{driverView, processView, viewOf}
 use Rattle.cycle.specs.declared.config.Config.{Config}
 use Rattle.cycle.proofs.ViewLaws.{signals-long, drivers-long, processes-long, variables-long, driver-in}
-use Rattle.exports.specs.Dump.{noProcess, noTransaction, totalWord, driverWord, processWord, wordOf}
+use Rattle.exports.specs.Dump.{noProcess, noTransaction, drivenWord, totalWord, driverWord, processWord, wordOf}
 
 -- the time, where the view's is known
 pub in-time : (c : Config) (v : Configuration) → viewOf c ≡ v → v .time ≤ lastTime → c .time ≤ lastTime
@@ -46,14 +48,14 @@ variable-none c a h =
 same : (b : Bool) → (b ⇒ zero ∣ zero) ≡ zero
 same b = sym (either b 0)
 
-driver-zeros : (j : ℕ) → 0 ≡ driverWord (record { current = 0; pending = [] }) j
+driver-zeros : (j : ℕ) → 0 ≡ driverWord (record { current = To 0; pending = [] }) j
 unfolding driverWord
 driver-zeros j = rw (same (ltb j 10), same (eqb j 1), same (eqb j 0))
 
 pub driver-none : (c : Config) (k j : ℕ) → c .ndrivers ≤ k → 0 ≡ driverWord (driverIn (viewOf c .drivers) k) j
 driver-none c k j h =
     let l : length (viewOf c .drivers) ≤ k = omega (arith, drivers-long c) in
-    rw (List·getD-eq-default (viewOf c .drivers) (record { current = 0; pending = [] }) l) (driver-zeros j)
+    rw (List·getD-eq-default (viewOf c .drivers) (record { current = To 0; pending = [] }) l) (driver-zeros j)
 
 process-zeros : (j : ℕ) → 0 ≡ processWord noProcess j
 unfolding processWord
@@ -65,13 +67,13 @@ process-none c p j h =
     rw (List·getD-eq-default (viewOf c .processes) noProcess l) (process-zeros j)
 
 -- a driver's words
-pub driver-some : (c : Config) (k j w : ℕ) → k < c .ndrivers → w ≡ driverWord (record { current = getD (c .currents) k 0; pending = pendingOf (c .time) (getD (c .drivers) k noDriver) }) j → w ≡ driverWord (driverIn (viewOf c .drivers) k) j
+pub driver-some : (c : Config) (k j w : ℕ) → k < c .ndrivers → w ≡ driverWord (record { current = drivenOf (getD (c .currents) k 0); pending = pendingOf (c .time) (getD (c .drivers) k noDriver) }) j → w ≡ driverWord (driverIn (viewOf c .drivers) k) j
 unfolding driverView
 driver-some c k j w h e = rw (driver-in c k h) e
 
-module _ (d : Driver) (current t j : ℕ) where
+module _ (d : Driver) (current : Driven) (t j : ℕ) where
   abbrev at : ℕ → Transaction
-  at k = record { time = t + getD (d .times) k 0; value = getD (d .values) k 0 }
+  at k = record { time = t + getD (d .times) k 0; value = drivenOf (getD (d .values) k 0) }
 
   pub count-word : (j ≡ 0 → ⊥) → j ≡ 1 → d .count ≡ driverWord (record { current = current; pending = pendingOf t d }) j
   unfolding driverWord pendingOf
@@ -86,7 +88,7 @@ module _ (d : Driver) (current t j : ℕ) where
     unfolding driverWord pendingOf
     time-none m n = rw (ne-eqb j 0 h, ne-eqb j 1 l, lt-ltb j 10 m, List·getD-eq-default (listBelow at (d .count)) noTransaction {n = j - 2} (rw list-length n))
 
-    pub value-word : 10 ≤ j → j - 10 < d .count → getD (d .values) (j - 10) 0 ≡ driverWord (record { current = current; pending = pendingOf t d }) j
+    pub value-word : 10 ≤ j → j - 10 < d .count → drivenWord (drivenOf (getD (d .values) (j - 10) 0)) ≡ driverWord (record { current = current; pending = pendingOf t d }) j
     unfolding driverWord pendingOf
     value-word m n = rw (ne-eqb j 0 h, ne-eqb j 1 l, le-ltb j 10 m, list-at _ noTransaction (d .count) (j - 10) n)
 

@@ -4,6 +4,8 @@ use Prim.Native.Nat.{ℕ, _-_, _/_, _%_}
 use lib.Dec.{ltb}
 use lib.ListN.{length, getD}
 use Rattle.base.specs.Cases.{_∣_, _⇒_, _is_⇒_}
+use Rattle.rules.specs.declared.driven.Driven.{Driven}
+use Rattle.rules.specs.declared.driven.Driven.the-variants.{To, Null}
 use Rattle.rules.specs.Configuration.{Transaction, DriverState, ProcessState, Configuration, driverIn, pastOf}
 
 -- what stands for a process and a transaction that are not there
@@ -11,7 +13,12 @@ abbrev pub noProcess : ProcessState
 noProcess = record { place = 0; standing = 0; deadline = none; fault = 0 }
 
 abbrev pub noTransaction : Transaction
-noTransaction = record { time = 0; value = 0 }
+noTransaction = record { time = 0; value = To 0 }
+
+-- a value as it is, and null as 2 to the 32, which is no 32 bits
+abbrev pub drivenWord : Driven → ℕ
+drivenWord (To v) = v
+drivenWord Null = 4294967296
 
 -- whether a deadline is set, and it
 abbrev pub isSet : Option ℕ → ℕ
@@ -32,13 +39,13 @@ totalWord C j =
     ∣ j is 4 ⇒ length (C .drivers)
     ∣ length (C .processes)
 
--- a driver: its current value, how many transactions are pending, the times of the first eight and their values
+-- a driver: its current value or null, how many transactions are pending, the times of the first eight and what they carry
 unfoldable pub driverWord : DriverState → ℕ → ℕ
 driverWord D j =
-    j is 0 ⇒ D .current
+    j is 0 ⇒ drivenWord (D .current)
     ∣ j is 1 ⇒ length (D .pending)
     ∣ ltb j 10 ⇒ getD (D .pending) (j - 2) noTransaction .time
-    ∣ getD (D .pending) (j - 10) noTransaction .value
+    ∣ drivenWord (getD (D .pending) (j - 10) noTransaction .value)
 
 -- a process: its place, standing and fault, whether it has a deadline, and that
 unfoldable pub processWord : ProcessState → ℕ → ℕ

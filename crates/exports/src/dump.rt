@@ -4,12 +4,13 @@ ghost use Prim.Native.Nat.{_≤_, _<_};
 ghost use lib.ListN.{length, getD};
 ghost use Rattle.base.specs.Below.{listBelow};
 ghost use Rattle.rules.specs.Configuration.{driverIn, pastOf, lastTime};
-ghost use Rattle.waveforms.specs.Pending.{pendingOf};
+ghost use Rattle.waveforms.specs.Pending.{drivenOf, pendingOf};
 ghost use Rattle.cycle.specs.View.{viewOf};
-ghost use Rattle.exports.specs.Dump.{noProcess, totalWord, driverWord, processWord, wordOf};
+ghost use Rattle.exports.specs.Dump.{noProcess, drivenWord, totalWord, driverWord, processWord, wordOf};
 use cycle::config::Config;
 use waveforms::driver::Driver;
 use waveforms::driver::NEVER;
+use waveforms::driver::NULL;
 
 fn total_word(c: Config, j: usize) -> u64
     ensures { λ r. ⌜ r ≡ totalWord (viewOf c) j ⌝ }
@@ -47,14 +48,21 @@ fn variable_word(c: Config, a: usize) -> u64
     0
 }
 
-// Word j of a driver with that current value, at that time.
+// The word of what a driver's arrays hold: null is 2 to the 32.
+fn driven_word(w: u32) -> u64
+    ensures { λ r. ⌜ r ≡ drivenWord (drivenOf w) ⌝ }
+{
+    if w == NULL { 4294967296 } else { w as u64 }
+}
+
+// Word j of a driver with that current value, or null, at that time.
 fn waveform_word(d: Driver, current: u32, time: u64, j: usize) -> u64
     requires { ⌜ time ≤ lastTime ⌝ }
     requires { ⌜ j < 18 ⌝ }
-    ensures { λ r. ⌜ r ≡ driverWord (record { current = current; pending = pendingOf time d }) j ⌝ }
+    ensures { λ r. ⌜ r ≡ driverWord (record { current = drivenOf current; pending = pendingOf time d }) j ⌝ }
 {
     if j == 0 {
-        return current as u64;
+        return driven_word(current);
     }
     let n = d.count;
     if j == 1 {
@@ -69,7 +77,7 @@ fn waveform_word(d: Driver, current: u32, time: u64, j: usize) -> u64
     }
     let k = j - 10;
     if k < n {
-        return d.values[k] as u64;
+        return driven_word(d.values[k]);
     }
     0
 }

@@ -48,7 +48,7 @@ pub extern "C" fn gontrafiby_xor(x: u32, y: u32) -> u32
     values::xor(x, y)
 }
 
-// The number of the first of the rules 1 to 8 that the model breaks, or 0.
+// The number of the first rule that the model breaks, or 0.
 #[no_mangle]
 pub extern "C" fn gontrafiby_judge(model: &[u8]) -> u32
     ensures { λ r. ⌜ r ≡ refusalOf (now (model .entry)) ⌝ }

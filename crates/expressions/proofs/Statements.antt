@@ -41,18 +41,20 @@ module _ {v : Value} {x : ℕ} {r : ℤ} (next : ℕ → Effect) (h : v ≡ Of x
   unfolding withDelay
   delay-kept t = let s : ltZ (int x) (pos 0) ≡ false = rw (int-read x l e) at t in rw (h, s, not-negative x s)
 
--- statement n, which the program read as s
-module _ {m index : List ℕ} {n : ℕ} (call : Runs m index × (n < length (modelOf m .statements))) {s : StatementRecord} (read : s ≡ statementAt (modelOf m) n) where
-  pub statement-fits : StatementFits (modelOf m) (ownerOf (modelOf m) n) s
-  statement-fits = rw read (call .0 .facts .statement n (call .1) .fits)
+-- statement n
+module _ {m index : List ℕ} {n : ℕ} (call : Runs m index × (n < length (modelOf m .statements))) where
+  -- what the call that reads its driver asks
+  pub driver-call : Starts m index × (DriversBelow m index (length (modelOf m .statements)) × (n < length (modelOf m .statements)))
+  driver-call = let u = call .0 .usable in (u .starts, (u .driver, call .1))
 
-  -- what the call that reads the driver asks, and what it gives
-  pub driver-call : s .kind ≡ 2 → Starts m index × (DriversBelow m index (length (modelOf m .statements)) × ((n < length (modelOf m .statements)) × (statementAt (modelOf m) n .kind ≡ 2)))
-  driver-call e = let u = call .0 .usable in (u .starts, (u .driver, (call .1, rw read at e)))
+  -- the program read it as s
+  module _ {s : StatementRecord} (read : s ≡ statementAt (modelOf m) n) where
+    pub statement-fits : StatementFits (modelOf m) (ownerOf (modelOf m) n) s
+    statement-fits = rw read (call .0 .facts .statement n (call .1) .fits)
 
-  -- the last arm is never taken
-  pub no-statement : {A : Type 0} → NoneOf (s .kind) 0 6 → A
-  no-statement h = absurd (none-of 0 6 (s .kind) h (omega arith) (omega (arith, statement-fits .kind)))
+    -- the last arm is never taken
+    pub no-statement : {A : Type 0} → NoneOf (s .kind) 0 7 → A
+    no-statement h = absurd (none-of 0 7 (s .kind) h (omega arith) (omega (arith, statement-fits .kind)))
 
 -- the place after i, r being the record of process p
 module _ (M : Model) (p i : ℕ) (r : ProcessRecord) (e : r ≡ processAt M p) where

@@ -7,6 +7,7 @@ ghost use Rattle.base.specs.Cases.{_∣_, _⇒_};
 ghost use Rattle.blocks.specs.Records.{modelOf, statementAt};
 ghost use Rattle.fields.specs.Fields.{ownerOf};
 ghost use Rattle.fields.specs.Facts.{Spans};
+ghost use Rattle.rules.specs.declared.driven.Driven.the-variants.{To};
 ghost use Rattle.rules.specs.declared.effect.Effect.the-variants.{Skip, Store, Schedule, Jump, WaitFor};
 ghost use Rattle.rules.specs.Statements.{withValue, withDelay, effectBy, nextPlace};
 ghost use Rattle.expressions.specs.Reading.{arrays, Runs};
@@ -17,6 +18,7 @@ use blocks::index::process_at;
 use blocks::index::statement_at;
 use fields::ABSENT;
 use model::owners::assignment_driver;
+use rules::driven::Driven;
 use rules::effect::Effect;
 use rules::value::Value;
 
@@ -44,22 +46,28 @@ fn branch(a: usize, v: Value) -> Effect
     }
 }
 
-// A schedule on driver k: fault 2 for a negative delay.
+// A schedule of a value or null on driver k: fault 2 for a negative delay.
+fn schedule(k: usize, c: Value, v: Driven) -> Effect
+    ensures { λ r. ⌜ r ≡ withDelay c (λ d. Schedule k d v) ⌝ }
+{
+    match c {
+        Value::Fault(f) => Effect::Stop(f),
+        Value::Of(d) => {
+            if int(d) < 0 {
+                Effect::Stop(2)
+            } else {
+                Effect::Schedule(k, d, v)
+            }
+        }
+    }
+}
+
 fn assign(k: usize, v: Value, c: Value) -> Effect
-    ensures { λ r. ⌜ r ≡ withValue v (λ x. withDelay c (λ d. Schedule k d x)) ⌝ }
+    ensures { λ r. ⌜ r ≡ withValue v (λ x. withDelay c (λ d. Schedule k d (To x))) ⌝ }
 {
     match v {
         Value::Fault(f) => Effect::Stop(f),
-        Value::Of(x) => match c {
-            Value::Fault(f) => Effect::Stop(f),
-            Value::Of(d) => {
-                if int(d) < 0 {
-                    Effect::Stop(2)
-                } else {
-                    Effect::Schedule(k, d, x)
-                }
-            }
-        },
+        Value::Of(x) => schedule(k, c, Driven::To(x)),
     }
 }
 
@@ -111,6 +119,11 @@ pub fn effect_of<'a>(
             }
             wait_for(eval(m, index, variables, signals, s.c))
         }
+        6 => schedule(
+            assignment_driver(m, index, n),
+            eval(m, index, variables, signals, s.c),
+            Driven::Null,
+        ),
         _ => Effect::Skip,
     }
 }

@@ -10,7 +10,7 @@ use mir.Syntax.{w64}
 use mir.Val.{Fits}
 use borrow.Author.Tests.{ne-eqb}
 use Rattle.base.specs.Below.{allBelow, every}
-use Rattle.blocks.specs.Records.{Model, signalAt, variableAt, processAt, driverAt, nodeAt, statementAt}
+use Rattle.blocks.specs.Records.{plain, register, Model, signalAt, variableAt, processAt, driverAt, nodeAt, statementAt}
 use Rattle.blocks.specs.Totals.{TotalsOf}
 use Rattle.blocks.specs.declared.index.Totals.{Totals}
 use Rattle.blocks.specs.declared.records.SignalRecord.{SignalRecord}
@@ -21,7 +21,7 @@ use Rattle.blocks.specs.declared.records.NodeRecord.{NodeRecord}
 use Rattle.blocks.specs.declared.records.StatementRecord.{StatementRecord}
 use Rattle.fields.specs.Fields.{valueOk, signalOk, variableOk, endOf, dueStart, processOk, covered, driverOk, nodeOk, ownerOf, inSpan, absent, statementOk, fieldsOk}
 
-pub signal-form : (d : SignalRecord) (r : Bool) → r ≡ valueOk (d .ty) (d .start) → ((leb (d .ty) 1 && r) && d .zeros) ≡ signalOk d
+pub signal-form : (d : SignalRecord) (r : Bool) → r ≡ valueOk (d .ty) (d .start) → ((((leb (d .ty) 1 && leb (d .kind) register) && (eqb (d .kind) plain || eqb (d .ty) 1)) && r) && d .zeros) ≡ signalOk d
 unfolding signalOk every
 signal-form d r e = rw e
 
@@ -121,8 +121,12 @@ module _ (M : Model) (t : Totals) (h : TotalsOf M t) where
     unfolding statementOk every
     wait-form e r q = rw (e, q, h .signals, h .nodes)
 
-    pub other-form : (s .kind ≡ 0 → ⊥) → (s .kind ≡ 1 → ⊥) → (s .kind ≡ 2 → ⊥) → (s .kind ≡ 3 → ⊥) → (s .kind ≡ 4 → ⊥) → (s .kind ≡ 5 → ⊥) → false ≡ statementOk M n s
+    pub null-set : s .kind ≡ 6 → ((((ltb (s .a) (t .signals) && eqb (s .b) 0) && ltb (s .c) (t .nodes)) && eqb (s .set) 0) && s .zeros) ≡ statementOk M n s
+    unfolding statementOk every
+    null-set e = rw (e, h .signals, h .nodes)
+
+    pub other-form : (s .kind ≡ 0 → ⊥) → (s .kind ≡ 1 → ⊥) → (s .kind ≡ 2 → ⊥) → (s .kind ≡ 3 → ⊥) → (s .kind ≡ 4 → ⊥) → (s .kind ≡ 5 → ⊥) → (s .kind ≡ 6 → ⊥) → false ≡ statementOk M n s
     unfolding statementOk
-    other-form a b c d e f =
+    other-form a b c d e f g =
         let k = s .kind in
-        rw (ne-eqb k 0 a, ne-eqb k 1 b, ne-eqb k 2 c, ne-eqb k 3 d, ne-eqb k 4 e, ne-eqb k 5 f)
+        rw (ne-eqb k 0 a, ne-eqb k 1 b, ne-eqb k 2 c, ne-eqb k 3 d, ne-eqb k 4 e, ne-eqb k 5 f, ne-eqb k 6 g)

@@ -4,11 +4,11 @@ use mathlib.Core.Bool.{true, false≢true}
 use mathlib.Core.Logic.{⊎-elim}
 use Prim.Native.Nat.{ℕ, _≤_, _<_}
 use native.Mathlib.Omega.{arith}
-use borrow.Author.Tests.{ne-eqb, ltb-true, leb-true}
+use borrow.Author.Tests.{ne-eqb, eqb-true, ltb-true, leb-true}
 use lib.Dec.{T, leb, lit≤}
 use lib.ListN.{length}
 use Rattle.base.proofs.Below.{every-at, all-at, among, split}
-use Rattle.blocks.specs.Records.{Model, signalAt, variableAt, nodeAt}
+use Rattle.blocks.specs.Records.{plain, Model, signalAt, variableAt, nodeAt}
 use Rattle.blocks.specs.declared.records.NodeRecord.{NodeRecord}
 use Rattle.fields.specs.Fields.{valueOk, signalOk, variableOk, nodeOk, fieldsOk}
 use Rattle.fields.specs.Facts.{SignalFits, VariableFits}
@@ -26,7 +26,11 @@ module _ (M : Model) (ok : fieldsOk M ≡ true) where
   unfolding fieldsOk signalOk
   signal-fits n h =
       let g = all-at (λ i. signalOk (signalAt M i)) _ n h (every-at _ 0 ok) in
-      record { ty = leb-true _ 1 (every-at _ 0 g); start = every-at _ 1 g }
+      record {
+        ty = leb-true _ 1 (every-at _ 0 g);
+        start = every-at _ 3 g;
+        guarded = λ h. eqb-true _ 1 (rw (ne-eqb (signalAt M n .kind) plain (λ e. omega arith)) at (every-at _ 2 g));
+      }
 
   pub variable-fits : (n : ℕ) → n < length (M .variables) → VariableFits M n
   unfolding fieldsOk variableOk

@@ -1,7 +1,7 @@
 -- The laws of statement fields: what rule 5 says of a statement by its kind. Assumes nothing.
 use mathlib.Core.Path.{_≡_, refl}
 use mathlib.Core.Bool.{true, false≢true}
-use mathlib.Core.Logic.{⊎-elim}
+use mathlib.Core.Logic.{_⊎_, ⊎-elim}
 use Prim.Native.Nat.{ℕ, _^_, _≤_, _<_}
 use native.Mathlib.Omega.{arith}
 use borrow.Author.Tests.{ne-eqb, ltb-true, leb-true, eqb-true}
@@ -23,23 +23,26 @@ present M x h f =
     ⊎-elim (λ (u : isNode M x ≡ true). ltb-true _ _ u) (λ (u : eqb x absent ≡ true). absurd (f (eqb-true _ _ u))) (or-cases (isNode M x) _ h)
 
 module _ (M : Model) (n : ℕ) (s : StatementRecord) (ok : statementOk M n s ≡ true) where
-  pub kind-most : s .kind ≤ 5
+  pub kind-most : s .kind ≤ 6
   unfolding statementOk
   kind-most =
       let k = s .kind in
-      ⊎-elim (λ (l : k < 6). omega arith)
-      (λ (l : 6 ≤ k).
+      ⊎-elim (λ (l : k < 7). omega arith)
+      (λ (l : 7 ≤ k).
       absurd
-      (false≢true (rw (ne-eqb k 0 (omega arith), ne-eqb k 1 (omega arith), ne-eqb k 2 (omega arith), ne-eqb k 3 (omega arith), ne-eqb k 4 (omega arith), ne-eqb k 5 (omega arith)) at ok)))
-      (split k 6)
+      (false≢true
+      (rw (ne-eqb k 0 (omega arith), ne-eqb k 1 (omega arith), ne-eqb k 2 (omega arith), ne-eqb k 3 (omega arith), ne-eqb k 4 (omega arith), ne-eqb k 5 (omega arith), ne-eqb k 6 (omega arith)) at ok)))
+      (split k 7)
 
   pub names-variable : s .kind ≡ 1 → s .a < length (M .variables)
   unfolding statementOk
   names-variable e = ltb-true _ _ (every-at _ 0 (rw e at ok))
 
-  pub names-signal : s .kind ≡ 2 → s .a < length (M .signals)
+  -- a signal assignment, of a value or of null
+  pub names-signal : (s .kind ≡ 2) ⊎ (s .kind ≡ 6) → s .a < length (M .signals)
   unfolding statementOk
-  names-signal e = ltb-true _ _ (every-at _ 0 (rw e at ok))
+  names-signal h =
+      ⊎-elim (λ (e : s .kind ≡ 2). ltb-true _ _ (every-at _ 0 (rw e at ok))) (λ (e : s .kind ≡ 6). ltb-true _ _ (every-at _ 0 (rw e at ok))) h
 
   -- an assigned value or a branch's condition
   pub value-node : 1 ≤ s .kind → s .kind ≤ 3 → s .b < length (M .nodes)
@@ -52,9 +55,10 @@ module _ (M : Model) (n : ℕ) (s : StatementRecord) (ok : statementOk M n s ≡
   pub value-at : (k : ℕ) → s .kind ≡ k → T (leb 1 k) → T (leb k 3) → s .b < length (M .nodes)
   value-at k e l h = value-node (rw e (lit≤ l)) (rw e (lit≤ h))
 
-  pub delay-node : s .kind ≡ 2 → s .c < length (M .nodes)
+  pub delay-node : (s .kind ≡ 2) ⊎ (s .kind ≡ 6) → s .c < length (M .nodes)
   unfolding statementOk
-  delay-node e = ltb-true _ _ (every-at _ 2 (rw e at ok))
+  delay-node h =
+      ⊎-elim (λ (e : s .kind ≡ 2). ltb-true _ _ (every-at _ 2 (rw e at ok))) (λ (e : s .kind ≡ 6). ltb-true _ _ (every-at _ 2 (rw e at ok))) h
 
   pub target : 3 ≤ s .kind → s .kind ≤ 4 → Spans M (ownerOf M n) (s .a)
   unfolding statementOk inSpan

@@ -6,10 +6,11 @@ use lib.ListN.{length}
 use Rattle.blocks.specs.Records.{Model, signalAt, variableAt, processAt}
 use Rattle.fields.specs.Fields.{endOf, ownerOf, valueOk}
 
--- signal n: its type, and a starting value of that type
+-- signal n: its type, a starting value of that type, and a bus or a register is a logic signal
 pub record SignalFits (M : Model) (n : ℕ) : Type 0 where
   pub ty : signalAt M n .ty ≤ 1
   pub start : valueOk (signalAt M n .ty) (signalAt M n .start) ≡ true
+  pub guarded : 1 ≤ signalAt M n .kind → signalAt M n .ty ≡ 1
 
 -- variable n: its type, a starting value of that type, and its process
 pub record VariableFits (M : Model) (n : ℕ) : Type 0 where

@@ -7,7 +7,7 @@ use lib.ListN.{length}
 use Rattle.base.specs.Below.{allBelow, every}
 use Rattle.base.specs.Cases.{_∣_, _is_⇒_}
 use Rattle.base.specs.Course.{firstWith}
-use Rattle.blocks.specs.Records.{Model, signalAt, variableAt, processAt, driverAt, nodeAt, statementAt}
+use Rattle.blocks.specs.Records.{plain, register, Model, signalAt, variableAt, processAt, driverAt, nodeAt, statementAt}
 use Rattle.blocks.specs.declared.records.SignalRecord.{SignalRecord}
 use Rattle.blocks.specs.declared.records.VariableRecord.{VariableRecord}
 use Rattle.blocks.specs.declared.records.DriverRecord.{DriverRecord}
@@ -25,8 +25,16 @@ valueOk ty x =
     ∣ ty is 2 ⇒ leb x 1
     ∣ false
 
+-- "Byte 1 of a signal record becomes 0 plain, 1 bus, 2 register; 1 and 2 are for logic signals only"
 unfoldable pub signalOk : SignalRecord → Bool
-signalOk s = every (leb (s .ty) 1 ∷ valueOk (s .ty) (s .start) ∷ s .zeros ∷ [])
+signalOk s =
+    every
+    (leb (s .ty) 1
+    ∷ leb (s .kind) register
+    ∷ (eqb (s .kind) plain || eqb (s .ty) 1)
+    ∷ valueOk (s .ty) (s .start)
+    ∷ s .zeros
+    ∷ [])
 
 unfoldable pub variableOk : Model → VariableRecord → Bool
 variableOk M v = every (valueOk (v .ty) (v .start) ∷ ltb (v .process) (length (M .processes)) ∷ v .zeros ∷ [])
@@ -89,6 +97,7 @@ statementOk M n s =
     ∣ s .kind is 3 ⇒ every (inSpan M (ownerOf M n) (s .a) ∷ isNode M (s .b) ∷ eqb (s .c) 0 ∷ eqb (s .set) 0 ∷ s .zeros ∷ [])
     ∣ s .kind is 4 ⇒ every (inSpan M (ownerOf M n) (s .a) ∷ eqb (s .b) 0 ∷ eqb (s .c) 0 ∷ eqb (s .set) 0 ∷ s .zeros ∷ [])
     ∣ s .kind is 5 ⇒ every (eqb (s .a) 0 ∷ isNodeOrAbsent M (s .b) ∷ isNodeOrAbsent M (s .c) ∷ ltb (s .set) (2 ^ length (M .signals)) ∷ s .zeros ∷ [])
+    ∣ s .kind is 6 ⇒ every (ltb (s .a) (length (M .signals)) ∷ eqb (s .b) 0 ∷ isNode M (s .c) ∷ eqb (s .set) 0 ∷ s .zeros ∷ [])
     ∣ false
 
 unfoldable pub fieldsOk : Model → Bool

@@ -18,6 +18,8 @@ use blocks::index::statement_at;
 use blocks::index::variable_at;
 use blocks::records::DriverRecord;
 use blocks::records::NodeRecord;
+use blocks::records::PLAIN;
+use blocks::records::REGISTER;
 use blocks::records::SignalRecord;
 use blocks::records::StatementRecord;
 use blocks::records::VariableRecord;
@@ -40,7 +42,11 @@ fn value_ok(ty: usize, x: u32) -> bool
 fn signal_ok(d: SignalRecord) -> bool
     ensures { λ r. ⌜ r ≡ signalOk d ⌝ }
 {
-    (d.ty <= 1) & value_ok(d.ty, d.start) & d.zeros
+    (d.ty <= 1)
+        & (d.kind <= REGISTER)
+        & ((d.kind == PLAIN) | (d.ty == 1))
+        & value_ok(d.ty, d.start)
+        & d.zeros
 }
 
 fn signals_ok<'a>(m: &'a [u8], index: &'a Index, t: Totals) -> bool
@@ -247,6 +253,7 @@ fn statement_ok<'a>(m: &'a [u8], index: &'a Index, t: Totals, n: usize, s: State
                 & set_ok(s.set, t.signals)
                 & s.zeros
         }
+        6 => (s.a < t.signals) & (s.b == 0) & (s.c < t.nodes) & (s.set == 0) & s.zeros,
         _ => false,
     }
 }

@@ -14,13 +14,13 @@ use Rattle.model.specs.Owners.{driverFor}
 use Rattle.model.specs.Index.{DriversBelow, DriversIn, Usable}
 
 module _ (m index : List ℕ) (n v : ℕ) where
-  pub drivers-next : assignmentsAt + n < length index → (statementAt (modelOf m) n .kind ≡ 2 → v ≡ driverFor (modelOf m) (ownerOf (modelOf m) n) (statementAt (modelOf m) n .a)) → DriversBelow m index n → DriversBelow m (set index (assignmentsAt + n) v) (n + 1)
+  pub drivers-next : assignmentsAt + n < length index → v ≡ driverFor (modelOf m) (ownerOf (modelOf m) n) (statementAt (modelOf m) n .a) → DriversBelow m index n → DriversBelow m (set index (assignmentsAt + n) v) (n + 1)
   drivers-next h e t =
       below-more
-      (λ k. statementAt (modelOf m) k .kind ≡ 2 → getD (set index (assignmentsAt + n) v) (assignmentsAt + k) 0 ≡ driverFor (modelOf m) (ownerOf (modelOf m) k) (statementAt (modelOf m) k .a))
+      (λ k. getD (set index (assignmentsAt + n) v) (assignmentsAt + k) 0 ≡ driverFor (modelOf m) (ownerOf (modelOf m) k) (statementAt (modelOf m) k .a))
       n
-      (λ k l q. getD-set-other index (assignmentsAt + n) (assignmentsAt + k) v 0 (λ u. omega arith) ∙ t k l q)
-      (λ q. getD-set-same index (assignmentsAt + n) v 0 h ∙ e q)
+      (λ k l. getD-set-other index (assignmentsAt + n) (assignmentsAt + k) v 0 (λ u. omega arith) ∙ t k l)
+      (getD-set-same index (assignmentsAt + n) v 0 h ∙ e)
 
 -- what loading an accepted model gives
 pub usable : {m index : List ℕ} → Accepted (modelOf m) → DriversIn m index → Usable m index

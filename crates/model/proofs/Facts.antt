@@ -1,4 +1,4 @@
--- What acceptance gives: the facts of an accepted model, from the rules 4 to 8. Assumes nothing.
+-- What acceptance gives: the facts of an accepted model, from the rules of its records. Assumes nothing.
 use mathlib.Core.Path.{_≡_, refl, sym, _∙_}
 use mathlib.Core.Bool.{true}
 use mathlib.Core.Logic.{⊎-elim}
@@ -21,6 +21,7 @@ use Rattle.trees.specs.Trees.{integer, boolean, lowerOk, typeOf, statementTyped
 use Rattle.trees.proofs.Operands.{lower-a, lower-b, lower-ok, size-most}
 use Rattle.trees.proofs.NodeTypes.{type-integer, type-logic, type-variable, type-signal, type-not, type-logical, type-negate, type-arithmetic, type-equal, type-less, logical-known, integers-known, equal-known}
 use Rattle.model.specs.Rules.{Accepted}
+use Rattle.model.specs.Nulls.{nullOk, nullsOk}
 use Rattle.model.specs.Owners.{statementOwned, ownersOk}
 use Rattle.model.specs.Facts.{TotalsFit, NodeFits, NodeTyped, StatementOf, Facts}
 use Rattle.model.proofs.Own.{reads}
@@ -145,7 +146,7 @@ module _ (M : Model) (h : Accepted M) where
   types-known n l = leb-true _ 2 (all-at (λ i. leb (typeOf M i) 2) _ n l (and-left (allBelow (λ i. leb (typeOf M i) 2) (length (M .nodes))) _ (h .types)))
 
   statement : (n : ℕ) → n < length (M .statements) → StatementOf M n
-  unfolding typesOk ownersOk
+  unfolding typesOk ownersOk nullsOk
   statement n l =
       let o = owner-below M (h .fields) n l (processes-some M (h .totals)) in
       record {
@@ -155,7 +156,8 @@ module _ (M : Model) (h : Accepted M) where
             statement-fits M n (statementAt M n)
             (statement-ok M n (h .fields) l)
             (all-at (λ i. statementTyped M (statementAt M i)) _ n l (and-right (allBelow (λ i. leb (typeOf M i) 2) (length (M .nodes))) _ (h .types)))
-            (all-at (λ i. statementOwned M (ownerOf M i) (statementAt M i)) _ n l (every-at _ 2 (h .owners)));
+            (all-at (λ i. statementOwned M (ownerOf M i) (statementAt M i)) _ n l (every-at _ 2 (h .owners)))
+            (all-at (λ i. nullOk M (statementAt M i)) _ n l (h .nulls));
       }
 
   one-driver : (i j : ℕ) → i < length (M .drivers) → j < length (M .drivers) → driverAt M i .signal ≡ driverAt M j .signal → signalAt M (driverAt M i .signal) .ty ≡ integer → i ≡ j

@@ -1,17 +1,18 @@
--- The laws of rule 8 as the code works it out, of what was read of a statement, a signal or the drivers. Assumes nothing.
+-- The laws of rules 8 and 20 as the code works them out, of what was read of a statement, a signal or the drivers. Assumes nothing.
 use mathlib.Core.Path.{_≡_}
-use mathlib.Core.Bool.{Bool, true, _&&_, _||_}
+use mathlib.Core.Bool.{Bool, true, not, _&&_, _||_}
 use Prim.Native.Nat.{ℕ, _≤_}
 use native.Mathlib.Omega.{arith}
 use lib.Dec.{eqb, leb, ltb}
 use lib.ListN.{length}
 use borrow.Author.Tests.{ne-eqb}
 use Rattle.base.specs.Below.{allBelow, every}
-use Rattle.blocks.specs.Records.{Model, signalAt, variableAt, statementAt}
+use Rattle.blocks.specs.Records.{plain, Model, signalAt, variableAt, statementAt}
 use Rattle.blocks.specs.Totals.{totalsOk}
 use Rattle.blocks.specs.declared.records.StatementRecord.{StatementRecord}
 use Rattle.blocks.proofs.Lookup.{drivers-most}
 use Rattle.fields.specs.Fields.{absent, ownerOf}
+use Rattle.model.specs.Nulls.{nullOk}
 use Rattle.model.specs.Owners.{driversRise, driversOf, singleOk, driverFor, readsOwn, statementOwned, ownersOk}
 use Rattle.model.proofs.Drivers.{driver-most}
 
@@ -35,12 +36,25 @@ module _ (M : Model) (s u : StatementRecord) (e : s ≡ u) where
     unfolding statementOwned
     wait-owned k x y q r = rw (← e, ← f, k, q, r)
 
+    pub null-owned : s .kind ≡ 6 → (d t : ℕ) (x : Bool) → d ≡ driverFor M o (u .a) → t ≡ length (M .drivers) → x ≡ readsOwn M p (s .c) → (ltb d t && x) ≡ statementOwned M o u
+    unfolding statementOwned
+    null-owned k d t x q r v = rw (q, r, v, ← e, ← f, k)
+
     pub driver-named : (d : ℕ) → d ≡ driverFor M p (s .a) → d ≡ driverFor M o (u .a)
     driver-named d q = rw (← e, ← f) q
 
-  pub other-owned : (o : ℕ) → (s .kind ≡ 1 → ⊥) → (s .kind ≡ 2 → ⊥) → (s .kind ≡ 3 → ⊥) → (s .kind ≡ 5 → ⊥) → true ≡ statementOwned M o u
+  pub other-owned : (o : ℕ) → (s .kind ≡ 1 → ⊥) → (s .kind ≡ 2 → ⊥) → (s .kind ≡ 3 → ⊥) → (s .kind ≡ 5 → ⊥) → (s .kind ≡ 6 → ⊥) → true ≡ statementOwned M o u
   unfolding statementOwned
-  other-owned o f g h i = rw (← e, ne-eqb (s .kind) 1 f, ne-eqb (s .kind) 2 g, ne-eqb (s .kind) 3 h, ne-eqb (s .kind) 5 i)
+  other-owned o f g h i j =
+      rw (← e, ne-eqb (s .kind) 1 f, ne-eqb (s .kind) 2 g, ne-eqb (s .kind) 3 h, ne-eqb (s .kind) 5 i, ne-eqb (s .kind) 6 j)
+
+  pub not-null : (s .kind ≡ 6 → ⊥) → true ≡ nullOk M u
+  unfolding nullOk
+  not-null f = rw (← e, ne-eqb (s .kind) 6 f)
+
+  pub null-form : s .kind ≡ 6 → (k : ℕ) → k ≡ signalAt M (s .a) .kind → not (eqb k plain) ≡ nullOk M u
+  unfolding nullOk
+  null-form k x q = rw (← e, k, q)
 
 module _ (M : Model) where
   pub driver-small : totalsOk M ≡ true → (p s d : ℕ) → d ≡ driverFor M p s → d ≤ 64

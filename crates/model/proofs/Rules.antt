@@ -12,6 +12,7 @@ use Rattle.blocks.specs.Totals.{totalsOk, blockRules}
 use Rattle.blocks.proofs.BlockForms.{blocks-numbered}
 use Rattle.fields.specs.Fields.{fieldsOk}
 use Rattle.trees.specs.Trees.{treesOk, typesOk}
+use Rattle.model.specs.Nulls.{nullsOk}
 use Rattle.model.specs.Owners.{ownersOk}
 use Rattle.model.specs.Rules.{rulesOf, refusalOf, Accepted, recordRules}
 use Rattle.model.specs.Index.{DriversIn, Judged}
@@ -40,22 +41,22 @@ module _ (m : List ℕ) where
     unfolding blockRules
     totals-hold = none-fails 4 (blockRules m) (blocks-numbered m) h 3
 
-  pub rules-numbered : numbered 8 (rulesOf m) ≡ true
+  pub rules-numbered : numbered 20 (rulesOf m) ≡ true
   unfolding rulesOf blockRules recordRules
   rules-numbered = refl
 
-  pub refusal-most : refusalOf m ≤ 8
+  pub refusal-most : refusalOf m ≤ 20
   unfolding refusalOf
-  refusal-most = first-most 8 (rulesOf m) rules-numbered
+  refusal-most = first-most 20 (rulesOf m) rules-numbered
 
   -- a model without refusal meets the rules of its records
   pub accepted : refusalOf m ≡ 0 → Accepted (modelOf m)
   unfolding refusalOf rulesOf blockRules recordRules
   accepted h =
-      let holds = none-fails 8 (rulesOf m) rules-numbered h in
-      record { totals = holds 3; fields = holds 4; trees = holds 5; types = holds 6; owners = holds 7 }
+      let holds = none-fails 20 (rulesOf m) rules-numbered h in
+      record { totals = holds 3; fields = holds 4; trees = holds 5; types = holds 6; owners = holds 7; nulls = holds 8 }
 
--- what the rules 5 to 8 give, by the first of them that fails
+-- what the rules of the records give, by the first of them that fails
 module _ (m index : List ℕ) where
   abbrev M : Model
   M = modelOf m
@@ -79,16 +80,21 @@ module _ (m index : List ℕ) where
         unfolding recordRules firstFailing
         owners-fail d = record { refusal = rw (a, b, c, d); usable = λ z. absurd (omega arith) }
 
-        pub all-hold : ownersOk M ≡ true → DriversIn m index → Judged m index 0
-        unfolding recordRules firstFailing
-        all-hold d i =
-            let s = i .types .starts in
-            record {
-              refusal = rw (a, b, c, d);
-              usable = λ z. record {
-                starts = s;
-                accepted = record { totals = s .totals; fields = a; trees = b; types = c; owners = d };
-                type = i .types .type;
-                driver = i .driver;
-              };
-            }
+        module _ (d : ownersOk M ≡ true) where
+          pub nulls-fail : nullsOk M ≡ false → Judged m index 20
+          unfolding recordRules firstFailing
+          nulls-fail e = record { refusal = rw (a, b, c, d, e); usable = λ z. absurd (omega arith) }
+
+          pub all-hold : nullsOk M ≡ true → DriversIn m index → Judged m index 0
+          unfolding recordRules firstFailing
+          all-hold e i =
+              let s = i .types .starts in
+              record {
+                refusal = rw (a, b, c, d, e);
+                usable = λ z. record {
+                  starts = s;
+                  accepted = record { totals = s .totals; fields = a; trees = b; types = c; owners = d; nulls = e };
+                  type = i .types .type;
+                  driver = i .driver;
+                };
+              }

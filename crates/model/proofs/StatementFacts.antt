@@ -1,21 +1,24 @@
--- What acceptance gives of a statement, by its kind, from the rules 5, 7 and 8. Assumes nothing.
+-- What acceptance gives of a statement, by its kind, from the rules 5, 7, 8 and 20. Assumes nothing.
 use mathlib.Core.Path.{_≡_}
 use mathlib.Core.Bool.{Bool, true, _||_}
+use mathlib.Core.Logic.{inl, inr}
 use Prim.Native.Nat.{ℕ}
 use native.Mathlib.Omega.{arith}
-use borrow.Author.Tests.{ne-eqb, ltb-true, eqb-true}
-use lib.Dec.{eqb}
+use borrow.Author.Tests.{ne-eqb, ltb-true, eqb-true, eqb-false, not-true}
+use lib.Dec.{eqb, ltb}
+use lib.ListN.{length}
 use Rattle.base.proofs.Below.{every-at, and-left, and-right}
-use Rattle.blocks.specs.Records.{Model, signalAt, variableAt}
+use Rattle.blocks.specs.Records.{plain, Model, signalAt, variableAt}
 use Rattle.blocks.specs.declared.records.StatementRecord.{StatementRecord}
 use Rattle.fields.specs.Fields.{absent, isNodeOrAbsent, ownerOf, statementOk}
 use Rattle.fields.proofs.StatementFields.{present, kind-most, names-variable, names-signal, value-node, delay-node, target, wait-condition, wait-delay, wait-set}
 use Rattle.trees.specs.Trees.{integer, boolean, typeOf, statementTyped}
-use Rattle.model.specs.Owners.{readsOwn, statementOwned}
-use Rattle.model.specs.Facts.{Expression, VariableAssignment, SignalAssignment, Branch, Wait, StatementFits}
+use Rattle.model.specs.Nulls.{nullOk}
+use Rattle.model.specs.Owners.{driverFor, readsOwn, statementOwned}
+use Rattle.model.specs.Facts.{Expression, VariableAssignment, SignalAssignment, NullAssignment, Branch, Wait, StatementFits}
 
--- a statement of process p, by the three rules that speak of it
-module _ (M : Model) (n : ℕ) (s : StatementRecord) (ok : statementOk M n s ≡ true) (typed : statementTyped M s ≡ true) (owned : statementOwned M (ownerOf M n) s ≡ true) where
+-- a statement of process p, by the four rules that speak of it
+module _ (M : Model) (n : ℕ) (s : StatementRecord) (ok : statementOk M n s ≡ true) (typed : statementTyped M s ≡ true) (owned : statementOwned M (ownerOf M n) s ≡ true) (null : nullOk M s ≡ true) where
   abbrev p : ℕ
   p = ownerOf M n
 
@@ -37,10 +40,23 @@ module _ (M : Model) (n : ℕ) (s : StatementRecord) (ok : statementOk M n s ≡
       let o = rw e at owned in
       let same : Bool = eqb (typeOf M (s .b)) (signalAt M (s .a) .ty) in
       record {
-        signal = names-signal M n s ok e;
+        signal = names-signal M n s ok (inl e);
         driver = ltb-true _ _ (every-at _ 0 o);
         value = record { node = value-node M n s ok (omega arith) (omega arith); type = eqb-true _ _ (and-left same _ t); own = every-at _ 1 o };
-        delay = record { node = delay-node M n s ok e; type = eqb-true _ _ (and-right same _ t); own = every-at _ 2 o };
+        delay = record { node = delay-node M n s ok (inl e); type = eqb-true _ _ (and-right same _ t); own = every-at _ 2 o };
+      }
+
+  null-assignment : s .kind ≡ 6 → NullAssignment M p s
+  unfolding statementTyped statementOwned nullOk
+  null-assignment e =
+      let o = rw e at owned in
+      let has : Bool = ltb (driverFor M p (s .a)) (length (M .drivers)) in
+      let kind = signalAt M (s .a) .kind in
+      record {
+        signal = names-signal M n s ok (inr e);
+        guarded = omega (arith, eqb-false kind plain (not-true (eqb kind plain) (rw e at null)));
+        driver = ltb-true _ _ (and-left has _ o);
+        delay = record { node = delay-node M n s ok (inr e); type = eqb-true _ _ (rw e at typed); own = and-right has _ o };
       }
 
   branch : s .kind ≡ 3 → Branch M p s
@@ -79,4 +95,5 @@ module _ (M : Model) (n : ℕ) (s : StatementRecord) (ok : statementOk M n s ≡
         branch = branch;
         jump = λ e. target M n s ok (omega arith) (omega arith);
         wait = wait;
+        nullAssignment = null-assignment;
       }

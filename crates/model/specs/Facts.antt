@@ -103,14 +103,22 @@ pub record Wait (M : Model) (p : ℕ) (s : StatementRecord) : Type 0 where
   pub delay : (s .c ≡ absent → ⊥) → Expression M p integer (s .c)
   pub set : s .set < 2 ^ length (M .signals)
 
+-- kind 6: signal a <= null after c, on a bus or a register
+pub record NullAssignment (M : Model) (p : ℕ) (s : StatementRecord) : Type 0 where
+  pub signal : s .a < length (M .signals)
+  pub guarded : 1 ≤ signalAt M (s .a) .kind
+  pub driver : driverFor M p (s .a) < length (M .drivers)
+  pub delay : Expression M p integer (s .c)
+
 -- a statement of process p, by its kind
 pub record StatementFits (M : Model) (p : ℕ) (s : StatementRecord) : Type 0 where
-  pub kind : s .kind ≤ 5
+  pub kind : s .kind ≤ 6
   pub variableAssignment : s .kind ≡ 1 → VariableAssignment M p s
   pub signalAssignment : s .kind ≡ 2 → SignalAssignment M p s
   pub branch : s .kind ≡ 3 → Branch M p s
   pub jump : s .kind ≡ 4 → Spans M p (s .a)
   pub wait : s .kind ≡ 5 → Wait M p s
+  pub nullAssignment : s .kind ≡ 6 → NullAssignment M p s
 
 -- statement n belongs to a process, and fits it
 pub record StatementOf (M : Model) (n : ℕ) : Type 0 where

@@ -15,9 +15,9 @@ use Rattle.model.specs.Rules.{Accepted, refusalOf, recordRules}
 use Rattle.model.specs.Owners.{driverFor}
 use Rattle.model.specs.declared.load.Loaded.{Loaded}
 
--- entry assignmentsAt + k is the driver of statement k, a signal assignment, for each k below n
+-- entry assignmentsAt + k is the driver of statement k's process for the signal that it names, for each k below n
 abbrev pub DriversBelow : List ℕ → List ℕ → ℕ → Type 0
-DriversBelow m index n = (k : ℕ) → k < n → statementAt (modelOf m) k .kind ≡ 2
+DriversBelow m index n = (k : ℕ) → k < n
     → getD index (assignmentsAt + k) 0 ≡ driverFor (modelOf m) (ownerOf (modelOf m) k) (statementAt (modelOf m) k .a)
 
 -- an index with the starts, the types, and the drivers of the statements
@@ -25,16 +25,15 @@ pub record DriversIn (m index : List ℕ) : Type 0 where
   pub types : TypesIn m index
   pub driver : DriversBelow m index (length (modelOf m .statements))
 
--- an accepted model with its index: entry typesAt + n is the type of node n, entry assignmentsAt + n the driver of statement n, a signal
--- assignment
+-- an accepted model with its index: entry typesAt + n is the type of node n, entry assignmentsAt + n the driver of statement n where
+-- that is a signal assignment
 pub record Usable (m index : List ℕ) : Type 0 where
   pub starts : Starts m index
   pub accepted : Accepted (modelOf m)
   pub type : (n : ℕ) → n < length (modelOf m .nodes) → getD index (typesAt + n) 0 ≡ typeOf (modelOf m) n
-  pub driver : (n : ℕ) → n < length (modelOf m .statements) → statementAt (modelOf m) n .kind ≡ 2
-      → getD index (assignmentsAt + n) 0 ≡ driverFor (modelOf m) (ownerOf (modelOf m) n) (statementAt (modelOf m) n .a)
+  pub driver : DriversBelow m index (length (modelOf m .statements))
 
--- what the rules 5 to 8 give where 1 to 4 hold: the number of the first that applies, and with 0 an index to use
+-- what the rules of the records give where 1 to 4 hold: the number of the first that applies, and with 0 an index to use
 pub record Judged (m index : List ℕ) (r : ℕ) : Type 0 where
   pub refusal : r ≡ firstFailing (recordRules (modelOf m))
   pub usable : r ≡ 0 → Usable m index

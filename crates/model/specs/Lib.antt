@@ -1,4 +1,5 @@
 pub mod Facts
 pub mod Index
+pub mod Nulls
 pub mod Owners
 pub mod Rules

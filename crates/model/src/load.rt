@@ -1,4 +1,4 @@
-// Loading a model: the first of the rules 1 to 8 that it breaks, or its totals and index.
+// Loading a model: the first of its rules that it breaks, or its totals and index.
 ghost use mathlib.Core.Path.{_≡_};
 ghost use lib.ListN.{length};
 ghost use Rattle.blocks.specs.Records.{modelOf};
@@ -6,6 +6,7 @@ ghost use Rattle.blocks.specs.Index.{indexSize, Starts};
 ghost use Rattle.blocks.specs.Totals.{TotalsOf};
 ghost use Rattle.model.specs.Rules.{refusalOf};
 ghost use Rattle.model.specs.Index.{Judged, LoadedIs};
+use crate::nulls::nulls_ok;
 use crate::owners::owners_ok;
 use blocks::blocks::blocks_refusal;
 use blocks::blocks::put_index;
@@ -24,7 +25,7 @@ pub struct Loaded {
     pub index: Index,
 }
 
-// The first of the rules 5 to 8 that fails, or 0, and then an index to use.
+// The first rule of the records that fails (5 to 8, then 20), or 0, and then an index to use.
 fn model_refusal(m: &[u8], index: &mut Index, t: Totals) -> usize
     requires { ⌜ length (now index) ≡ indexSize ⌝ }
     requires { ⌜ Starts (now m) (now index) ⌝ }
@@ -42,6 +43,9 @@ fn model_refusal(m: &[u8], index: &mut Index, t: Totals) -> usize
     }
     if !owners_ok(m, index, t) {
         return 8;
+    }
+    if !nulls_ok(m, index, t) {
+        return 20;
     }
     0
 }
@@ -64,7 +68,7 @@ pub fn load(m: &[u8]) -> Loaded
     }
 }
 
-// The number of the first of the rules 1 to 8 that the model breaks, or 0.
+// The number of the first rule that the model breaks, or 0.
 pub fn judge(m: &[u8]) -> usize
     ensures { λ r. ⌜ r ≡ refusalOf (now (m .entry)) ⌝ }
 {

@@ -126,7 +126,6 @@ pub fn assignment_driver<'a>(m: &'a [u8], index: &'a Index, n: usize) -> usize
     requires { ⌜ Starts (now m) (now index) ⌝ }
     requires { ⌜ DriversBelow (now m) (now index) (length (modelOf (now m) .statements)) ⌝ }
     requires { ⌜ n < length (modelOf (now m) .statements) ⌝ }
-    requires { ⌜ statementAt (modelOf (now m)) n .kind ≡ 2 ⌝ }
     ensures { λ r. ⌜ r ≡ driverFor (modelOf (now (m .entry))) (ownerOf (modelOf (now (m .entry))) n) (statementAt (modelOf (now (m .entry))) n .a) ⌝ }
 {
     entry(index, ASSIGNMENTS_AT + n)
@@ -212,6 +211,7 @@ fn statement_owned<'a>(m: &'a [u8], index: &'a Index, t: Totals, n: usize) -> bo
             & reads_own(m, index, s.c, p),
         3 => reads_own(m, index, s.b, p),
         5 => own_or_absent(m, index, s.b, p) & own_or_absent(m, index, s.c, p),
+        6 => (assignment_driver(m, index, n) < t.drivers) & reads_own(m, index, s.c, p),
         _ => true,
     }
 }

@@ -10,16 +10,16 @@ use lib.Seq.{getD-take}
 use borrow.Author.Tests.{eqb-true, eqb-false}
 use Rattle.base.proofs.Cases.{by-test}
 use Rattle.base.proofs.Below.{at-append, map-at, list-length, list-at}
-use Rattle.blocks.specs.Records.{Model, signalAt, driverAt, statementAt}
+use Rattle.blocks.specs.Records.{bus, Model, signalAt, driverAt, statementAt}
 use Rattle.blocks.specs.declared.records.StatementRecord.{StatementRecord}
-use Rattle.fields.specs.Fields.{absent}
+use Rattle.fields.specs.Fields.{absent, valueOk}
 use Rattle.trees.specs.Trees.{boolean}
 use Rattle.model.specs.Facts.{Facts}
 use Rattle.rules.specs.declared.value.Value.{Value}
 use Rattle.rules.specs.declared.value.Value.the-variants.{Of, Fault}
 use Rattle.rules.specs.Configuration.{ProcessState, Configuration, driverIn, processIn, pastOf, currentOf, drivingOf, resolvedOr, waiting, lastTime}
 use Rattle.rules.specs.Evaluation.{Environment, environmentOf, evalOf}
-use Rattle.rules.specs.Steps.{taken, deadlineDue, active, withCurrent, signalAfter, signalsAfter, changedIn, wakes, wokenBy, wokenIf, wokenAt, processAfterDelta, deltaStep, shifted, timeStep}
+use Rattle.rules.specs.Steps.{taken, deadlineDue, active, withCurrent, undriven, signalAfter, signalsAfter, changedIn, wakes, wokenBy, wokenIf, wokenAt, processAfterDelta, deltaStep, shifted, timeStep}
 use Rattle.rules.specs.Orders.{optional, earliest, dueTimes}
 use Rattle.rules.specs.Invariant.{ValueOf, DriverValid, DeadlineValid, ProcessValid, Reachable}
 use Rattle.rules.proofs.Lists.{All}
@@ -41,9 +41,19 @@ current-each P v [] a b (suc k) l = b (suc k) l
 current-each P v (x ∷ h) a b zero l = a
 current-each P v (x ∷ h) a b (suc k) l = b (suc k) l
 
+-- a bus is a logic signal, and Z is a code
+undriven-typed : (M : Model) → Facts M → (s : ℕ) → s < length (M .signals) → (v : ℕ) → ValueOf (signalAt M s .ty) v → ValueOf (signalAt M s .ty) (undriven (signalAt M s) v)
+unfolding undriven valueOk
+undriven-typed M fs s h v t =
+    by-test (ValueOf (signalAt M s .ty)) (eqb (signalAt M s .kind) bus) _ _
+    (λ e.
+    let k = eqb-true (signalAt M s .kind) bus e in
+    rw (fs .signal s h .guarded (omega arith)) refl)
+    (λ e. t)
+
 module _ (M : Model) (fs : Facts M) (c : Configuration) (r : Reachable M c) where
   -- the drivers after their due transactions
-  pub taken-valid : (k : ℕ) → k < length (M .drivers) → DriverValid (signalAt M (driverAt M k .signal) .ty) (c .time) (driverIn (map (taken (c .time)) (c .drivers)) k)
+  pub taken-valid : (k : ℕ) → k < length (M .drivers) → DriverValid (signalAt M (driverAt M k .signal)) (c .time) (driverIn (map (taken (c .time)) (c .drivers)) k)
   taken-valid k h =
       let l : k < length (c .drivers) = omega (arith, r .drivers) in
       let e : driverIn (map (taken (c .time)) (c .drivers)) k ≡ taken (c .time) (driverIn (c .drivers) k) = map-at (taken (c .time)) (c .drivers) k _ _ l in
@@ -54,10 +64,12 @@ module _ (M : Model) (fs : Facts M) (c : Configuration) (r : Reachable M c) wher
     past = getD (c .signals) s []
 
     abbrev resolved : ℕ
-    resolved = resolvedOr (currentOf (c .signals) s) (drivingOf M (map (taken (c .time)) (c .drivers)) s)
+    resolved = resolvedOr (undriven (signalAt M s) (currentOf (c .signals) s)) (drivingOf M (map (taken (c .time)) (c .drivers)) s)
 
     value-valid : ValueOf (signalAt M s .ty) resolved
-    value-valid = resolved-typed M fs _ s _ h (λ k l e. rw e at (taken-valid k l .current)) (r .signal-values s 0 h (omega arith))
+    value-valid =
+        resolved-typed M fs _ s _ h (λ k l e. rw e at (taken-valid k l .current))
+        (undriven-typed M fs s h (currentOf (c .signals) s) (r .signal-values s 0 h (omega arith)))
 
     history-length : length (signalAfter M c s) ≡ 32
     unfolding signalAfter

@@ -1,8 +1,8 @@
--- The driving values of a signal: what holds of each, that an integer signal has one at most, and that their resolution is of the
--- signal's type. Assumes nothing.
+-- The driving values of a signal: what holds of each, that an integer signal has one driver at most, and that their resolution is of
+-- the signal's type. Assumes nothing.
 use mathlib.Core.Path.{_≡_, refl, sym, _∙_}
 use mathlib.Core.Bool.{true, false}
-use mathlib.Core.List.{List, [], _∷_}
+use mathlib.Core.List.{List, [], _∷_, append-nil}
 use Prim.Native.Nat.{ℕ, zero, suc, _≤_, _<_}
 use native.Mathlib.Omega.{arith}
 use lib.Dec.{eqb}
@@ -14,45 +14,48 @@ use Rattle.base.proofs.Below.{_and_, among}
 use Rattle.values.specs.Resolve.{resolutionOf}
 use Rattle.values.proofs.Resolution.{standard-resolution}
 use Rattle.blocks.specs.Records.{Model, signalAt, driverAt}
+use Rattle.blocks.specs.declared.records.SignalRecord.{SignalRecord}
 use Rattle.fields.specs.Fields.{valueOk}
 use Rattle.trees.specs.Trees.{integer, logic}
 use Rattle.model.specs.Facts.{Facts}
-use Rattle.rules.specs.Configuration.{DriverState, driverIn, drivingBy, drivingOf, resolvedOr}
-use Rattle.rules.specs.Invariant.{ValueOf}
+use Rattle.rules.specs.declared.driven.Driven.{Driven}
+use Rattle.rules.specs.declared.driven.Driven.the-variants.{To, Null}
+use Rattle.rules.specs.Configuration.{DriverState, driverIn, valuesOf, drivingBy, drivingOf, resolvedOr}
+use Rattle.rules.specs.Invariant.{ValueOf, Carries}
 use Rattle.rules.proofs.Lists.{All, all-join, all-at}
 
 module _ (M : Model) (ds : List DriverState) (s : ℕ) where
-  -- what holds of the current value of each driver of s holds of each driving value
-  pub driving-all : (P : ℕ → Type 0) → ((k : ℕ) → k < length (M .drivers) → driverAt M k .signal ≡ s → P (driverIn ds k .current)) → All P (drivingOf M ds s)
+  -- what holds of the value of each driver of s that is on holds of each driving value
+  pub driving-all : (P : ℕ → Type 0) → ((k : ℕ) → k < length (M .drivers) → driverAt M k .signal ≡ s → All P (valuesOf (driverIn ds k .current))) → All P (drivingOf M ds s)
   unfolding drivingOf
   driving-all P h = all-join P (drivingBy M ds s) (length (M .drivers)) each
     where
       each : (k : ℕ) → k < length (M .drivers) → All P (drivingBy M ds s k)
-      each k l = by-test (All P) (eqb (driverAt M k .signal) s) _ _ (λ e. (h k l (eqb-true (driverAt M k .signal) s e), tt)) (λ e. tt)
+      each k l = by-test (All P) (eqb (driverAt M k .signal) s) _ _ (λ e. h k l (eqb-true (driverAt M k .signal) s e)) (λ e. tt)
 
   -- the driving values of a signal that has one driver at most
-  pub data Driven (n : ℕ) : Type 0 where
-    undriven : joinBelow (drivingBy M ds s) n ≡ [] → Driven n
-    driven : (k : ℕ) → k < n → driverAt M k .signal ≡ s → joinBelow (drivingBy M ds s) n ≡ driverIn ds k .current ∷ [] → Driven n
+  pub data Single (n : ℕ) : Type 0 where
+    no-driver : joinBelow (drivingBy M ds s) n ≡ [] → Single n
+    its-driver : (k : ℕ) → k < n → driverAt M k .signal ≡ s → joinBelow (drivingBy M ds s) n ≡ valuesOf (driverIn ds k .current) → Single n
 
   module _ (single : (i j : ℕ) → i < length (M .drivers) → j < length (M .drivers) → driverAt M i .signal ≡ s → driverAt M j .signal ≡ s → i ≡ j) where
-    one-more : (n : ℕ) → n < length (M .drivers) → Driven n → Driven (suc n)
+    one-more : (n : ℕ) → n < length (M .drivers) → Single n → Single (suc n)
     unfolding joinBelow
     one-more n h d =
         either-way (eqb (driverAt M n .signal) s) (λ e. newest e d) (λ e. as-before e d)
       where
-        newest : eqb (driverAt M n .signal) s ≡ true → Driven n → Driven (suc n)
-        newest e (undriven q) = driven n (omega arith) (eqb-true _ s e) (rw (q, e))
-        newest e (driven k l t q) =
+        newest : eqb (driverAt M n .signal) s ≡ true → Single n → Single (suc n)
+        newest e (no-driver q) = its-driver n (omega arith) (eqb-true _ s e) (rw (q, e))
+        newest e (its-driver k l t q) =
             let g = single k n (omega arith) h t (eqb-true (driverAt M n .signal) s e) in absurd (omega arith)
 
-        as-before : eqb (driverAt M n .signal) s ≡ false → Driven n → Driven (suc n)
-        as-before e (undriven q) = undriven (rw (q, e))
-        as-before e (driven k l t q) = driven k (omega arith) t (rw (q, e))
+        as-before : eqb (driverAt M n .signal) s ≡ false → Single n → Single (suc n)
+        as-before e (no-driver q) = no-driver (rw (q, e))
+        as-before e (its-driver k l t q) = its-driver k (omega arith) t (rw (q, e, append-nil))
 
-    pub one-driver : (n : ℕ) → n ≤ length (M .drivers) → Driven n
+    pub one-driver : (n : ℕ) → n ≤ length (M .drivers) → Single n
     unfolding joinBelow
-    one-driver zero h = undriven refl
+    one-driver zero h = no-driver refl
     one-driver (suc n) h = one-more n h (one-driver n (omega arith))
 
 -- a logic value is a code
@@ -69,28 +72,39 @@ unfolding resolutionOf
 resolved-code other [] h a = h
 resolved-code other (v ∷ vs) h a = standard-resolution .code (v ∷ vs) (λ k l. all-at (λ v. v < 9) 0 (v ∷ vs) a k l)
 
+-- what a driver of a logic signal adds to the resolution is a code
+codes : (d : SignalRecord) → d .ty ≡ logic → (x : Driven) → Carries d x → All (λ v. v < 9) (valuesOf x)
+codes d e (To v) c = (code v (rw e at c), tt)
+codes d e Null c = tt
+
+-- the resolution of what one driver carries
+alone : (d : SignalRecord) (other : ℕ) (x : Driven) → ValueOf (d .ty) other → Carries d x → ValueOf (d .ty) (resolvedOr other (valuesOf x))
+unfolding resolutionOf
+alone d other (To v) h c = rw (standard-resolution .one v) c
+alone d other Null h c = h
+
 module _ (M : Model) (fs : Facts M) (ds : List DriverState) (s other : ℕ) (here : s < length (M .signals))
-    (each : (k : ℕ) → k < length (M .drivers) → driverAt M k .signal ≡ s → ValueOf (signalAt M s .ty) (driverIn ds k .current))
+    (each : (k : ℕ) → k < length (M .drivers) → driverAt M k .signal ≡ s → Carries (signalAt M s) (driverIn ds k .current))
     (else : ValueOf (signalAt M s .ty) other)
   where
     -- an integer signal has the value of its driver
     of-integer : signalAt M s .ty ≡ integer → ValueOf (signalAt M s .ty) (resolvedOr other (drivingOf M ds s))
-    unfolding drivingOf resolutionOf
+    unfolding drivingOf
     of-integer e = by-drivers (one-driver M ds s single (length (M .drivers)) (omega arith))
       where
         single : (i j : ℕ) → i < length (M .drivers) → j < length (M .drivers) → driverAt M i .signal ≡ s → driverAt M j .signal ≡ s → i ≡ j
         single i j h l p q = fs .single i j h l (p ∙ sym q) (rw p e)
 
-        by-drivers : Driven M ds s (length (M .drivers)) → ValueOf (signalAt M s .ty) (resolvedOr other (drivingOf M ds s))
-        by-drivers (undriven q) = rw q else
-        by-drivers (driven k l t q) = rw (q, standard-resolution .one (driverIn ds k .current)) (each k l t)
+        by-drivers : Single M ds s (length (M .drivers)) → ValueOf (signalAt M s .ty) (resolvedOr other (drivingOf M ds s))
+        by-drivers (no-driver q) = rw q else
+        by-drivers (its-driver k l t q) = rw q (alone (signalAt M s) other (driverIn ds k .current) else (each k l t))
 
     of-logic : signalAt M s .ty ≡ logic → ValueOf (signalAt M s .ty) (resolvedOr other (drivingOf M ds s))
     of-logic e =
         let l : ValueOf logic other = rw e at else in
         rw e
         (of-code (resolvedOr other (drivingOf M ds s))
-        (resolved-code other (drivingOf M ds s) (code other l) (driving-all M ds s (λ v. v < 9) (λ k l t. code (driverIn ds k .current) (rw e at (each k l t))))))
+        (resolved-code other (drivingOf M ds s) (code other l) (driving-all M ds s (λ v. v < 9) (λ k l t. codes (signalAt M s) e (driverIn ds k .current) (each k l t)))))
 
     -- the resolution of values of the signal's type is of that type
     pub resolved-typed : ValueOf (signalAt M s .ty) (resolvedOr other (drivingOf M ds s))

@@ -18,7 +18,8 @@ use Rattle.fields.specs.Facts.{Spans}
 use Rattle.trees.specs.Trees.{integer}
 use Rattle.model.specs.Owners.{driverFor}
 use Rattle.model.specs.Facts as Facts
-use Rattle.model.specs.Facts.{Facts, StatementFits, SignalAssignment, Expression}
+use Rattle.model.specs.Facts.{Facts, StatementFits, SignalAssignment, NullAssignment, Expression}
+use Rattle.rules.specs.declared.driven.Driven.the-variants.{To, Null}
 use Rattle.rules.specs.declared.value.Value.{Value}
 use Rattle.rules.specs.declared.value.Value.the-variants.{Of, Fault}
 use Rattle.rules.specs.declared.effect.Effect.{Effect}
@@ -53,10 +54,15 @@ module _ (M : Model) (fs : Facts M) (p : ℕ) where
       abbrev Fits : Effect → Type 0
       Fits = EffectFits M p (s .kind)
 
-      assigned : SignalAssignment M p s → (v d : ℕ) → valueOk (signalAt M (s .a) .ty) v ≡ true → d < 2147483648 → ScheduleFits M p (driverFor M p (s .a)) d v
+      assigned : SignalAssignment M p s → (v d : ℕ) → valueOk (signalAt M (s .a) .ty) v ≡ true → d < 2147483648 → ScheduleFits M p (driverFor M p (s .a)) d (To v)
       assigned g v d h l =
           let r = fs .drives p (s .a) (g .driver) in
           record { driver = g .driver; own = r .process; delay = l; value = rw (r .signal) h }
+
+      released : NullAssignment M p s → (d : ℕ) → d < 2147483648 → ScheduleFits M p (driverFor M p (s .a)) d Null
+      released g d l =
+          let r = fs .drives p (s .a) (g .driver) in
+          record { driver = g .driver; own = r .process; delay = l; value = rw (r .signal) (g .guarded) }
 
       waits : Facts.Wait M p s → EffectFits M p 5 (eqb (s .c) absent ⇒ Wait ∣ withDelay (evalOf M e (s .c)) WaitFor)
       waits g =
@@ -67,7 +73,7 @@ module _ (M : Model) (fs : Facts M) (p : ℕ) where
       pub effect-by : Fits (effectBy M e p s)
       unfolding effectBy
       effect-by =
-          among (λ k. s .kind ≡ k → Fits (effectBy M e p s)) 0 6 (s .kind)
+          among (λ k. s .kind ≡ k → Fits (effectBy M e p s)) 0 7 (s .kind)
           ((λ k. rw k tt)
           and (λ k. let g = f .variableAssignment k in
           rw k (expression (EffectFits M p 1) _ (s .b) _ (g .value) (omega arith) (λ v h. record { variable = g .variable; own = g .own; value = h })))
@@ -79,6 +85,8 @@ module _ (M : Model) (fs : Facts M) (p : ℕ) where
           (λ v h. by-test (EffectFits M p 3) (eqb v 0) _ _ (λ t. g .target) (λ t. tt))))
           and (λ k. rw k (f .jump k))
           and (λ k. rw k (waits (f .wait k)))
+          and (λ k. let g = f .nullAssignment k in
+          rw k (delay (EffectFits M p 6) (s .c) _ (g .delay) (omega arith) (omega arith) (λ d l. released g d l)))
           and tt)
           (omega arith) (omega (arith, f .kind)) refl
 

@@ -9,17 +9,18 @@ use lib.ListN.{length, getD, replicate, length-map, length-replicate, getD-repli
 use Rattle.base.proofs.Below.{map-at, list-length, list-at}
 use Rattle.blocks.specs.Records.{Model, signalAt, variableAt, driverAt, processAt}
 use Rattle.model.specs.Facts.{Facts}
+use Rattle.rules.specs.declared.driven.Driven.the-variants.{To}
 use Rattle.rules.specs.Configuration.{driverIn, processIn, pastOf, firstDrivers, firstSignal, first, ready}
 use Rattle.rules.specs.Invariant.{ValueOf, DriverValid, ProcessValid, Reachable}
 use Rattle.rules.proofs.Driving.{resolved-typed}
 
 module _ (M : Model) (fs : Facts M) where
   -- a driver that has just started
-  pub driver-at : (k : ℕ) → k < length (M .drivers) → driverIn (firstDrivers M) k ≡ record { current = signalAt M (driverAt M k .signal) .start; pending = [] }
+  pub driver-at : (k : ℕ) → k < length (M .drivers) → driverIn (firstDrivers M) k ≡ record { current = To (signalAt M (driverAt M k .signal) .start); pending = [] }
   unfolding firstDrivers
   driver-at k h = map-at _ (M .drivers) k _ _ h
 
-  driver-valid : (k : ℕ) → k < length (M .drivers) → DriverValid (signalAt M (driverAt M k .signal) .ty) 0 (driverIn (firstDrivers M) k)
+  driver-valid : (k : ℕ) → k < length (M .drivers) → DriverValid (signalAt M (driverAt M k .signal)) 0 (driverIn (firstDrivers M) k)
   driver-valid k h =
       rw (driver-at k h)
       (record { current = fs .signal (driverAt M k .signal) (fs .driver k h .signal) .start; few = lit≤ tt; rising = tt; values = tt })

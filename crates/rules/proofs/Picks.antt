@@ -18,6 +18,7 @@ use Rattle.blocks.specs.declared.records.StatementRecord.{StatementRecord}
 use Rattle.fields.specs.Fields.{absent}
 use Rattle.model.specs.Owners.{readsOwn}
 use Rattle.model.specs.Facts.{Expression, StatementFits, Facts}
+use Rattle.rules.specs.declared.driven.Driven.{Driven}
 use Rattle.rules.specs.declared.effect.Effect.{Effect}
 use Rattle.rules.specs.declared.effect.Effect.the-variants.{Skip, Store, Schedule, Jump, Wait, WaitFor, Stop}
 use Rattle.rules.specs.Configuration.{DriverState, Configuration, driverIn, processIn}
@@ -31,14 +32,14 @@ use Rattle.rules.proofs.Effects.{own-statement, placed, effect-fits}
 -- what an effect of process p writes is p's own
 pub record Owns (M : Model) (p : ℕ) (x : Effect) : Type 0 where
   pub variable : (a v : ℕ) → x ≡ Store a v → variableAt M a .process ≡ p
-  pub driver : (k d v : ℕ) → x ≡ Schedule k d v → driverAt M k .process ≡ p
+  pub driver : (k d : ℕ) (v : Driven) → x ≡ Schedule k d v → driverAt M k .process ≡ p
 
 -- an effect that stores, and one that schedules
 abbrev Stores : Effect → Type 0
 Stores x = (a : ℕ) × (v : ℕ) × (x ≡ Store a v)
 
 abbrev Schedules : Effect → Type 0
-Schedules x = (k : ℕ) × (d : ℕ) × (v : ℕ) × (x ≡ Schedule k d v)
+Schedules x = (k : ℕ) × (d : ℕ) × (v : Driven) × (x ≡ Schedule k d v)
 
 -- one that leaves the drivers, and so overflows none
 abbrev Leaves : Effect → Type 0
@@ -154,13 +155,14 @@ module _ (M : Model) (p : ℕ) (e e' : Environment) (same : SameReads M p e e') 
   pub effect-same : effectBy M e p s ≡ effectBy M e' p s
   unfolding effectBy
   effect-same =
-      among (λ k. s .kind ≡ k → effectBy M e p s ≡ effectBy M e' p s) 0 6 (s .kind)
+      among (λ k. s .kind ≡ k → effectBy M e p s ≡ effectBy M e' p s) 0 7 (s .kind)
       ((λ k. rw k)
       and (λ k. rw (k, value-same (f .variableAssignment k .value)))
       and (λ k. rw (k, value-same (f .signalAssignment k .value), value-same (f .signalAssignment k .delay)))
       and (λ k. rw (k, value-same (f .branch k .condition)))
       and (λ k. rw k)
       and (λ k. rw k (wait-same k))
+      and (λ k. rw (k, value-same (f .nullAssignment k .delay)))
       and tt)
       (omega arith) (omega (arith, f .kind)) refl
 

@@ -110,7 +110,7 @@ module _ (M : Model) (p kind : ℕ) where
     variables-after (Stop n) x = typed
 
   abbrev ValidAt : ℕ → ℕ → DriverState → Type 0
-  ValidAt t k d = DriverValid (signalAt M (driverAt M k .signal) .ty) t d
+  ValidAt t k d = DriverValid (signalAt M (driverAt M k .signal)) t d
 
   module _ (t : ℕ) (early : t ≤ lastTime) (ds : List DriverState) (long : length ds ≡ length (M .drivers)) (valid : (k : ℕ) → k < length (M .drivers) → ValidAt t k (driverIn ds k)) where
     drivers-after : (e : Effect) → EffectFits M p kind e → (k : ℕ) → k < length (M .drivers) → ValidAt t k (driverIn (driversAfter e t ds) k)

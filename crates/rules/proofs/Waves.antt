@@ -8,11 +8,13 @@ use lib.Dec.{eqb, ltb}
 use lib.ListN.{length, length-append}
 use borrow.Author.Tests.{ltb-true, ltb-false, eqb-true, eqb-false}
 use Rattle.base.proofs.Cases.{by-test}
+use Rattle.blocks.specs.declared.records.SignalRecord.{SignalRecord}
+use Rattle.rules.specs.declared.driven.Driven.{Driven}
 use Rattle.rules.specs.Configuration.{Transaction, DriverState}
 use Rattle.rules.specs.Statements.{before, scheduled, overflows, driverAfter}
 use Rattle.rules.specs.Steps.{taken, takenIn}
 use Rattle.rules.specs.Orders.{timesIn}
-use Rattle.rules.specs.Invariant.{ValueOf, lastDue, Rising, Values, DriverValid}
+use Rattle.rules.specs.Invariant.{lastDue, Rising, Carries, Values, DriverValid}
 use Rattle.rules.proofs.Lists.{All}
 
 -- all transactions of the waveform are before the time at
@@ -38,29 +40,29 @@ module _ (at : ℕ) where
       (λ e. (r .0, r .1, before-rising (x .time + 1) w (r .2)))
       (λ e. before-rising t w (rising-from t (x .time + 1) w (omega (arith, r .0)) (r .2)))
 
-  pub before-values : (ty : ℕ) (w : List Transaction) → Values ty w → Values ty (before at w)
+  pub before-values : (s : SignalRecord) (w : List Transaction) → Values s w → Values s (before at w)
   unfolding before
-  before-values ty [] v = tt
-  before-values ty (x ∷ w) v = by-test (Values ty) (ltb (x .time) at) _ _ (λ e. (v .0, before-values ty w (v .1))) (λ e. before-values ty w (v .1))
+  before-values s [] v = tt
+  before-values s (x ∷ w) v = by-test (Values s) (ltb (x .time) at) _ _ (λ e. (v .0, before-values s w (v .1))) (λ e. before-values s w (v .1))
 
 -- one later than those that are there
 pub append-rising : (t : ℕ) (w : List Transaction) (x : Transaction) → t ≤ x .time → x .time ≤ lastDue → Before (x .time) w → Rising t w → Rising t (w ++ (x ∷ []))
 append-rising t [] x h l b r = (h, l, tt)
 append-rising t (y ∷ w) x h l b r = (r .0, r .1, append-rising (y .time + 1) w x (omega (arith, b .0)) l (b .1) (r .2))
 
-append-values : (ty : ℕ) (w : List Transaction) (x : Transaction) → Values ty w → ValueOf ty (x .value) → Values ty (w ++ (x ∷ []))
-append-values ty [] x v h = (h, tt)
-append-values ty (y ∷ w) x v h = (v .0, append-values ty w x (v .1) h)
+append-values : (s : SignalRecord) (w : List Transaction) (x : Transaction) → Values s w → Carries s (x .value) → Values s (w ++ (x ∷ []))
+append-values s [] x v h = (h, tt)
+append-values s (y ∷ w) x v h = (v .0, append-values s w x (v .1) h)
 
--- what is kept, then one later
-module _ (w : List Transaction) (at v : ℕ) where
+-- what is kept, then one later, a value or null
+module _ (w : List Transaction) (at : ℕ) (v : Driven) where
   pub scheduled-rising : (t : ℕ) → t ≤ at → at ≤ lastDue → Rising t w → Rising t (scheduled w at v)
   unfolding scheduled
   scheduled-rising t h l r = append-rising t (before at w) _ h l (before-before at w) (before-rising at t w r)
 
-  pub scheduled-values : (ty : ℕ) → Values ty w → ValueOf ty v → Values ty (scheduled w at v)
+  pub scheduled-values : (s : SignalRecord) → Values s w → Carries s v → Values s (scheduled w at v)
   unfolding scheduled
-  scheduled-values ty h k = append-values ty (before at w) _ (before-values at ty w h) k
+  scheduled-values s h k = append-values s (before at w) _ (before-values at s w h) k
 
   pub scheduled-length : length (scheduled w at v) ≡ length (before at w) + 1
   unfolding scheduled
@@ -75,36 +77,36 @@ rising-later t s [] h r = tt
 rising-later t s (x ∷ w) h r = (h .0, r .1, r .2)
 
 -- a driver whose pending transactions are all later than t
-abbrev Later : ℕ → ℕ → DriverState → Type 0
-Later ty t d = DriverValid ty t d × Rising (t + 1) (d .pending)
+abbrev Later : SignalRecord → ℕ → DriverState → Type 0
+Later s t d = DriverValid s t d × Rising (t + 1) (d .pending)
 
-taken-in : (ty t current : ℕ) (w : List Transaction) → ValueOf ty current → length w ≤ 8 → Rising t w → Values ty w → Later ty t (takenIn t current w)
-taken-in ty t current [] c l r v = (record { current = c; few = l; rising = r; values = v }, tt)
-taken-in ty t current (x ∷ w) c l r v =
-    by-test (Later ty t) (eqb (x .time) t) _ _
+taken-in : (s : SignalRecord) (t : ℕ) (current : Driven) (w : List Transaction) → Carries s current → length w ≤ 8 → Rising t w → Values s w → Later s t (takenIn t current w)
+taken-in s t current [] c l r v = (record { current = c; few = l; rising = r; values = v }, tt)
+taken-in s t current (x ∷ w) c l r v =
+    by-test (Later s t) (eqb (x .time) t) _ _
     (λ e.
     let q = eqb-true (x .time) t e in
     let g : Rising (t + 1) w = rising-from (t + 1) (x .time + 1) w (omega arith) (r .2) in
     (record { current = v .0; few = omega arith; rising = rising-from t (t + 1) w (omega arith) g; values = v .1 }, g))
     (λ e. (record { current = c; few = l; rising = r; values = v }, (omega (arith, r .0, eqb-false (x .time) t e), r .1, r .2)))
 
-module _ (ty t : ℕ) (d : DriverState) (f : DriverValid ty t d) where
-  pub driver-scheduled : (at v : ℕ) → t ≤ at → at ≤ lastDue → ValueOf ty v → DriverValid ty t (driverAfter at v d)
+module _ (s : SignalRecord) (t : ℕ) (d : DriverState) (f : DriverValid s t d) where
+  pub driver-scheduled : (at : ℕ) (v : Driven) → t ≤ at → at ≤ lastDue → Carries s v → DriverValid s t (driverAfter at v d)
   unfolding driverAfter
   driver-scheduled at v h l k =
-      by-test (DriverValid ty t) (overflows (scheduled (d .pending) at v)) _ _ (λ e. f)
+      by-test (DriverValid s t) (overflows (scheduled (d .pending) at v)) _ _ (λ e. f)
       (λ e.
       record {
         current = f .current;
         few = not-over (scheduled (d .pending) at v) e;
         rising = scheduled-rising (d .pending) at v t h l (f .rising);
-        values = scheduled-values (d .pending) at v ty (f .values) k;
+        values = scheduled-values (d .pending) at v s (f .values) k;
       })
 
   -- a time step that does not pass the first
-  pub driver-later : (s : ℕ) → All (λ u. s ≤ u) (timesIn (d .pending)) → DriverValid ty s d
-  driver-later s h = record { current = f .current; few = f .few; rising = rising-later t s (d .pending) h (f .rising); values = f .values }
+  pub driver-later : (u : ℕ) → All (λ x. u ≤ x) (timesIn (d .pending)) → DriverValid s u d
+  driver-later u h = record { current = f .current; few = f .few; rising = rising-later t u (d .pending) h (f .rising); values = f .values }
 
-  pub driver-taken : DriverValid ty t (taken t d)
+  pub driver-taken : DriverValid s t (taken t d)
   unfolding taken
-  driver-taken = taken-in ty t (d .current) (d .pending) (f .current) (f .few) (f .rising) (f .values) .0
+  driver-taken = taken-in s t (d .current) (d .pending) (f .current) (f .few) (f .rising) (f .values) .0

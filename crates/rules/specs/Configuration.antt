@@ -1,7 +1,8 @@
 -- The configuration: "It holds the time, the count of delta steps at this time, and per signal the current value and those of
 -- 1 to 31 time units ago; per driver a current value and a waveform of at most eight pending transactions (time, value),
 -- rising in time; per process variables, place, standing (0 ready, 1 waiting, 2 stopped), deadline and fault."
--- A value is 32 bits: an integer in two's complement, a logic value as its code 0 to 8, a boolean as 0 or 1.
+-- A value is 32 bits: an integer in two's complement, a logic value as its code 0 to 8, a boolean as 0 or 1. What a transaction
+-- carries, a pending one or a driver's current one, is a value or null (`Driven`: `To v` or `Null`); a driver that is null is off.
 use mathlib.Core.List.{List, [], _∷_, map}
 use mathlib.Core.Option.{Option, none}
 use Prim.Native.Nat.{ℕ}
@@ -11,13 +12,15 @@ use Rattle.base.specs.Below.{joinBelow, listBelow}
 use Rattle.base.specs.Cases.{_∣_, _⇒_}
 use Rattle.values.specs.Resolve.{resolutionOf}
 use Rattle.blocks.specs.Records.{Model, signalAt, driverAt}
+use Rattle.rules.specs.declared.driven.Driven.{Driven}
+use Rattle.rules.specs.declared.driven.Driven.the-variants.{To, Null}
 
 pub record Transaction : Type 0 where
   pub time : ℕ
-  pub value : ℕ
+  pub value : Driven
 
 pub record DriverState : Type 0 where
-  pub current : ℕ
+  pub current : Driven
   pub pending : List Transaction
 
 -- standings
@@ -56,7 +59,7 @@ pub record Configuration : Type 0 where
 
 -- entry n of each, and what stands for one that is not there
 abbrev pub driverIn : List DriverState → ℕ → DriverState
-driverIn ds n = getD ds n (record { current = 0; pending = [] })
+driverIn ds n = getD ds n (record { current = To 0; pending = [] })
 
 abbrev pub processIn : List ProcessState → ℕ → ProcessState
 processIn ps n = getD ps n (record { place = 0; standing = stopped; deadline = none; fault = 0 })
@@ -72,11 +75,16 @@ currentOf ss s = pastOf ss s 0
 abbrev pub empty : Configuration
 empty = record { time = 0; deltas = 0; signals = []; drivers = []; processes = []; variables = [] }
 
--- the current value of driver k, where it drives signal s
-abbrev pub drivingBy : Model → List DriverState → ℕ → ℕ → List ℕ
-drivingBy M ds s k = eqb (driverAt M k .signal) s ⇒ (driverIn ds k .current ∷ []) ∣ []
+-- "A driver whose current transaction is null adds nothing to the resolution."
+abbrev pub valuesOf : Driven → List ℕ
+valuesOf (To v) = v ∷ []
+valuesOf Null = []
 
--- the driving values of signal s: "all its drivers' current values"
+-- the current value of driver k, where it drives signal s and is on
+abbrev pub drivingBy : Model → List DriverState → ℕ → ℕ → List ℕ
+drivingBy M ds s k = eqb (driverAt M k .signal) s ⇒ valuesOf (driverIn ds k .current) ∣ []
+
+-- the driving values of signal s: "all its drivers' current values", null left out
 unfoldable pub drivingOf : Model → List DriverState → ℕ → List ℕ
 drivingOf M ds s = joinBelow (drivingBy M ds s) (length (M .drivers))
 
@@ -87,7 +95,7 @@ resolvedOr other (v ∷ vs) = resolutionOf (v ∷ vs)
 
 -- "drivers have their signal's starting value"
 unfoldable pub firstDrivers : Model → List DriverState
-firstDrivers M = map (λ d. record { current = signalAt M (d .signal) .start; pending = [] }) (M .drivers)
+firstDrivers M = map (λ d. record { current = To (signalAt M (d .signal) .start); pending = [] }) (M .drivers)
 
 -- "a signal is the resolution of its drivers (its starting value if it has none)"
 unfoldable pub firstSignal : Model → ℕ → ℕ

@@ -6,9 +6,12 @@ use mathlib.Core.Option.{Option, none, some}
 use Prim.Native.Nat.{ℕ, _+_, _≤_, _<_}
 use lib.ListN.{length, getD}
 use Rattle.blocks.specs.Records.{Model, signalAt, variableAt, driverAt, processAt, statementAt}
+use Rattle.blocks.specs.declared.records.SignalRecord.{SignalRecord}
 use Rattle.fields.specs.Fields.{endOf, valueOk}
 use Rattle.fields.specs.Facts.{Spans}
 use Rattle.rules.specs.Configuration.{deltaLimit, lastTime, Transaction, DriverState, ProcessState, Configuration, driverIn, processIn, pastOf, ready, waiting}
+use Rattle.rules.specs.declared.driven.Driven.{Driven}
+use Rattle.rules.specs.declared.driven.Driven.the-variants.{To, Null}
 use Rattle.rules.specs.declared.effect.Effect.{Effect}
 use Rattle.rules.specs.declared.effect.Effect.the-variants.{Skip, Store, Schedule, Jump, Wait, WaitFor, Stop}
 
@@ -25,15 +28,20 @@ abbrev pub Rising : ℕ → List Transaction → Type 0
 Rising t [] = Unit {0}
 Rising t (x ∷ w) = (t ≤ x .time) × (x .time ≤ lastDue) × Rising (x .time + 1) w
 
-abbrev pub Values : ℕ → List Transaction → Type 0
-Values ty [] = Unit {0}
-Values ty (x ∷ w) = ValueOf ty (x .value) × Values ty w
+-- what a driver of the signal s carries: a value of its type, or null where it is a bus or a register
+abbrev pub Carries : SignalRecord → Driven → Type 0
+Carries s (To v) = ValueOf (s .ty) v
+Carries s Null = 1 ≤ s .kind
 
-pub record DriverValid (ty t : ℕ) (d : DriverState) : Type 0 where
-  pub current : ValueOf ty (d .current)
+abbrev pub Values : SignalRecord → List Transaction → Type 0
+Values s [] = Unit {0}
+Values s (x ∷ w) = Carries s (x .value) × Values s w
+
+pub record DriverValid (s : SignalRecord) (t : ℕ) (d : DriverState) : Type 0 where
+  pub current : Carries s (d .current)
   pub few : length (d .pending) ≤ 8
   pub rising : Rising t (d .pending)
-  pub values : Values ty (d .pending)
+  pub values : Values s (d .pending)
 
 abbrev pub DeadlineValid : ℕ → Option ℕ → Type 0
 DeadlineValid t none = Unit {0}
@@ -58,7 +66,7 @@ pub record Reachable (M : Model) (c : Configuration) : Type 0 where
   pub histories : (s : ℕ) → s < length (M .signals) → length (getD (c .signals) s []) ≡ 32
   pub signal-values : (s k : ℕ) → s < length (M .signals) → k < 32 → ValueOf (signalAt M s .ty) (pastOf (c .signals) s k)
   pub drivers : length (c .drivers) ≡ length (M .drivers)
-  pub each-driver : (k : ℕ) → k < length (M .drivers) → DriverValid (signalAt M (driverAt M k .signal) .ty) (c .time) (driverIn (c .drivers) k)
+  pub each-driver : (k : ℕ) → k < length (M .drivers) → DriverValid (signalAt M (driverAt M k .signal)) (c .time) (driverIn (c .drivers) k)
   pub processes : length (c .processes) ≡ length (M .processes)
   pub each-process : (p : ℕ) → p < length (M .processes) → ProcessValid M p (c .time) (processIn (c .processes) p)
   pub variables : length (c .variables) ≡ length (M .variables)
@@ -72,12 +80,12 @@ pub record StoreFits (M : Model) (p a v : ℕ) : Type 0 where
   pub own : variableAt M a .process ≡ p
   pub value : ValueOf (variableAt M a .ty) v
 
--- a transaction on driver k, one of p, of a value of its signal's type
-pub record ScheduleFits (M : Model) (p k d v : ℕ) : Type 0 where
+-- a transaction on driver k, one of p, of what its signal's drivers carry
+pub record ScheduleFits (M : Model) (p k d : ℕ) (v : Driven) : Type 0 where
   pub driver : k < length (M .drivers)
   pub own : driverAt M k .process ≡ p
   pub delay : d < 2147483648
-  pub value : ValueOf (signalAt M (driverAt M k .signal) .ty) v
+  pub value : Carries (signalAt M (driverAt M k .signal)) v
 
 -- a jump to a statement of p; a wait at a wait, kind being that of the statement; a fault 1 or 2
 abbrev pub EffectFits : Model → ℕ → ℕ → Effect → Type 0

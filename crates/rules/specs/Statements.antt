@@ -1,6 +1,6 @@
 -- What a pick does: "A pick runs one statement of a ready process and moves the place on".
 -- "Statement kinds: 0 null; 1 variable a := b; 2 signal a <= b after c; 3 unless b go to statement a; 4 go to a; 5 wait on the
--- set until b for c, where b or c 65,535 means absent."
+-- set until b for c, where b or c 65,535 means absent." Statement kind 6: signal a <= null after c.
 use mathlib.Core.Bool.{Bool, false}
 use mathlib.Core.List.{List, [], _∷_, _++_}
 use mathlib.Core.Option.{Option, none, some}
@@ -14,6 +14,8 @@ use Rattle.blocks.specs.Records.{Model, processAt, statementAt}
 use Rattle.blocks.specs.declared.records.StatementRecord.{StatementRecord}
 use Rattle.fields.specs.Fields.{absent, endOf}
 use Rattle.model.specs.Owners.{driverFor}
+use Rattle.rules.specs.declared.driven.Driven.{Driven}
+use Rattle.rules.specs.declared.driven.Driven.the-variants.{To, Null}
 use Rattle.rules.specs.declared.value.Value.{Value}
 use Rattle.rules.specs.declared.value.Value.the-variants.{Of, Fault}
 use Rattle.rules.specs.declared.effect.Effect.{Effect}
@@ -35,10 +37,11 @@ unfoldable pub effectBy : Model → Environment → ℕ → StatementRecord → 
 effectBy M e p s =
     s .kind is 0 ⇒ Skip
     ∣ s .kind is 1 ⇒ withValue (evalOf M e (s .b)) (λ v. Store (s .a) v)
-    ∣ s .kind is 2 ⇒ withValue (evalOf M e (s .b)) (λ v. withDelay (evalOf M e (s .c)) (λ c. Schedule (driverFor M p (s .a)) c v))
+    ∣ s .kind is 2 ⇒ withValue (evalOf M e (s .b)) (λ v. withDelay (evalOf M e (s .c)) (λ c. Schedule (driverFor M p (s .a)) c (To v)))
     ∣ s .kind is 3 ⇒ withValue (evalOf M e (s .b)) (λ v. eqb v 0 ⇒ Jump (s .a) ∣ Skip)
     ∣ s .kind is 4 ⇒ Jump (s .a)
     ∣ s .kind is 5 ⇒ (eqb (s .c) absent ⇒ Wait ∣ withDelay (evalOf M e (s .c)) WaitFor)
+    ∣ s .kind is 6 ⇒ withDelay (evalOf M e (s .c)) (λ c. Schedule (driverFor M p (s .a)) c Null)
     ∣ Skip
 
 -- the effect of the statement at process p's place
@@ -51,8 +54,9 @@ unfoldable pub before : ℕ → List Transaction → List Transaction
 before at [] = []
 before at (x ∷ w) = ltb (x .time) at ⇒ (x ∷ before at w) ∣ before at w
 
--- "removes pending transactions at time + c or later, and adds one there"
-unfoldable pub scheduled : List Transaction → ℕ → ℕ → List Transaction
+-- "removes pending transactions at time + c or later, and adds one there": kind 6 "with the same waveform rule as kind 2", v being a
+-- value or null
+unfoldable pub scheduled : List Transaction → ℕ → Driven → List Transaction
 scheduled w at v = before at w ++ (record { time = at; value = v } ∷ [])
 
 -- fault 3: "a ninth transaction"
@@ -107,7 +111,7 @@ abbrev pub withPending : DriverState → List Transaction → DriverState
 withPending d w = record { current = d .current; pending = w }
 
 -- driver k with the transaction, unless that overflows
-unfoldable pub driverAfter : ℕ → ℕ → DriverState → DriverState
+unfoldable pub driverAfter : ℕ → Driven → DriverState → DriverState
 driverAfter at v d = overflows (scheduled (d .pending) at v) ⇒ d ∣ withPending d (scheduled (d .pending) at v)
 
 abbrev pub driversAfter : Effect → ℕ → List DriverState → List DriverState

@@ -6,10 +6,13 @@ use Prim.Native.Nat.{ℕ, _+_, _-_, _/_, _%_, _^_, min}
 use lib.Dec.{eqb}
 use lib.ListN.{length, getD, take, replicate}
 use Rattle.base.specs.Below.{anyBelow, listBelow}
-use Rattle.base.specs.Cases.{_∣_, _⇒_}
-use Rattle.blocks.specs.Records.{Model, driverAt, statementAt}
+use Rattle.base.specs.Cases.{_∣_, _⇒_, _is_⇒_}
+use Rattle.values.specs.Nine.{Z}
+use Rattle.blocks.specs.Records.{bus, Model, signalAt, driverAt, statementAt}
+use Rattle.blocks.specs.declared.records.SignalRecord.{SignalRecord}
 use Rattle.blocks.specs.declared.records.StatementRecord.{StatementRecord}
 use Rattle.fields.specs.Fields.{absent}
+use Rattle.rules.specs.declared.driven.Driven.{Driven}
 use Rattle.rules.specs.declared.value.Value.{Value}
 use Rattle.rules.specs.declared.value.Value.the-variants.{Of, Fault}
 use Rattle.rules.specs.Configuration.{Transaction, DriverState, ProcessState, Configuration, driverIn, processIn, currentOf, drivingOf, resolvedOr, ready, waiting}
@@ -25,7 +28,7 @@ dueIn t (x ∷ w) = eqb (x .time) t
 unfoldable pub transactionDue : ℕ → DriverState → Bool
 transactionDue t d = dueIn t (d .pending)
 
-abbrev pub takenIn : ℕ → ℕ → List Transaction → DriverState
+abbrev pub takenIn : ℕ → Driven → List Transaction → DriverState
 takenIn t current [] = record { current = current; pending = [] }
 takenIn t current (x ∷ w) =
     eqb (x .time) t ⇒ record { current = x .value; pending = w } ∣ record { current = current; pending = x ∷ w }
@@ -51,11 +54,17 @@ abbrev pub withCurrent : ℕ → List ℕ → List ℕ
 withCurrent v [] = v ∷ []
 withCurrent v (x ∷ past) = v ∷ past
 
+-- "With all its drivers null, a bus is Z and a register keeps its value": what the signal becomes then, v being its value
+unfoldable pub undriven : SignalRecord → ℕ → ℕ
+undriven d v = d .kind is bus ⇒ Z ∣ v
+
 -- "each signal with such a driver becomes the resolution of all its drivers' current values"
 unfoldable pub signalAfter : Model → Configuration → ℕ → List ℕ
 signalAfter M c s =
     active M (c .time) (c .drivers) s
-    ⇒ withCurrent (resolvedOr (currentOf (c .signals) s) (drivingOf M (map (taken (c .time)) (c .drivers)) s)) (getD (c .signals) s [])
+    ⇒ withCurrent
+    (resolvedOr (undriven (signalAt M s) (currentOf (c .signals) s)) (drivingOf M (map (taken (c .time)) (c .drivers)) s))
+    (getD (c .signals) s [])
     ∣ getD (c .signals) s []
 
 unfoldable pub signalsAfter : Model → Configuration → List (List ℕ)

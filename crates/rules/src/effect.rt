@@ -1,4 +1,5 @@
 // The effect of a statement.
+use crate::driven::Driven;
 
 // What one statement does to its process, its variables and its drivers.
 pub enum Effect {
@@ -6,8 +7,8 @@ pub enum Effect {
     Skip,
     // variable := value
     Store(usize, u32),
-    // driver, delay, value: a transaction
-    Schedule(usize, u32, u32),
+    // driver, delay, value or null: a transaction
+    Schedule(usize, u32, Driven),
     // the next place
     Jump(usize),
     // waits, with no deadline

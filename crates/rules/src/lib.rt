@@ -1,5 +1,6 @@
 // The rules of configurations, statements and orders (specs/), and their laws (proofs/). Code has only the forms that the rules name:
-// a value or a fault, and what a statement does.
+// a value or a fault, a value or null, and what a statement does.
+pub mod driven;
 pub mod effect;
 pub mod value;
 

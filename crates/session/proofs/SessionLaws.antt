@@ -52,7 +52,7 @@ module _ (m orders old : List ℕ) where
   -- the model is accepted: 9 and 10 decide
   pub model-accepted : refusalOf m ≡ 0 → numberOf m orders old ≡ firstFailing (lengthRules orders old)
   unfolding numberOf refusalOf
-  model-accepted h = later-decide 8 (rulesOf m) (lengthRules orders old) (rules-numbered m) h
+  model-accepted h = later-decide 20 (rulesOf m) (lengthRules orders old) (rules-numbered m) h
 
   -- "a refused one writes no answer and returns the empty configuration"
   pub refused-session : (r : Ended) → r .number ≡ numberOf m orders old → (r .number ≡ 0 → ⊥) → viewOf (r .config) ≡ empty → SessionIs m orders old old r

@@ -26,7 +26,7 @@ bufferOk orders buffer = eqb (length buffer) (4 * length orders)
 abbrev pub lengthRules : List ℕ → List ℕ → List Rule
 lengthRules orders buffer = (9 needs ordersOk orders) ∷ (10 needs bufferOk orders buffer) ∷ []
 
--- the first of 1 to 10 that applies, or 0
+-- the first that applies of the model's own numbers, 9 and 10, or 0
 unfoldable pub numberOf : List ℕ → List ℕ → List ℕ → ℕ
 numberOf model orders buffer = firstFailing (rulesOf model ++ lengthRules orders buffer)
 

@@ -12,11 +12,11 @@ use lib.Seq.{getD-set-same, getD-set-other}
 use borrow.Author.Count.{below-none, below-more}
 use borrow.Author.Tests.{eq-eqb, ne-eqb}
 use Rattle.base.proofs.Below.{any-start, any-next}
-use Rattle.blocks.specs.Records.{Model, driverAt}
+use Rattle.blocks.specs.Records.{Model, signalAt, driverAt}
 use Rattle.blocks.specs.declared.records.DriverRecord.{DriverRecord}
 use Rattle.model.specs.Facts.{Facts}
 use Rattle.rules.specs.Configuration.{resolvedOr}
-use Rattle.rules.specs.Steps.{inSet}
+use Rattle.rules.specs.Steps.{undriven, inSet}
 use Rattle.steps.specs.Entries.{drivingIn}
 use Rattle.steps.specs.Delta.{SetOf, activeIn, currentAfter, ResolvedTo}
 use Rattle.steps.proofs.SignalSets.{in-none}
@@ -70,7 +70,7 @@ module _ (M : Model) (currents : List ℕ) (ndrivers active : ℕ) (old : List �
 
     -- it is active, and v the resolution of its drivers' values, o being its old value
     module _ (o v changes' : ℕ) (a : inSet active j ≡ true) (l : 32 * j < length new) (e : o ≡ getD new (32 * j) 0)
-        (is : v ≡ resolvedOr o (drivingIn M currents j ndrivers)) (w : SetOf (λ s. inSet changes s || (eqb j s && not (eqb o v))) changes')
+        (is : v ≡ resolvedOr (undriven (signalAt M j) o) (drivingIn M currents j ndrivers)) (w : SetOf (λ s. inSet changes s || (eqb j s && not (eqb o v))) changes')
       where
         abbrev new' : List ℕ
         new' = set new (32 * j) v

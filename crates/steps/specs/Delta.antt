@@ -7,12 +7,12 @@ use lib.Dec.{eqb}
 use lib.ListN.{getD}
 use Rattle.base.specs.Below.{anyBelow}
 use Rattle.base.specs.Cases.{_∣_, _⇒_}
-use Rattle.blocks.specs.Records.{Model, driverAt, statementAt}
+use Rattle.blocks.specs.Records.{Model, signalAt, driverAt, statementAt}
 use Rattle.blocks.specs.declared.records.StatementRecord.{StatementRecord}
 use Rattle.fields.specs.Fields.{absent}
 use Rattle.rules.specs.Configuration.{ProcessState, resolvedOr, waiting}
 use Rattle.rules.specs.Evaluation.{Environment, evalOf}
-use Rattle.rules.specs.Steps.{inSet, deadlineDue, wakes, wokenBy}
+use Rattle.rules.specs.Steps.{undriven, inSet, deadlineDue, wakes, wokenBy}
 use Rattle.rules.specs.Invariant.{ProcessValid}
 use Rattle.steps.specs.Entries.{deadlineOf, drivingIn}
 use Rattle.steps.specs.declared.delta.Process.{Process}
@@ -26,10 +26,11 @@ pub record SetOf (f : ℕ → Bool) (set : ℕ) : Type 0 where
 unfoldable pub activeIn : Model → List ℕ → ℕ → ℕ → ℕ → Bool
 activeIn M due t n s = anyBelow (λ k. eqb (driverAt M k .signal) s && eqb (getD due k 0) t) n
 
--- the current value of signal s: where it is active, the resolution of the current values of the ndrivers drivers
+-- the current value of signal s: where it is active, the resolution of the current values of those of the ndrivers drivers that are on
 unfoldable pub currentAfter : Model → List ℕ → ℕ → ℕ → List ℕ → ℕ → ℕ
 currentAfter M currents ndrivers active signals s =
-    inSet active s ⇒ resolvedOr (getD signals (32 * s) 0) (drivingIn M currents s ndrivers) ∣ getD signals (32 * s) 0
+    inSet active s ⇒ resolvedOr (undriven (signalAt M s) (getD signals (32 * s) 0)) (drivingIn M currents s ndrivers)
+    ∣ getD signals (32 * s) 0
 
 -- the first n signals have their new current values, all else is as it was, and the set has the signals that changed
 pub record ResolvedTo (M : Model) (currents : List ℕ) (ndrivers active : ℕ) (old : List ℕ) (n : ℕ) (new : List ℕ) (set : ℕ) : Type 0 where

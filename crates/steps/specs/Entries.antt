@@ -1,13 +1,14 @@
 -- What entries of the struct's arrays stand for.
 use mathlib.Core.Option.{Option, none, some}
-use mathlib.Core.List.{List, [], _∷_}
+use mathlib.Core.List.{List, []}
 use Prim.Native.Nat.{ℕ, _+_, _*_}
 use lib.Dec.{eqb}
 use lib.ListN.{getD}
 use Rattle.base.specs.Below.{joinBelow, listBelow}
 use Rattle.base.specs.Cases.{_∣_, _⇒_}
 use Rattle.blocks.specs.Records.{Model, driverAt}
-use Rattle.waveforms.specs.Pending.{never}
+use Rattle.rules.specs.Configuration.{valuesOf}
+use Rattle.waveforms.specs.Pending.{never, drivenOf}
 
 -- no deadline is the largest number
 abbrev pub deadlineOf : ℕ → Option ℕ
@@ -17,6 +18,6 @@ deadlineOf t = eqb t never ⇒ none ∣ some t
 unfoldable pub historyOf : List ℕ → ℕ → List ℕ
 historyOf signals s = listBelow (λ k. getD signals (32 * s + k) 0) 32
 
--- the current values of those of the first n drivers that drive signal s
+-- the current values of those of the first n drivers that drive signal s and are on
 unfoldable pub drivingIn : Model → List ℕ → ℕ → ℕ → List ℕ
-drivingIn M currents s n = joinBelow (λ k. eqb (driverAt M k .signal) s ⇒ (getD currents k 0 ∷ []) ∣ []) n
+drivingIn M currents s n = joinBelow (λ k. eqb (driverAt M k .signal) s ⇒ valuesOf (drivenOf (getD currents k 0)) ∣ []) n

@@ -11,6 +11,7 @@ ghost use Rattle.rules.specs.Invariant.{ProcessValid};
 ghost use Rattle.expressions.specs.Reading.{arrays, Runs};
 ghost use Rattle.steps.specs.Delta.{SetOf, activeIn, ResolvedTo, stateOf, wokenFor, afterDelta, ProcessesValid, WokenTo};
 use crate::resolve::resolved;
+use crate::resolve::undriven;
 use crate::sets::has;
 use crate::sets::meet;
 use crate::sets::with;
@@ -50,7 +51,8 @@ pub fn actives<'a>(
     active
 }
 
-// Each active signal becomes the resolution of its drivers' current values. The result is the set of those that changed.
+// Each active signal becomes the resolution of its drivers' current values, or what it is undriven. The result is the set of those that
+// changed.
 pub fn resolve<'a>(
     m: &'a [u8],
     index: &'a Index,
@@ -62,7 +64,7 @@ pub fn resolve<'a>(
 ) -> u32
     requires { ⌜ Runs (now m) (now index) ⌝ }
     requires { ⌜ ndrivers ≡ length (modelOf (now m) .drivers) ⌝ }
-    requires { ⌜ nsignals ≤ 32 ⌝ }
+    requires { ⌜ nsignals ≡ length (modelOf (now m) .signals) ⌝ }
     requires { ⌜ length (now signals) ≡ 1024 ⌝ }
     ensures { λ r. ⌜ ResolvedTo (modelOf (now (m .entry))) (now (currents .entry)) ndrivers active (now (signals .entry)) nsignals (now (signals .exit)) r ⌝ }
 {
@@ -71,7 +73,8 @@ pub fn resolve<'a>(
     while s < nsignals {
         if has(active, s) {
             let old = signals[32 * s];
-            let v = resolved(m, index, currents, ndrivers, s, old);
+            let other = undriven(m, index, s, old);
+            let v = resolved(m, index, currents, ndrivers, s, other);
             signals[32 * s] = v;
             changed = with(changed, s, old != v);
         }

@@ -4,12 +4,16 @@ ghost use Prim.Native.Nat.{_<_};
 ghost use lib.ListN.{length};
 ghost use Rattle.base.specs.Cases.{_∣_, _⇒_};
 ghost use Rattle.values.specs.Resolve.{pairOf};
-ghost use Rattle.blocks.specs.Records.{modelOf};
+ghost use Rattle.blocks.specs.Records.{modelOf, signalAt};
 ghost use Rattle.rules.specs.Configuration.{resolvedOr};
+ghost use Rattle.rules.specs.Steps.{undriven};
 ghost use Rattle.expressions.specs.Reading.{Runs};
 ghost use Rattle.steps.specs.Entries.{drivingIn};
 use blocks::index::Index;
 use blocks::index::driver_at;
+use blocks::index::signal_at;
+use blocks::records::BUS;
+use waveforms::driver::NULL;
 
 // The resolution v of the values found so far, with x where it drives.
 fn joined(drives: bool, found: bool, v: u32, x: u32) -> u32
@@ -24,7 +28,7 @@ fn joined(drives: bool, found: bool, v: u32, x: u32) -> u32
     v
 }
 
-// The resolution of the current values of the drivers of signal s, or other where it has none.
+// The resolution of the current values of the drivers of signal s that are on, or other where there are none.
 pub fn resolved<'a>(
     m: &'a [u8],
     index: &'a Index,
@@ -43,10 +47,20 @@ pub fn resolved<'a>(
     while k < ndrivers {
         let d = driver_at(m, index, k);
         let x = currents[k];
-        let drives = d.signal == s;
+        let drives = (d.signal == s) & (x != NULL);
         v = joined(drives, found, v, x);
         found = found | drives;
         k += 1;
     }
     v
+}
+
+// What signal s becomes where all its drivers are null: a bus Z, and any other keeps its value.
+pub(crate) fn undriven<'a>(m: &'a [u8], index: &'a Index, s: usize, value: u32) -> u32
+    requires { ⌜ Runs (now m) (now index) ⌝ }
+    requires { ⌜ s < length (modelOf (now m) .signals) ⌝ }
+    ensures { λ r. ⌜ r ≡ undriven (signalAt (modelOf (now (m .entry))) s) value ⌝ }
+{
+    let d = signal_at(m, index, s);
+    if d.kind == BUS { values::Z } else { value }
 }

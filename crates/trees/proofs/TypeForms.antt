@@ -28,6 +28,11 @@ module _ (M : Model) (s u : StatementRecord) (e : s ≡ u) where
   unfolding statementTyped
   wait-typed k x y p q = rw (← e, k, p, q)
 
-  pub other-typed : (s .kind ≡ 1 → ⊥) → (s .kind ≡ 2 → ⊥) → (s .kind ≡ 3 → ⊥) → (s .kind ≡ 5 → ⊥) → true ≡ statementTyped M u
+  pub null-typed : s .kind ≡ 6 → (x : ℕ) → x ≡ typeOf M (s .c) → eqb x integer ≡ statementTyped M u
   unfolding statementTyped
-  other-typed f g h i = rw (← e, ne-eqb (s .kind) 1 f, ne-eqb (s .kind) 2 g, ne-eqb (s .kind) 3 h, ne-eqb (s .kind) 5 i)
+  null-typed k x p = rw (← e, k, p)
+
+  pub other-typed : (s .kind ≡ 1 → ⊥) → (s .kind ≡ 2 → ⊥) → (s .kind ≡ 3 → ⊥) → (s .kind ≡ 5 → ⊥) → (s .kind ≡ 6 → ⊥) → true ≡ statementTyped M u
+  unfolding statementTyped
+  other-typed f g h i j =
+      rw (← e, ne-eqb (s .kind) 1 f, ne-eqb (s .kind) 2 g, ne-eqb (s .kind) 3 h, ne-eqb (s .kind) 5 i, ne-eqb (s .kind) 6 j)

@@ -99,6 +99,7 @@ statementTyped M s =
     ∣ s .kind is 2 ⇒ (eqb (typeOf M (s .b)) (signalAt M (s .a) .ty) && eqb (typeOf M (s .c)) integer)
     ∣ s .kind is 3 ⇒ eqb (typeOf M (s .b)) boolean
     ∣ s .kind is 5 ⇒ ((eqb (s .b) absent || eqb (typeOf M (s .b)) boolean) && (eqb (s .c) absent || eqb (typeOf M (s .c)) integer))
+    ∣ s .kind is 6 ⇒ eqb (typeOf M (s .c)) integer
     ∣ true
 
 -- 7. "Types disagree"

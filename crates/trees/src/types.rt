@@ -165,6 +165,7 @@ fn statement_typed<'a>(m: &'a [u8], index: &'a Index, n: usize) -> bool
             & (type_at(m, index, s.c) == INTEGER),
         3 => type_at(m, index, s.b) == BOOLEAN,
         5 => typed_or_absent(m, index, s.b, BOOLEAN) & typed_or_absent(m, index, s.c, INTEGER),
+        6 => type_at(m, index, s.c) == INTEGER,
         _ => true,
     }
 }

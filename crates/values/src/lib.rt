@@ -7,6 +7,9 @@ ghost use Rattle.values.specs.Resolve.{inRow, pairIn, pairOf, resolution
 ghost use Rattle.values.specs.Operators.{notOf, andOf, orOf, xorOf};
 ghost use Rattle.values.specs.Bench.{rows, Holds};
 
+// The code of Z.
+pub const Z: u32 = 4;
+
 // Rows and columns of each table: U X 0 1 Z W L H -.
 const PAIR: [[u8; 9]; 9] = [
     [0, 0, 0, 0, 0, 0, 0, 0, 0], // U
@@ -98,7 +101,7 @@ fn resolve_by(table: &[[u8; 9]; 9], values: &[u8]) -> u32
     ensures { λ r. ⌜ r ≡ resolutionBy (pairIn (now (table .entry))) (now (values .entry)) ⌝ }
 {
     if values.len() == 0 {
-        return 4;
+        return Z;
     }
     let mut result = wide(values[0]);
     let mut i = 1;

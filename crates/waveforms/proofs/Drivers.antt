@@ -16,20 +16,22 @@ use borrow.Author.Tests.{lt-ltb, le-ltb}
 use Rattle.base.specs.Cases.{_∣_, _⇒_}
 use Rattle.base.specs.Below.{listBelow}
 use Rattle.base.proofs.Below.{list-none, list-more, list-first, list-length, list-at, list-same}
+use Rattle.rules.specs.declared.driven.Driven.{Driven}
+use Rattle.rules.specs.declared.driven.Driven.the-variants.{To}
 use Rattle.rules.specs.Configuration.{Transaction}
 use Rattle.rules.specs.Statements.{before, scheduled, overflows, driverAfter}
 use Rattle.rules.specs.Invariant.{Rising}
 use Rattle.rules.proofs.Waves.{scheduled-length}
-use Rattle.waveforms.specs.Pending.{never, pendingOf, firstTime}
+use Rattle.waveforms.specs.Pending.{never, drivenOf, pendingOf, firstTime}
 use Rattle.waveforms.specs.Waveform.{Waveform, Kept, Nearer, ScheduledTo, Ahead, Elapsed}
 use Rattle.waveforms.specs.declared.driver.Driver.{Driver}
 
 abbrev pub nothing : Transaction
-nothing = record { time = 0; value = 0 }
+nothing = record { time = 0; value = To 0 }
 
 -- transaction j of the arrays, at the time t
 abbrev pub transactionAt : ℕ → Driver → ℕ → Transaction
-transactionAt t d j = record { time = t + getD (d .times) j 0; value = getD (d .values) j 0 }
+transactionAt t d j = record { time = t + getD (d .times) j 0; value = drivenOf (getD (d .values) j 0) }
 
 -- each transaction of a waveform is later than those before it
 from-first : (t : ℕ) (w : List Transaction) → Rising t w → (k : ℕ) → k < length w → t ≤ getD w k nothing .time
@@ -172,8 +174,8 @@ reads-drop l d i (suc n) e =
 pub shifted : (l : List ℕ) → length l ≡ 8 → reads l 0 1 7 ++ 0 ∷ [] ≡ drop 1 l ++ 0 ∷ []
 shifted l e = ap (λ (m : List ℕ). m ++ 0 ∷ []) (reads-drop l 0 1 7 (omega arith))
 
--- a schedule at the time t, n being how many transactions are kept
-module _ (d : Driver) (w : Waveform d) (delay v n : ℕ) (k : Kept (d .times) (d .count) delay n) where
+-- a schedule of v at the time t, n being how many transactions are kept
+module _ (d : Driver) (w : Waveform d) (delay : ℕ) (v : Driven) (n : ℕ) (k : Kept (d .times) (d .count) delay n) where
   -- units from t compare as times do
   kept-are : (t : ℕ) → before (t + delay) (pendingOf t d) ≡ listBelow (transactionAt t d) n
   unfolding pendingOf
@@ -192,28 +194,30 @@ module _ (d : Driver) (w : Waveform d) (delay v n : ℕ) (k : Kept (d .times) (d
   unfolding overflows
   over h t = lt-ltb 8 (length (scheduled (pendingOf t d) (t + delay) v)) (omega (arith, scheduled-long t))
 
-  abbrev new : Driver
-  new = record { times = set (d .times) n delay; values = set (d .values) n v; count = n + 1 }
+  abbrev new : ℕ → Driver
+  new x = record { times = set (d .times) n delay; values = set (d .values) n x; count = n + 1 }
 
-  module _ (lt : length (d .times) ≡ 8) (lv : length (d .values) ≡ 8) (h : n < 8) where
-    new-listed : (t : ℕ) → pendingOf t new ≡ listBelow (transactionAt t d) n ++ (record { time = t + delay; value = v } ∷ [])
+  -- x is the word that holds v
+  module _ (lt : length (d .times) ≡ 8) (lv : length (d .values) ≡ 8) (h : n < 8) (x : ℕ) (held : drivenOf x ≡ v) where
+    new-listed : (t : ℕ) → pendingOf t (new x) ≡ listBelow (transactionAt t d) n ++ (record { time = t + delay; value = v } ∷ [])
     unfolding pendingOf
     new-listed t =
         let lt' : n < length (d .times) = omega arith in
         let lv' : n < length (d .values) = omega arith in
         rw (
           list-more,
-          list-same (transactionAt t new) (transactionAt t d) n
-              (λ j l. let o : j ≡ n → ⊥ = λ e. omega arith in rw (getD-set-other (d .times) n j delay 0 o, getD-set-other (d .values) n j v 0 o)),
+          list-same (transactionAt t (new x)) (transactionAt t d) n
+              (λ j l. let o : j ≡ n → ⊥ = λ e. omega arith in rw (getD-set-other (d .times) n j delay 0 o, getD-set-other (d .values) n j x 0 o)),
           getD-set-same (d .times) n delay 0 lt',
-          getD-set-same (d .values) n v 0 lv',
+          getD-set-same (d .values) n x 0 lv',
+          held,
         )
 
-    new-pending : (t : ℕ) → pendingOf t new ≡ scheduled (pendingOf t d) (t + delay) v
+    new-pending : (t : ℕ) → pendingOf t (new x) ≡ scheduled (pendingOf t d) (t + delay) v
     unfolding scheduled
     new-pending t = rw (kept-are t) (new-listed t)
 
-    pub scheduled-in : ScheduledTo d delay v (record { driver = new; full = false })
+    pub scheduled-in : ScheduledTo d delay v (record { driver = new x; full = false })
     unfolding driverAfter
     scheduled-in = record { driver = λ t x. rw (room h t, new-pending t); full = λ t. sym (room h t); few = omega arith }
 

@@ -1,1 +1,2 @@
 pub mod Drivers
+pub mod Held

@@ -3,6 +3,7 @@ use mathlib.Core.Path.{_≡_}
 use mathlib.Core.List.{List}
 use Prim.Native.Nat.{ℕ, _+_, _≤_, _<_}
 use lib.ListN.{getD}
+use Rattle.rules.specs.declared.driven.Driven.{Driven}
 use Rattle.rules.specs.Configuration.{DriverState}
 use Rattle.rules.specs.Statements.{scheduled, overflows, driverAfter}
 use Rattle.waveforms.specs.Pending.{NoneBefore, pendingOf}
@@ -24,13 +25,13 @@ pub record Kept (ts : List ℕ) (c at n : ℕ) : Type 0 where
 abbrev pub Nearer : List ℕ → ℕ → ℕ → List ℕ → Type 0
 Nearer old c n new = (j : ℕ) → j < c → n + getD new j 0 ≡ getD old j 0
 
--- a driver with the current value x, at the time t
-abbrev pub driving : ℕ → ℕ → Driver → DriverState
+-- a driver with the current value x, or null, at the time t
+abbrev pub driving : ℕ → Driven → Driver → DriverState
 driving t x d = record { current = x; pending = pendingOf t d }
 
--- a schedule of the value v in some units: whatever the time and the current value are, the driver is what the rules make of it
-pub record ScheduledTo (d : Driver) (delay v : ℕ) (r : Scheduled) : Type 0 where
-  pub driver : (t x : ℕ) → driving t x (r .driver) ≡ driverAfter (t + delay) v (driving t x d)
+-- a schedule of v, a value or null, in some units: whatever the time and the current value are, the driver is what the rules make of it
+pub record ScheduledTo (d : Driver) (delay : ℕ) (v : Driven) (r : Scheduled) : Type 0 where
+  pub driver : (t : ℕ) (x : Driven) → driving t x (r .driver) ≡ driverAfter (t + delay) v (driving t x d)
   pub full : (t : ℕ) → r .full ≡ overflows (scheduled (pendingOf t d) (t + delay) v)
   pub few : r .driver .count ≤ 8
 

@@ -1,14 +1,19 @@
-// A driver's waveform: at most eight pending transactions, rising in time. times[j] is in how many units transaction j is due.
+// A driver's waveform: at most eight pending transactions, rising in time. times[j] is in how many units transaction j is due,
+// values[j] its value, or NULL.
 ghost use mathlib.Core.Path.{_≡_};
 ghost use mathlib.Core.List.{[], _∷_, _++_};
 ghost use Prim.Native.Nat.{ℕ, _≤_};
 ghost use lib.ListN.{drop};
 ghost use Rattle.rules.specs.Configuration.{lastTime};
-ghost use Rattle.waveforms.specs.Pending.{pendingOf, firstTime, NoneBefore};
+ghost use Rattle.waveforms.specs.Pending.{drivenOf, wordFor, pendingOf, firstTime, NoneBefore};
 ghost use Rattle.waveforms.specs.Waveform.{Waveform, Kept, Nearer, ScheduledTo, Ahead, Elapsed};
+use rules::driven::Driven;
 
 // Later than any time: stands for no transaction and no deadline.
 pub const NEVER: u64 = 18446744073709551615;
+
+// The word that stands for null: no value has it.
+pub const NULL: u32 = 2147483648;
 
 pub struct Driver {
     pub times: [u32; 8],
@@ -20,6 +25,15 @@ pub struct Driver {
 pub struct Scheduled {
     pub driver: Driver,
     pub full: bool,
+}
+
+fn word_for(v: Driven) -> u32
+    ensures { λ r. ⌜ r ≡ wordFor v ⌝ }
+{
+    match v {
+        Driven::To(x) => x,
+        Driven::Null => NULL,
+    }
 }
 
 // How many of the first count times lie before the time at: the place of the first that does not.
@@ -71,15 +85,16 @@ impl Driver {
     }
 
     // Removes the pending transactions in delay units or later, and adds one there. A ninth is refused: the driver stays.
-    pub fn schedule(mut self, delay: u32, value: u32) -> Scheduled
+    pub fn schedule(mut self, delay: u32, value: Driven) -> Scheduled
         requires { ⌜ Waveform self ⌝ }
+        requires { ⌜ drivenOf (wordFor value) ≡ value ⌝ }
         ensures { λ r. ⌜ ScheduledTo self delay value r ⌝ }
     {
         let ts = self.times;
         let n = kept(ts, self.count, delay);
         if n < 8 {
             self.times[n] = delay;
-            self.values[n] = value;
+            self.values[n] = word_for(value);
             self.count = n + 1;
             Scheduled {
                 driver: self,

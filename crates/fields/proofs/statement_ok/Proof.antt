@@ -1,6 +1,6 @@
 use mathlib.Core.Path.{sym}
 use Rattle.blocks.proofs.Lookup.{signals-most}
-use Rattle.fields.proofs.FieldForms.{null-form, variable-set, signal-set, branch-form, jump-form, wait-form, other-form}
+use Rattle.fields.proofs.FieldForms.{null-form, variable-set, signal-set, branch-form, jump-form, wait-form, null-set, other-form}
 use Rattle.fields.proofs.statement_ok.Statement.{statement}
 use Rattle.fields.proofs.statement_ok.Tie as tie
 
@@ -53,9 +53,15 @@ returns-6 c =
 
 returns-7 : tie.Need-returns-7
 returns-7 c =
+    let k = c .before .before .before .before .before .before .before in
+    let s = k .before .before in
+    null-set _ (s .args .t) (s .pre .1) (s .args .n) (s .args .s) (k .match .keys7)
+
+returns-8 : tie.Need-returns-8
+returns-8 c =
     let s = c .before .before in
     let r = c .match .rest in
-    other-form _ (s .args .t) (s .pre .1) (s .args .n) (s .args .s) (r .0 .0 .0 .0 .0 .1) (r .0 .0 .0 .0 .1) (r .0 .0 .0 .1) (r .0 .0 .1) (r .0 .1) (r .1)
+    other-form _ (s .args .t) (s .pre .1) (s .args .n) (s .args .s) (r .0 .0 .0 .0 .0 .0 .1) (r .0 .0 .0 .0 .0 .1) (r .0 .0 .0 .0 .1) (r .0 .0 .0 .1) (r .0 .0 .1) (r .0 .1) (r .1)
 
 pub statement-ok-spec : {M : Type 1} → statement M
 statement-ok-spec =
@@ -70,4 +76,5 @@ statement-ok-spec =
     returns-4
     returns-5
     returns-6
-    returns-7)
+    returns-7
+    returns-8)

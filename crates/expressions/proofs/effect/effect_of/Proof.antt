@@ -20,9 +20,7 @@ effect-of-spec =
     -- eval-requires-2
     (λ c κs. (c .before .before .before .pre .0, statement-fits (c .before .before .before .pre) (c .before .statement-at .ensures) .signalAssignment (c .match .keys3) .value .node))
     -- assignment-driver-requires
-    (λ c κs.
-    let h = c .before in
-    driver-call (h .before .before .before .pre) (h .before .statement-at .ensures) (h .match .keys3))
+    (λ c κs. driver-call (c .before .before .before .before .pre))
     -- eval-requires-3
     (λ c κs.
     let h = c .before .before in
@@ -42,6 +40,14 @@ effect-of-spec =
     let h = c .before .before in
     (h .before .before .before .pre .0, statement-fits (h .before .before .before .pre) (h .before .statement-at .ensures) .wait (h .match .keys6) .delay (c .if1 .left) .node))
     -- wait-for-requires
+    (λ c κs. search needs)
+    -- assignment-driver-requires-2
+    (λ c κs. driver-call (c .before .before .before .pre))
+    -- eval-requires-6
+    (λ c κs.
+    let h = c .before in
+    (h .before .before .before .pre .0, statement-fits (h .before .before .before .pre) (h .before .statement-at .ensures) .nullAssignment (h .match .keys7) .delay .node))
+    -- schedule-requires
     (λ c κs. search needs)
     -- returns-2
     (λ c. rw (← c .before .statement-at .ensures, c .match .keys1))
@@ -65,4 +71,9 @@ effect-of-spec =
     let h = c .before .before .before .before in
     rw (← h .before .statement-at .ensures, h .match .keys6, ne-eqb _ _ (c .before .before .if1 .left), ← c .before .eval5 .ensures) (c .wait-for .ensures))
     -- returns-8
+    (λ c.
+    let h = c .before .before .before in
+    let driver = rw (← h .before .statement-at .ensures) at (c .before .before .assignment-driver2 .ensures) in
+    rw (← h .before .statement-at .ensures, h .match .keys7, ← c .before .eval6 .ensures, ← driver) (c .schedule .ensures))
+    -- returns-9
     (λ c. no-statement (c .before .before .before .pre) (c .before .statement-at .ensures) (c .match .rest)))

@@ -4,7 +4,8 @@ use borrow.Author.Tests.{not-true, not-false}
 use Rattle.blocks.specs.Records.{modelOf}
 use Rattle.fields.specs.Fields.{fieldsOk}
 use Rattle.trees.specs.Trees.{treesOk, typesOk}
-use Rattle.model.proofs.Rules.{fields-fail, trees-fail, types-fail, owners-fail, all-hold}
+use Rattle.model.specs.Owners.{ownersOk}
+use Rattle.model.proofs.Rules.{fields-fail, trees-fail, types-fail, owners-fail, nulls-fail, all-hold}
 use Rattle.model.proofs.load.model_refusal.Statement.{statement}
 use Rattle.model.proofs.load.model_refusal.Tie as tie
 
@@ -54,11 +55,29 @@ returns-4 c =
     let c2 = c3 .before .before .before in
     owners-fail _ _ (fields (c2 .before .before .before)) (trees c2) (types c3) (sym (c .before .owners-ok .ensures .0) ∙ not-true _ (c .if4 .taken))
 
+owners : (c : tie.Else4) → ownersOk (modelOf (c .before .before .before .before .before .before .before .before .before .before .before .before .before .args .m .now)) ≡ true
+owners c = sym (c .before .owners-ok .ensures .0) ∙ not-false _ (c .if4 .left)
+
+nulls-ok-requires : tie.Need-nulls-ok-requires
+nulls-ok-requires c κs =
+    let c4 = c .before in
+    let c1 = c4 .before .before .before .before .before .before .before .before .before in
+    let p = c1 .before .before .before .before .pre in
+    (c4 .before .owners-ok .ensures .1 .types .starts, (p .1 .1, fields c1))
+
 returns-5 : tie.Need-returns-5
 returns-5 c =
-    let c3 = c .before .before .before in
+    let c4 = c .before .before .before in
+    let c3 = c4 .before .before .before in
     let c2 = c3 .before .before .before in
-    all-hold _ _ (fields (c2 .before .before .before)) (trees c2) (types c3) (sym (c .before .owners-ok .ensures .0) ∙ not-false _ (c .if4 .left)) (c .before .owners-ok .ensures .1)
+    nulls-fail _ _ (fields (c2 .before .before .before)) (trees c2) (types c3) (owners c4) (sym (c .before .nulls-ok .ensures) ∙ not-true _ (c .if5 .taken))
+
+returns-6 : tie.Need-returns-6
+returns-6 c =
+    let c4 = c .before .before .before in
+    let c3 = c4 .before .before .before in
+    let c2 = c3 .before .before .before in
+    all-hold _ _ (fields (c2 .before .before .before)) (trees c2) (types c3) (owners c4) (sym (c .before .nulls-ok .ensures) ∙ not-false _ (c .if5 .left)) (c4 .before .owners-ok .ensures .1)
 
 pub model-refusal-spec : {M : Type 1} → statement M
 model-refusal-spec =
@@ -72,4 +91,6 @@ model-refusal-spec =
     returns-3
     owners-ok-requires
     returns-4
-    returns-5)
+    nulls-ok-requires
+    returns-5
+    returns-6)

@@ -10,6 +10,6 @@ pub assignment-driver-spec : {M : Type 1} → statement M
 assignment-driver-spec =
     tie.close
     (tie.spec
-    (λ c. let s = c .before in omega (arith, s .pre .1 .1 .0, statements-most (modelOf (now (s .args .m))) (s .pre .0 .totals)))
-    (λ c κs. let s = c .before in omega (arith, s .pre .1 .1 .0, statements-most (modelOf (now (s .args .m))) (s .pre .0 .totals)))
-    (λ c. let s = c .before .before in c .entry .ensures ∙ s .pre .1 .0 _ (s .pre .1 .1 .0) (s .pre .1 .1 .1)))
+    (λ c. let s = c .before in omega (arith, s .pre .1 .1, statements-most (modelOf (now (s .args .m))) (s .pre .0 .totals)))
+    (λ c κs. let s = c .before in omega (arith, s .pre .1 .1, statements-most (modelOf (now (s .args .m))) (s .pre .0 .totals)))
+    (λ c. let s = c .before .before in c .entry .ensures ∙ s .pre .1 .0 _ (s .pre .1 .1)))

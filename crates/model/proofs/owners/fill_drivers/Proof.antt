@@ -72,7 +72,7 @@ loop-again c =
         starts = starts-set _ (h .index) i k (past assignmentsAt tt (h .n)) (types .starts);
         type = types-kept _ (h .index) i k _ (types-before _ (h .n) (nodes-most (modelOf (now (s .args .m))) (types .starts .totals))) (types .type);
       },
-      drivers-next _ (h .index) (h .n) k (rw (types .size) place) (λ e. c .statement-driver .ensures .0) (h .inv .2),
+      drivers-next _ (h .index) (h .n) k (rw (types .size) place) (c .statement-driver .ensures .0) (h .inv .2),
     )
 
 returns : tie.Need-returns Inv-loop μ-loop

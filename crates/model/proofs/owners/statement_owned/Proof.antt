@@ -1,6 +1,7 @@
 -- `model::owners::statement_owned` meets its contract: each arm is a case of `statementOwned`. Assumes nothing.
 use mathlib.Core.Path.{_≡_}
 use mathlib.Core.Bool.{true}
+use mathlib.Core.Logic.{inl, inr}
 use Prim.Native.Nat.{ℕ, _<_}
 use denote.Ref.{now}
 use lib.ListN.{length}
@@ -9,7 +10,7 @@ use Rattle.blocks.specs.Index.{Starts}
 use Rattle.fields.specs.Fields.{fieldsOk, statementOk}
 use Rattle.fields.proofs.StatementFields.{statement-ok, names-variable, value-at, delay-node, wait-condition, wait-delay}
 use Rattle.trees.specs.Trees.{treesOk}
-use Rattle.model.proofs.RuleForms.{variable-owned, signal-owned, branch-owned, wait-owned, other-owned}
+use Rattle.model.proofs.RuleForms.{variable-owned, signal-owned, branch-owned, wait-owned, null-owned, other-owned}
 use Rattle.model.proofs.owners.statement_owned.Statement.{statement}
 use Rattle.model.proofs.owners.statement_owned.Tie as tie
 
@@ -45,7 +46,7 @@ assignment-driver-requires : tie.Need-assignment-driver-requires
 assignment-driver-requires c κs =
     let o = c .before in
     let p = o .before .before .before .pre in
-    (p .0 .types .starts, (p .0 .driver, (p .1 .1 .1 .1, rw (o .before .statement-at .ensures) at (c .match .keys2))))
+    (p .0 .types .starts, (p .0 .driver, p .1 .1 .1 .1))
 
 reads-own-requires-2 : tie.Need-reads-own-requires-2
 reads-own-requires-2 c κs =
@@ -57,7 +58,7 @@ reads-own-requires-3 : tie.Need-reads-own-requires-3
 reads-own-requires-3 c κs =
     let o = c .before .before .before .before in
     let s = o .before .before .before in
-    read o _ (delay-node (modelOf (now (s .args .m))) (s .args .n) (o .before .statement-at .result) (ok o) (c .before .before .before .match .keys2))
+    read o _ (delay-node (modelOf (now (s .args .m))) (s .args .n) (o .before .statement-at .result) (ok o) (inl (c .before .before .before .match .keys2)))
 
 reads-own-requires-4 : tie.Need-reads-own-requires-4
 reads-own-requires-4 c κs =
@@ -78,6 +79,17 @@ own-or-absent-requires-2 c κs =
     let s = o .before .before .before in
     let p = s .pre in
     (p .0 .types .starts, (p .1 .1 .0, (p .1 .1 .1 .0, wait-delay (modelOf (now (s .args .m))) (s .args .n) (o .before .statement-at .result) (ok o) (c .before .match .keys4))))
+
+assignment-driver-requires-2 : tie.Need-assignment-driver-requires-2
+assignment-driver-requires-2 c κs =
+    let p = c .before .before .before .before .pre in
+    (p .0 .types .starts, (p .0 .driver, p .1 .1 .1 .1))
+
+reads-own-requires-5 : tie.Need-reads-own-requires-5
+reads-own-requires-5 c κs =
+    let o = c .before .before .before in
+    let s = o .before .before .before in
+    read o _ (delay-node (modelOf (now (s .args .m))) (s .args .n) (o .before .statement-at .result) (ok o) (inr (c .before .before .match .keys5)))
 
 returns : tie.Need-returns
 returns c =
@@ -103,8 +115,14 @@ returns-4 c =
 
 returns-5 : tie.Need-returns-5
 returns-5 c =
+    let e = c .before .before in
+    let o = e .before .before in
+    null-owned _ _ _ (o .before .statement-at .ensures) _ _ (o .owner-of .ensures) (e .before .match .keys5) _ _ _ (e .assignment-driver2 .ensures) (o .before .before .before .pre .1 .0 .drivers) (c .reads-own5 .ensures)
+
+returns-6 : tie.Need-returns-6
+returns-6 c =
     let r = c .match .rest in
-    other-owned _ _ _ (c .before .before .statement-at .ensures) _ (r .0 .0 .0 .1) (r .0 .0 .1) (r .0 .1) (r .1)
+    other-owned _ _ _ (c .before .before .statement-at .ensures) _ (r .0 .0 .0 .0 .1) (r .0 .0 .0 .1) (r .0 .0 .1) (r .0 .1) (r .1)
 
 pub statement-owned-spec : {M : Type 1} → statement M
 statement-owned-spec =
@@ -120,8 +138,11 @@ statement-owned-spec =
     reads-own-requires-4
     own-or-absent-requires
     own-or-absent-requires-2
+    assignment-driver-requires-2
+    reads-own-requires-5
     returns
     returns-2
     returns-3
     returns-4
-    returns-5)
+    returns-5
+    returns-6)

@@ -11,7 +11,7 @@ use Rattle.steps.proofs.delta.resolve.Statement.{statement}
 use Rattle.steps.proofs.delta.resolve.Tie as tie
 
 abbrev Inv-loop : tie.InvT-loop
-Inv-loop m index currents ndrivers active signals₀ nsignals changed₀ s₀ signals changed s = (s ≤ nsignals) × (length signals ≡ 1024) × ResolvedTo (modelOf m) currents ndrivers active signals₀ s signals changed
+Inv-loop m index currents ndrivers active signals₀ nsignals changed₀ s₀ signals changed s = (s ≤ nsignals) × (nsignals ≤ 32) × (length signals ≡ 1024) × ResolvedTo (modelOf m) currents ndrivers active signals₀ s signals changed
 
 abbrev μ-loop : tie.MeasureT-loop
 μ-loop m index currents ndrivers active signals₀ nsignals changed₀ s₀ signals changed s = nsignals - s
@@ -23,7 +23,7 @@ resolve-spec =
     Inv-loop
     μ-loop
     -- loop-holds
-    (λ c. (search needs, search needs, resolved-none _ _ _ _ _))
+    (λ c. (search needs, rw (c .before .pre .1 .1 .0) (c .before .pre .0 .facts .totals .signals), search needs, resolved-none _ _ _ _ _))
     -- has-requires
     (λ c κs. search needs)
     -- mul-old
@@ -32,9 +32,13 @@ resolve-spec =
     (λ c. search needs)
     -- element-copy-out-old
     (λ c. search needs)
-    -- resolved-requires
+    -- undriven-requires
     (λ c κs.
     let start = c .before .before .before .before .before .before in
+    (start .pre .0, search needs))
+    -- resolved-requires
+    (λ c κs.
+    let start = c .before .before .before .before .before .before .before in
     (start .pre .0, search needs))
     -- mul-signals
     (λ c. search needs)
@@ -53,13 +57,14 @@ resolve-spec =
     let has = c .before .has in
     let head = c .before .before .before .loop in (
       search needs,
-      ⊎-elim (λ w. rw (w .4, length-set) (head .inv .1)) (λ w. rw (w .1) (head .inv .1)) (c .if1 .came),
+      head .inv .1,
+      ⊎-elim (λ w. rw (w .5, length-set) (head .inv .2)) (λ w. rw (w .1) (head .inv .2)) (c .if1 .came),
       ⊎-elim
-          (λ w. rw (w .4, w .5) (resolved-more _ _ _ _ _ _ _ _ (head .inv .2) _ _ _ (sym (has .ensures) ∙ w .0 .taken) (search needs) refl (w .2 .ensures) (w .3 .ensures)))
-          (λ w. rw (w .1, w .2) (resolved-same _ _ _ _ _ _ _ _ (head .inv .2) (sym (has .ensures) ∙ w .0 .left)))
+          (λ w. rw (w .5, w .6) (resolved-more _ _ _ _ _ _ _ _ (head .inv .3) _ _ _ (sym (has .ensures) ∙ w .0 .taken) (search needs) refl (rw (w .2 .ensures) at (w .3 .ensures)) (w .4 .ensures)))
+          (λ w. rw (w .1, w .2) (resolved-same _ _ _ _ _ _ _ _ (head .inv .3) (sym (has .ensures) ∙ w .0 .left)))
           (c .if1 .came),
     ))
     -- returns
     (λ c.
     let head = c .before .loop in
-    resolved-all _ _ _ _ _ _ _ _ _ (head .inv .0) (c .loop-test .left) (head .inv .2)))
+    resolved-all _ _ _ _ _ _ _ _ _ (head .inv .0) (c .loop-test .left) (head .inv .3)))

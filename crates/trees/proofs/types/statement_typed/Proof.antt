@@ -1,11 +1,12 @@
 -- `model::types::statement_typed` meets its contract: each arm is a case of `statementTyped`. Assumes nothing.
 use mathlib.Core.Path.{_≡_}
 use mathlib.Core.Bool.{true}
+use mathlib.Core.Logic.{inl, inr}
 use denote.Ref.{now}
 use Rattle.blocks.specs.Records.{modelOf}
 use Rattle.fields.specs.Fields.{statementOk}
 use Rattle.fields.proofs.StatementFields.{statement-ok, names-variable, names-signal, value-at, delay-node, wait-condition, wait-delay}
-use Rattle.trees.proofs.TypeForms.{variable-typed, signal-typed, branch-typed, wait-typed, other-typed}
+use Rattle.trees.proofs.TypeForms.{variable-typed, signal-typed, branch-typed, wait-typed, null-typed, other-typed}
 use Rattle.trees.proofs.types.statement_typed.Statement.{statement}
 use Rattle.trees.proofs.types.statement_typed.Tie as tie
 
@@ -36,12 +37,12 @@ type-at-requires-2 c κs =
 signal-type-requires : tie.Need-signal-type-requires
 signal-type-requires c κs =
     let s = c .before .before .before .before in
-    (s .pre .0 .starts, names-signal (modelOf (now (s .args .m))) (s .args .n) (c .before .before .statement-at .result) (ok (c .before .before)) (c .before .match .keys2))
+    (s .pre .0 .starts, names-signal (modelOf (now (s .args .m))) (s .args .n) (c .before .before .statement-at .result) (ok (c .before .before)) (inl (c .before .match .keys2)))
 
 type-at-requires-3 : tie.Need-type-at-requires-3
 type-at-requires-3 c κs =
     let s = c .before .before .before .before .before in
-    (s .pre .0 .starts, (s .pre .0 .type, delay-node (modelOf (now (s .args .m))) (s .args .n) (c .before .before .before .statement-at .result) (ok (c .before .before .before)) (c .before .before .match .keys2)))
+    (s .pre .0 .starts, (s .pre .0 .type, delay-node (modelOf (now (s .args .m))) (s .args .n) (c .before .before .before .statement-at .result) (ok (c .before .before .before)) (inl (c .before .before .match .keys2))))
 
 type-at-requires-4 : tie.Need-type-at-requires-4
 type-at-requires-4 c κs =
@@ -57,6 +58,11 @@ typed-or-absent-requires-2 : tie.Need-typed-or-absent-requires-2
 typed-or-absent-requires-2 c κs =
     let s = c .before .before .before .before in
     (s .pre .0, wait-delay (modelOf (now (s .args .m))) (s .args .n) (c .before .before .statement-at .result) (ok (c .before .before)) (c .before .match .keys4))
+
+type-at-requires-5 : tie.Need-type-at-requires-5
+type-at-requires-5 c κs =
+    let s = c .before .before .before in
+    (s .pre .0 .starts, (s .pre .0 .type, delay-node (modelOf (now (s .args .m))) (s .args .n) (c .before .statement-at .result) (ok (c .before)) (inr (c .match .keys5))))
 
 returns : tie.Need-returns
 returns c =
@@ -77,9 +83,12 @@ returns-4 c =
     wait-typed _ _ _ (k .before .statement-at .ensures) (k .match .keys4) _ _ (c .before .typed-or-absent .ensures) (c .typed-or-absent2 .ensures)
 
 returns-5 : tie.Need-returns-5
-returns-5 c =
+returns-5 c = null-typed _ _ _ (c .before .before .statement-at .ensures) (c .before .match .keys5) _ (c .type-at5 .ensures)
+
+returns-6 : tie.Need-returns-6
+returns-6 c =
     let r = c .match .rest in
-    other-typed _ _ _ (c .before .statement-at .ensures) (r .0 .0 .0 .1) (r .0 .0 .1) (r .0 .1) (r .1)
+    other-typed _ _ _ (c .before .statement-at .ensures) (r .0 .0 .0 .0 .1) (r .0 .0 .0 .1) (r .0 .0 .1) (r .0 .1) (r .1)
 
 pub statement-typed-spec : {M : Type 1} → statement M
 statement-typed-spec =
@@ -94,8 +103,10 @@ statement-typed-spec =
     type-at-requires-4
     typed-or-absent-requires
     typed-or-absent-requires-2
+    type-at-requires-5
     returns
     returns-2
     returns-3
     returns-4
-    returns-5)
+    returns-5
+    returns-6)

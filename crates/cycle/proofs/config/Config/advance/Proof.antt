@@ -15,7 +15,7 @@ use Rattle.cycle.proofs.DeltaDrivers.{slotOf, some-pending, slot-taken,
 use Rattle.cycle.proofs.DeltaView.{delta-answers, processes-kept}
 use Rattle.cycle.proofs.Soonest.{no-first-before, no-deadline-before}
 use Rattle.cycle.proofs.TimeView.{Elapsing, elapsing-none, elapsing-more, next-ahead, each-ahead, time-stepped}
-use Rattle.cycle.proofs.ViewLaws.{ndrivers-is, nprocesses-is}
+use Rattle.cycle.proofs.ViewLaws.{nsignals-is, ndrivers-is, nprocesses-is}
 use Rattle.cycle.proofs.config.Config.advance.Statement.{statement}
 use Rattle.cycle.proofs.config.Config.advance.Tie as tie
 
@@ -148,7 +148,7 @@ advance-spec =
     (λ c κs.
     let at = c .before .before .before .before in
     let e = looked at in
-    (entry e .pre .0, (ndrivers-is _ _ (valid e .reachable), (few-signals (facts e) (valid e), at .loop .inv .2 .signals))))
+    (entry e .pre .0, (ndrivers-is _ _ (valid e .reachable), (nsignals-is _ _ (valid e .reachable), at .loop .inv .2 .signals))))
     -- wake-requires
     (λ c κs.
     let at = c .before .before .before .before .before .before .before .before .before .before .before .before in

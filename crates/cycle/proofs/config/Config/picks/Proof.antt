@@ -13,7 +13,7 @@ use Rattle.cycle.specs.declared.config.Config.{Config}
 use Rattle.cycle.specs.declared.picks.Turns.{Turns}
 use Rattle.cycle.proofs.Changes.{Sized}
 use Rattle.cycle.proofs.OrderLaws.{turns-within, picks-answer}
-use Rattle.cycle.proofs.Turning.{Turning, Turn, Stepped, statement-there, is-ready, turning-next, goes-on, turning-none, turning-past, turning-end, early, in-16, process-in-model, place-spans, in-variables, wait-small, skip-turn, store-turn, jump-turn, wait-turn, wait-for-turn, stop-turn, in-drivers, waveform, full-turn, schedule-turn}
+use Rattle.cycle.proofs.Turning.{Turning, Turn, Stepped, statement-there, is-ready, turning-next, goes-on, turning-none, turning-past, turning-end, early, in-16, process-in-model, place-spans, in-variables, wait-small, skip-turn, store-turn, jump-turn, wait-turn, wait-for-turn, stop-turn, in-drivers, waveform, word-held, full-turn, schedule-turn}
 use Rattle.cycle.proofs.config.Config.picks.Statement.{statement}
 use Rattle.cycle.proofs.config.Config.picks.Tie as tie
 
@@ -178,7 +178,9 @@ element-copy-out-e : tie.Need-element-copy-out-e Inv-loop μ-loop
 element-copy-out-e c = in-drivers (turn (c .before .before .before .before)) _ _ _ (c .before .effect2 .given .1)
 
 schedule-requires : tie.Need-schedule-requires Inv-loop μ-loop
-schedule-requires c κs = waveform (turn (c .before .before .before .before .before)) _ _ _ (c .before .before .effect2 .given .1)
+schedule-requires c κs =
+    let t = turn (c .before .before .before .before .before) in
+    (waveform t _ _ _ (c .before .before .effect2 .given .1), word-held t _ _ _ (c .before .before .effect2 .given .1))
 
 mul-self-4 : tie.Need-mul-self-4 Inv-loop μ-loop
 mul-self-4 c = omega (arith, in-16 (turn (c .before .before .before .before .before .before .before)))

@@ -1,0 +1,152 @@
+-- Two cards on shared lines: "A driver whose current transaction is null adds nothing to the resolution. With all its drivers null, a
+-- bus is Z and a register keeps its value; a signal without a driver keeps its starting value. [..] Two schedules that come to rest
+-- must still agree, now also on which drivers are off. Answers: 20, kind 6 on a plain signal, checked after 8."
+use mathlib.Core.Path.{_≡_}
+use mathlib.Core.List.{List, [], _∷_, _++_, map, flatten}
+use Prim.Native.Nat.{ℕ}
+use Rattle.base.specs.Rules.{firstFailing}
+use Rattle.values.specs.Nine.{‘0’, ‘1’, Z}
+use Rattle.values.specs.Bench.{Row, _gives_}
+use Rattle.blocks.specs.Records.{plain, bus, register, Model}
+use Rattle.blocks.specs.declared.records.DriverRecord.{DriverRecord}
+use Rattle.fields.specs.Fields.{absent}
+use Rattle.trees.specs.Trees.{logic}
+use Rattle.model.specs.Rules.{recordRules, Accepted}
+use Rattle.rules.specs.declared.driven.Driven.{Driven}
+use Rattle.rules.specs.declared.driven.Driven.the-variants.{To, Null}
+use Rattle.rules.specs.Configuration.{DriverState, Configuration, currentOf}
+use Rattle.session.specs.Lists.{Order}
+use Rattle.cases.specs.Forms.{signal, process, driver, node, statement, block, pickOrder, advanceOrder, settleOrder}
+use Rattle.cases.specs.Bench.{after}
+
+-- signal 0 is a bus and 1 a register, both starting at '0'; 2 is a bus without a driver, starting at '1'.
+-- Process 0: 0 and 1 <= '1' after 0; both <= null after 1; wait. Process 1: both <= null after 0; wait.
+unfoldable pub cards : Model
+cards =
+    record {
+      signals = signal logic bus ‘0’ ∷ signal logic register ‘0’ ∷ signal logic bus ‘1’ ∷ [];
+      variables = [];
+      processes = process 0 5 ∷ process 5 3 ∷ [];
+      drivers = driver 0 0 ∷ driver 0 1 ∷ driver 1 0 ∷ driver 1 1 ∷ [];
+      nodes = node 2 0 0 ‘1’ ∷ node 1 0 0 0 ∷ node 1 0 0 1 ∷ [];
+      statements =
+          statement 2 0 0 1 0
+          ∷ statement 2 1 0 1 0
+          ∷ statement 6 0 0 2 0
+          ∷ statement 6 1 0 2 0
+          ∷ statement 5 0 absent absent 0
+          ∷ statement 6 0 0 1 0
+          ∷ statement 6 1 0 1 0
+          ∷ statement 5 0 absent absent 0
+          ∷ [];
+    }
+
+-- the same model as bytes: a block for each kind of which it has records
+unfoldable pub cardSignals : List ℕ
+cardSignals =
+    block 0 1 3
+    (1 ∷ 1 ∷ 0 ∷ 0 ∷ 2 ∷ 0 ∷ 0 ∷ 0 ∷ 0 ∷ 0 ∷ 0 ∷ 0
+    ∷ 1 ∷ 2 ∷ 0 ∷ 0 ∷ 2 ∷ 0 ∷ 0 ∷ 0 ∷ 0 ∷ 0 ∷ 0 ∷ 0
+    ∷ 1 ∷ 1 ∷ 0 ∷ 0 ∷ 3 ∷ 0 ∷ 0 ∷ 0 ∷ 0 ∷ 0 ∷ 0 ∷ 0
+    ∷ [])
+    246 248
+
+unfoldable pub cardProcesses : List ℕ
+cardProcesses =
+    block 1 3 2
+    (0 ∷ 0 ∷ 5 ∷ 0 ∷ 0 ∷ 0 ∷ 0 ∷ 0 ∷ 0 ∷ 0 ∷ 0 ∷ 0
+    ∷ 5 ∷ 0 ∷ 3 ∷ 0 ∷ 0 ∷ 0 ∷ 0 ∷ 0 ∷ 0 ∷ 0 ∷ 0 ∷ 0
+    ∷ [])
+    240 253
+
+unfoldable pub cardDrivers : List ℕ
+cardDrivers =
+    block 2 4 4
+    (0 ∷ 0 ∷ 0 ∷ 0 ∷ 0 ∷ 0 ∷ 0 ∷ 0 ∷ 0 ∷ 0 ∷ 0 ∷ 0
+    ∷ 0 ∷ 1 ∷ 0 ∷ 0 ∷ 0 ∷ 0 ∷ 0 ∷ 0 ∷ 0 ∷ 0 ∷ 0 ∷ 0
+    ∷ 1 ∷ 0 ∷ 0 ∷ 0 ∷ 0 ∷ 0 ∷ 0 ∷ 0 ∷ 0 ∷ 0 ∷ 0 ∷ 0
+    ∷ 1 ∷ 1 ∷ 0 ∷ 0 ∷ 0 ∷ 0 ∷ 0 ∷ 0 ∷ 0 ∷ 0 ∷ 0 ∷ 0
+    ∷ [])
+    249 249
+
+unfoldable pub cardNodes : List ℕ
+cardNodes =
+    block 3 5 3
+    (2 ∷ 0 ∷ 0 ∷ 0 ∷ 0 ∷ 0 ∷ 0 ∷ 0 ∷ 3 ∷ 0 ∷ 0 ∷ 0
+    ∷ 1 ∷ 0 ∷ 0 ∷ 0 ∷ 0 ∷ 0 ∷ 0 ∷ 0 ∷ 0 ∷ 0 ∷ 0 ∷ 0
+    ∷ 1 ∷ 0 ∷ 0 ∷ 0 ∷ 0 ∷ 0 ∷ 0 ∷ 0 ∷ 1 ∷ 0 ∷ 0 ∷ 0
+    ∷ [])
+    241 252
+
+unfoldable pub cardStatements : List ℕ
+cardStatements =
+    block 4 6 8
+    (2 ∷ 0 ∷ 0 ∷ 0 ∷ 0 ∷ 0 ∷ 1 ∷ 0 ∷ 0 ∷ 0 ∷ 0 ∷ 0
+    ∷ 2 ∷ 0 ∷ 1 ∷ 0 ∷ 0 ∷ 0 ∷ 1 ∷ 0 ∷ 0 ∷ 0 ∷ 0 ∷ 0
+    ∷ 6 ∷ 0 ∷ 0 ∷ 0 ∷ 0 ∷ 0 ∷ 2 ∷ 0 ∷ 0 ∷ 0 ∷ 0 ∷ 0
+    ∷ 6 ∷ 0 ∷ 1 ∷ 0 ∷ 0 ∷ 0 ∷ 2 ∷ 0 ∷ 0 ∷ 0 ∷ 0 ∷ 0
+    ∷ 5 ∷ 0 ∷ 0 ∷ 0 ∷ 255 ∷ 255 ∷ 255 ∷ 255 ∷ 0 ∷ 0 ∷ 0 ∷ 0
+    ∷ 6 ∷ 0 ∷ 0 ∷ 0 ∷ 0 ∷ 0 ∷ 1 ∷ 0 ∷ 0 ∷ 0 ∷ 0 ∷ 0
+    ∷ 6 ∷ 0 ∷ 1 ∷ 0 ∷ 0 ∷ 0 ∷ 1 ∷ 0 ∷ 0 ∷ 0 ∷ 0 ∷ 0
+    ∷ 5 ∷ 0 ∷ 0 ∷ 0 ∷ 255 ∷ 255 ∷ 255 ∷ 255 ∷ 0 ∷ 0 ∷ 0 ∷ 0
+    ∷ [])
+    202 247
+
+unfoldable pub cardBlocks : List (List ℕ)
+cardBlocks = cardSignals ∷ cardProcesses ∷ cardDrivers ∷ cardNodes ∷ cardStatements ∷ []
+
+unfoldable pub cardsBytes : List ℕ
+cardsBytes = flatten cardBlocks
+
+-- up to the delta step in which card 0 drives and card 1 lets go, and up to that in which card 0 lets go too
+abbrev pub driven : List Order
+driven = settleOrder 10 ∷ advanceOrder ∷ []
+
+abbrev pub released : List Order
+released = driven ++ (advanceOrder ∷ advanceOrder ∷ [])
+
+-- the same with card 1 picked first
+abbrev pub swapped : List Order
+swapped =
+    pickOrder 1 ∷ pickOrder 1 ∷ pickOrder 0 ∷ pickOrder 1 ∷ settleOrder 10 ∷ advanceOrder ∷ advanceOrder ∷ advanceOrder ∷ []
+
+-- one process: signal 0, of the kind, <= null after 0; wait
+abbrev pub lettingGo : ℕ → List DriverRecord → Model
+lettingGo kind drivers =
+    record {
+      signals = signal logic kind ‘0’ ∷ [];
+      variables = [];
+      processes = process 0 2 ∷ [];
+      drivers = drivers;
+      nodes = node 1 0 0 0 ∷ [];
+      statements = statement 6 0 0 0 0 ∷ statement 5 0 absent absent 0 ∷ [];
+    }
+
+abbrev pub valueAfter : List Order → ℕ → ℕ
+valueAfter os s = currentOf (after cards os .signals) s
+
+abbrev pub refusalWith : ℕ → List DriverRecord → ℕ
+refusalWith kind drivers = firstFailing (recordRules (lettingGo kind drivers))
+
+unfoldable pub lineRows : List Row
+lineRows =
+    (valueAfter driven 0 gives ‘1’)
+    ∷ (valueAfter driven 1 gives ‘1’)
+    ∷ (valueAfter released 0 gives Z)
+    ∷ (valueAfter released 1 gives ‘1’)
+    ∷ (valueAfter released 2 gives ‘1’)
+    ∷ (refusalWith plain (driver 0 0 ∷ []) gives 20)
+    ∷ (refusalWith plain [] gives 8)
+    ∷ (refusalWith bus (driver 0 0 ∷ []) gives 0)
+    ∷ (refusalWith register [] gives 8)
+    ∷ []
+
+-- what the drivers of a configuration carry
+abbrev pub carried : Configuration → List Driven
+carried c = map (λ (d : DriverState). d .current) (c .drivers)
+
+pub record LinesReleased : Type 0 where
+  pub said : map (λ r. r .said) lineRows ≡ ‘1’ ∷ ‘1’ ∷ Z ∷ ‘1’ ∷ ‘1’ ∷ 20 ∷ 8 ∷ 0 ∷ 8 ∷ []
+  pub accepted : Accepted cards
+  pub one-off : carried (after cards driven) ≡ To ‘1’ ∷ To ‘1’ ∷ Null ∷ Null ∷ []
+  pub all-off : carried (after cards released) ≡ Null ∷ Null ∷ Null ∷ Null ∷ []
