@@ -1,5 +1,7 @@
 //! The paper's bench cases, and cases for its single sentences.
 
+mod nulls;
+
 use crate::builder::Builder;
 use crate::cases::*;
 use crate::cycle::*;
@@ -131,7 +133,7 @@ fn settle_of_no_picks() {
 
 #[test]
 fn waveform_of_eight() {
-    let eight: Vec<(u64, i32)> = (1..=8).map(|n| (n, n as i32)).collect();
+    let eight: Vec<(u64, Carried)> = (1..=8).map(|n| (n, Some(n as i32))).collect();
     let (a, c) = play(&line(&[1, 2, 3, 4, 5, 6, 7, 8]), &[(SETTLE, 0, 8)]);
     assert_eq!(a, [(0, 1, 8, 0, 0)]);
     assert_eq!(c.drivers[0].wave, eight);
@@ -152,9 +154,12 @@ fn waveform_of_eight() {
     assert_eq!(c.drivers[0].wave, eight);
     // An earlier one removes all later ones.
     let (_, c) = play(&line(&[1, 2, 3, 4, 5, 6, 7, 8, 3]), &[SET]);
-    assert_eq!(c.drivers[0].wave, [(1, 1), (2, 2), (3, 3)]);
+    assert_eq!(
+        c.drivers[0].wave,
+        [(1, Some(1)), (2, Some(2)), (3, Some(3))]
+    );
     let (_, c) = play(&line(&[1, 2, 0]), &[SET]);
-    assert_eq!(c.drivers[0].wave, [(0, 0)]);
+    assert_eq!(c.drivers[0].wave, [(0, Some(0))]);
 }
 
 #[test]
@@ -213,7 +218,7 @@ fn no_orders() {
         c.drivers,
         vec![
             Driver {
-                current: 8,
+                current: Some(8),
                 wave: vec![]
             };
             3
@@ -400,8 +405,8 @@ fn quiet_driver_still_drives() {
     b.driver(1, s);
     let (a, c) = play(&b, &[SET, ADV, (READ, 0, 0)]);
     assert_eq!(a[2].3, 1);
-    assert_eq!(c.drivers[0].current, 3);
-    assert_eq!(c.drivers[1].current, 2);
+    assert_eq!(c.drivers[0].current, Some(3));
+    assert_eq!(c.drivers[1].current, Some(2));
 }
 
 #[test]
@@ -502,7 +507,7 @@ fn wait_forms() {
 fn time_step_changes_no_current_value() {
     let (_, c) = play(&line(&[3]), &[SET, ADV]);
     assert_eq!((c.time, c.signals[0][0]), (3, 0));
-    assert_eq!(c.drivers[0].wave, [(3, 3)]);
+    assert_eq!(c.drivers[0].wave, [(3, Some(3))]);
 }
 
 #[test]
@@ -679,6 +684,7 @@ fn totals() {
                 32,
                 SignalRecord {
                     ty: LOGIC,
+                    kind: PLAIN,
                     start: 0,
                 },
             );
@@ -755,7 +761,7 @@ fn fields() {
         |b| b.m.nodes[8].k = 1,
         |b| b.m.nodes[9].b = 1,
         |b| b.m.statements[0].a = 1,
-        |b| b.m.statements[0].kind = 6,
+        |b| b.m.statements[0].kind = 7,
         |b| b.m.statements[1].a = 3,
         |b| b.m.statements[1].b = 13,
         |b| b.m.statements[1].b = ABSENT,
@@ -785,7 +791,7 @@ fn fields() {
 fn every_unnamed_byte() {
     let bytes = rich().encode();
     let named: [&[usize]; 6] = [
-        &[0, 4, 5, 6, 7],
+        &[0, 1, 4, 5, 6, 7],
         &[0, 1, 4, 5, 6, 7],
         &[0, 1, 2, 3],
         &[0, 1],

@@ -12,8 +12,24 @@ impl Builder {
         Builder::default()
     }
 
+    /// A plain signal.
     pub fn signal(&mut self, ty: u8, start: i32) -> u16 {
-        self.m.signals.push(SignalRecord { ty, start });
+        self.signal_of(ty, PLAIN, start)
+    }
+
+    /// A logic signal that is a bus.
+    pub fn bus(&mut self, start: i32) -> u16 {
+        self.signal_of(LOGIC, BUS, start)
+    }
+
+    /// A logic signal that is a register.
+    pub fn register(&mut self, start: i32) -> u16 {
+        self.signal_of(LOGIC, REGISTER, start)
+    }
+
+    /// Adds a signal of any type and kind.
+    pub fn signal_of(&mut self, ty: u8, kind: u8, start: i32) -> u16 {
+        self.m.signals.push(SignalRecord { ty, kind, start });
         self.m.signals.len() as u16 - 1
     }
 
@@ -105,6 +121,11 @@ impl Builder {
 
     pub fn wait(&mut self, set: u32, b: u16, c: u16) -> u16 {
         self.statement(5, 0, b, c, set)
+    }
+
+    /// A null transaction.
+    pub fn release(&mut self, signal: u16, c: u16) -> u16 {
+        self.statement(6, signal, 0, c, 0)
     }
 
     pub fn encode(&self) -> Vec<u8> {

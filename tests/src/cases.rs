@@ -2,6 +2,7 @@
 //! limits of orders and answers.
 
 use crate::builder::Builder;
+use crate::cycle::Carried;
 use crate::gen::order;
 use crate::model::*;
 use crate::values::code;
@@ -92,6 +93,61 @@ pub fn drivers(letters: &str) -> Builder {
         b.wait(0, ABSENT, ABSENT);
         b.driver(p as u8, s);
     }
+    b
+}
+
+/// One process per letter drives a common line of this kind to it at once and
+/// lets go of it after 1, 2, .. in turn; one more waits on the line.
+pub fn cards(kind: u8, letters: &str) -> Builder {
+    let mut b = Builder::new();
+    let s = b.signal_of(LOGIC, kind, 4);
+    let zero = b.integer(0);
+    for (p, letter) in letters.bytes().enumerate() {
+        let v = b.logic(code(letter));
+        let off = b.integer(p as i32 + 1);
+        b.process();
+        b.schedule(s, v, zero);
+        b.release(s, off);
+        b.wait(0, ABSENT, ABSENT);
+        b.driver(p as u8, s);
+    }
+    b.process();
+    b.wait(1 << s, ABSENT, ABSENT);
+    b
+}
+
+/// One process gives a line of this kind transactions (delay, code or null),
+/// then waits.
+pub fn releases(kind: u8, list: &[(i32, Carried)]) -> Builder {
+    let mut b = Builder::new();
+    let s = b.signal_of(LOGIC, kind, 2);
+    b.process();
+    for &(delay, carried) in list {
+        let delay = b.integer(delay);
+        match carried {
+            Some(code) => {
+                let value = b.logic(code as u8);
+                b.schedule(s, value, delay)
+            }
+            None => b.release(s, delay),
+        };
+    }
+    b.wait(0, ABSENT, ABSENT);
+    b.driver(0, s);
+    b
+}
+
+/// A null after x + y on a bus that has eight transactions pending.
+pub fn null_after(x: i32, y: i32) -> Builder {
+    let eight: Vec<(i32, Carried)> = (1..=8).map(|n| (n, (n % 2 == 0).then_some(3))).collect();
+    let mut b = releases(BUS, &eight);
+    let (x, y) = (b.integer(x), b.integer(y));
+    let sum = b.binary(11, x, y);
+    b.m.statements[8] = StatementRecord {
+        kind: 6,
+        c: sum,
+        ..Default::default()
+    };
     b
 }
 
@@ -236,6 +292,67 @@ fn resolution_row(row: u8) -> Builder {
     b
 }
 
+/// A settle, then advances with a read of signal 0 and a settle after each.
+pub fn watched(advances: usize) -> Vec<u8> {
+    let round = orders(&[(ADVANCE, 0, 0), (READ, 0, 0), (SETTLE, 0, 20)]);
+    [orders(&[(SETTLE, 0, 30)]), round.repeat(advances)].concat()
+}
+
+/// Bus and register lines whose drivers let go of them.
+fn null_sessions(add: &mut impl FnMut(String, &Builder, Vec<u8>)) {
+    for (kind, name) in [(BUS, "bus"), (REGISTER, "register")] {
+        for letters in [
+            "", "1", "-", "01", "-0", "0-", "--", "LH", "H0L", "U1", "ZZ",
+        ] {
+            add(
+                format!("a {name} with cards {letters}"),
+                &cards(kind, letters),
+                watched(2 * letters.len() + 2),
+            );
+        }
+        // Nulls and values that remove one another.
+        let on = Some(3);
+        let off = None;
+        for (n, list) in [
+            &[(0, off)][..],
+            &[(1, off), (1, on)],
+            &[(1, on), (1, off)],
+            &[(1, off), (1, off)],
+            &[(1, off), (0, on)],
+            &[(1, on), (0, off)],
+            &[(1, off), (2, on), (2, off), (3, off), (4, on)],
+            &[(1, on), (3, off), (2, off)],
+        ]
+        .into_iter()
+        .enumerate()
+        {
+            add(
+                format!("a {name} with releases {n}"),
+                &releases(kind, list),
+                watched(8),
+            );
+        }
+        for last in [7, 8, 9] {
+            for carried in [on, off] {
+                let mut list: Vec<(i32, Carried)> = (1..=8).map(|n| (n, off)).collect();
+                list.push((last, carried));
+                add(
+                    format!("a {name} with eight nulls, then {carried:?} after {last}"),
+                    &releases(kind, &list),
+                    watched(3),
+                );
+            }
+        }
+    }
+    for (x, y) in [(TOP, 1), (-1, 0), (TOP, 0), (8, 0), (0, 0)] {
+        add(
+            format!("a null after {x} + {y}, eight pending"),
+            &null_after(x, y),
+            watched(3),
+        );
+    }
+}
+
 /// All named sessions.
 pub fn sessions() -> Vec<Case> {
     let mut list = vec![];
@@ -286,6 +403,7 @@ pub fn sessions() -> Vec<Case> {
             orders(&[(SETTLE, 0, 20)]),
         );
     }
+    null_sessions(&mut add);
     for turns in [998, 999, 1_000, 1_001, 1_002] {
         add(
             format!("{turns} delta steps"),

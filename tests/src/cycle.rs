@@ -1,6 +1,6 @@
 //! Configuration, pick, advance, settle and read.
 
-use crate::model::{driver_of, Model, StatementRecord, ABSENT, BOOLEAN, INTEGER};
+use crate::model::{driver_of, Model, StatementRecord, ABSENT, BOOLEAN, BUS, INTEGER, REGISTER};
 use crate::values;
 
 pub const READY: u8 = 0;
@@ -18,11 +18,15 @@ pub const WAVEFORM: usize = 8;
 pub const DELTA_LIMIT: u32 = 1_000;
 pub const TIME_LIMIT: u64 = 1_000_000_000_000;
 
+/// What a transaction carries: a value, or null where it is None.
+pub type Carried = Option<i32>;
+
 #[derive(Clone, Debug, Default, PartialEq, Eq)]
 pub struct Driver {
-    pub current: i32,
-    /// Pending transactions (time, value), rising in time.
-    pub wave: Vec<(u64, i32)>,
+    /// The current transaction; a null one lets go of the signal.
+    pub current: Carried,
+    /// Pending transactions (time, value or null), rising in time.
+    pub wave: Vec<(u64, Carried)>,
 }
 
 #[derive(Clone, Debug, Default, PartialEq, Eq)]
@@ -87,15 +91,19 @@ pub enum Step {
     Time,
 }
 
-/// A signal's value from its drivers' current values, none if it has none.
-fn resolved(m: &Model, drivers: &[Driver], signal: usize) -> Option<i32> {
-    let values: Vec<i32> = m
-        .drivers
+/// The current values of a signal's drivers; one that is null adds none.
+fn driving_values(m: &Model, drivers: &[Driver], signal: usize) -> Vec<i32> {
+    m.drivers
         .iter()
         .zip(drivers)
         .filter(|(record, _)| record.signal as usize == signal)
-        .map(|(_, driver)| driver.current)
-        .collect();
+        .filter_map(|(_, driver)| driver.current)
+        .collect()
+}
+
+/// A signal's value from its driving values, none if there are none.
+fn resolved(m: &Model, drivers: &[Driver], signal: usize) -> Option<i32> {
+    let values = driving_values(m, drivers, signal);
     if values.is_empty() {
         None
     } else if m.signals[signal].ty == INTEGER {
@@ -114,7 +122,7 @@ impl Config {
             .drivers
             .iter()
             .map(|d| Driver {
-                current: m.signals[d.signal as usize].start,
+                current: Some(m.signals[d.signal as usize].start),
                 wave: Vec::new(),
             })
             .collect();
@@ -228,6 +236,27 @@ impl Config {
         }
     }
 
+    /// Kinds 2 and 6: gives the process's driver of signal a, after c, what the
+    /// transaction carries; Err is the fault.
+    fn schedule(
+        &mut self,
+        m: &Model,
+        process: usize,
+        s: &StatementRecord,
+        carried: Carried,
+    ) -> Result<(), u8> {
+        let at = self.time + self.delay(m, s.c)?;
+        let driver = driver_of(m, process, s.a as usize).expect("kinds 2 and 6 have their driver");
+        let wave = &mut self.drivers[driver].wave;
+        let kept = wave.iter().take_while(|t| t.0 < at).count();
+        if kept == WAVEFORM {
+            return Err(NINTH);
+        }
+        wave.truncate(kept);
+        wave.push((at, carried));
+        Ok(())
+    }
+
     /// Runs one statement of the process; Err is its fault.
     fn run(&mut self, m: &Model, process: usize, s: &StatementRecord) -> Result<(), u8> {
         let place = self.processes[process].place;
@@ -239,15 +268,7 @@ impl Config {
             }
             2 => {
                 let value = self.evaluate(m, s.b)?.raw();
-                let at = self.time + self.delay(m, s.c)?;
-                let driver = driver_of(m, process, s.a as usize).expect("kind 2 has its driver");
-                let wave = &mut self.drivers[driver].wave;
-                let kept = wave.iter().take_while(|t| t.0 < at).count();
-                if kept == WAVEFORM {
-                    return Err(NINTH);
-                }
-                wave.truncate(kept);
-                wave.push((at, value));
+                self.schedule(m, process, s, Some(value))?;
             }
             3 => {
                 if !self.condition(m, s.b)? {
@@ -265,6 +286,7 @@ impl Config {
                 p.standing = WAITING;
                 next = place;
             }
+            6 => self.schedule(m, process, s, None)?,
             _ => unreachable!(),
         }
         self.processes[process].place = next;
@@ -372,8 +394,17 @@ impl Config {
             if !active[signal] {
                 continue;
             }
-            let value = resolved(m, &self.drivers, signal).expect("an active signal is driven");
-            if value != self.signals[signal][0] {
+            let old = self.signals[signal][0];
+            let value = match resolved(m, &self.drivers, signal) {
+                Some(value) => value,
+                // All its drivers are null.
+                None => match m.signals[signal].kind {
+                    BUS => values::Z as i32,
+                    REGISTER => old,
+                    _ => unreachable!("a plain signal has no null driver"),
+                },
+            };
+            if value != old {
                 changed |= 1 << signal;
                 self.signals[signal][0] = value;
             }

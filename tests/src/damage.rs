@@ -1,10 +1,14 @@
-//! Models damaged in one rule of the refusals 1 to 8, in two, or in a single
-//! byte; and cases on both sides of each limit.
+//! Models damaged in one rule of the refusals 1 to 8 and 20, in two, or in a
+//! single byte; and cases on both sides of each limit.
+
+mod guarded;
 
 use crate::builder::Builder;
 use crate::gen;
 use crate::model::*;
+use crate::numbers;
 use crate::rng::Rng;
+pub use guarded::{guarded, guarded_ways};
 
 /// A model and bytes to change in its records (kind, record, byte, value).
 struct Subject {
@@ -27,6 +31,8 @@ impl Subject {
 
 /// Damages the model in its rule; None if it can not.
 type ModelOp = fn(&mut Rng, &mut Subject) -> Option<()>;
+/// A way to damage a model, with its name.
+type Way = (&'static str, ModelOp);
 /// Damages the blocks; gives whether it did.
 type BlockOp = fn(&mut Rng, &mut Vec<u8>) -> bool;
 
@@ -185,7 +191,7 @@ const HEADER: &[(&str, BlockOp)] = &[
     }),
 ];
 
-const TOTAL: &[(&str, ModelOp)] = &[
+const TOTAL: &[Way] = &[
     ("33 signals or more", |rng, s| {
         s.m.signals
             .resize(33 + rng.below(20), SignalRecord::default());
@@ -263,6 +269,16 @@ fn some<T>(rng: &mut Rng, list: &[T], fits: impl Fn(&T) -> bool) -> Option<usize
     one_of(rng, (0..list.len()).filter(|&n| fits(&list[n])))
 }
 
+/// Does the statement assign a signal: is it kind 2 or 6?
+fn assigns(s: &StatementRecord) -> bool {
+    s.kind == 2 || s.kind == 6
+}
+
+/// Does the statement name a delay c?
+fn delays(s: &StatementRecord) -> bool {
+    assigns(s) || s.kind == 5
+}
+
 /// Adds a node; gives its number.
 fn node(m: &mut Model, kind: u8, a: u16, b: u16) -> u16 {
     m.nodes.push(NodeRecord { kind, a, b, k: 0 });
@@ -274,7 +290,7 @@ fn nonzero(rng: &mut Rng) -> u16 {
 }
 
 const UNNAMED: [&[usize]; 6] = [
-    &[1, 2, 3, 8, 9, 10, 11],
+    &[2, 3, 8, 9, 10, 11],
     &[2, 3, 8, 9, 10, 11],
     &[4, 5, 6, 7, 8, 9, 10, 11],
     &[2, 3, 4, 5, 6, 7, 8, 9, 10, 11],
@@ -282,7 +298,7 @@ const UNNAMED: [&[usize]; 6] = [
     &[1],
 ];
 
-const FIELD: &[(&str, ModelOp)] = &[
+const FIELD: &[Way] = &[
     ("an unnamed byte", |rng, s| {
         let kind = 1 + rng.below(6);
         let total = records(&s.m)[kind - 1].len();
@@ -404,7 +420,7 @@ const FIELD: &[(&str, ModelOp)] = &[
     }),
     ("a statement's kind", |rng, s| {
         let n = rng.below(s.m.statements.len());
-        s.m.statements[n].kind = rng.choose(&[6, 7, 128, 255]);
+        s.m.statements[n].kind = rng.choose(&[7, 8, 128, 255]);
         Some(())
     }),
     ("an assigned variable", |rng, s| {
@@ -413,7 +429,7 @@ const FIELD: &[(&str, ModelOp)] = &[
         Some(())
     }),
     ("an assigned signal", |rng, s| {
-        let n = some(rng, &s.m.statements, |s| s.kind == 2)?;
+        let n = some(rng, &s.m.statements, assigns)?;
         s.m.statements[n].a = missing(rng, s.m.signals.len(), 65_535);
         Some(())
     }),
@@ -425,8 +441,7 @@ const FIELD: &[(&str, ModelOp)] = &[
         Some(())
     }),
     ("a statement's c", |rng, s| {
-        let uses = |s: &StatementRecord| s.kind == 2 || s.kind == 5;
-        let n = some(rng, &s.m.statements, uses)?;
+        let n = some(rng, &s.m.statements, delays)?;
         let most = 65_535 - (s.m.statements[n].kind == 5) as usize;
         s.m.statements[n].c = missing(rng, s.m.nodes.len(), most);
         Some(())
@@ -450,13 +465,12 @@ const FIELD: &[(&str, ModelOp)] = &[
         Some(())
     }),
     ("a statement's unused b", |rng, s| {
-        let n = some(rng, &s.m.statements, |s| s.kind == 0 || s.kind == 4)?;
+        let n = some(rng, &s.m.statements, |s| [0, 4, 6].contains(&s.kind))?;
         s.m.statements[n].b = nonzero(rng);
         Some(())
     }),
     ("a statement's unused c", |rng, s| {
-        let unused = |s: &StatementRecord| s.kind != 2 && s.kind != 5;
-        let n = some(rng, &s.m.statements, unused)?;
+        let n = some(rng, &s.m.statements, |s| !delays(s))?;
         s.m.statements[n].c = nonzero(rng);
         Some(())
     }),
@@ -495,7 +509,7 @@ fn not_lower(rng: &mut Rng, n: usize, total: usize) -> u16 {
     rng.choose(&[n, n, n + 1, total, any, 65_535]) as u16
 }
 
-const OPERAND: &[(&str, ModelOp)] = &[
+const OPERAND: &[Way] = &[
     ("an operand a", |rng, s| {
         let n = some(rng, &s.m.nodes, |n| n.kind >= 6)?;
         s.m.nodes[n].a = not_lower(rng, n, s.m.nodes.len());
@@ -564,7 +578,7 @@ fn other_type(rng: &mut Rng, types: &[u8], ty: u8) -> Option<u16> {
     some(rng, types, |&t| t != ty).map(|n| n as u16)
 }
 
-const TYPE: &[(&str, ModelOp)] = &[
+const TYPE: &[Way] = &[
     ("an operand a of a wrong type", |rng, s| {
         wrong_operand(rng, s, false)
     }),
@@ -623,7 +637,7 @@ const TYPE: &[(&str, ModelOp)] = &[
     }),
     ("a delay's type", |rng, s| {
         let types = node_types(&s.m)?;
-        let n = some(rng, &s.m.statements, |s| s.kind == 2 || s.kind == 5)?;
+        let n = some(rng, &s.m.statements, delays)?;
         let c = other_type(rng, &types, INTEGER)?;
         s.m.statements[n].c = c;
         Some(())
@@ -685,7 +699,7 @@ fn add_driver(m: &mut Model, process: u8, signal: u8) {
     m.drivers.sort_by_key(|d| (d.process, d.signal));
 }
 
-const OWNER: &[(&str, ModelOp)] = &[
+const OWNER: &[Way] = &[
     ("drivers changed over", |rng, s| {
         if s.m.drivers.len() < 2 {
             return None;
@@ -723,14 +737,14 @@ const OWNER: &[(&str, ModelOp)] = &[
         Some(())
     }),
     ("a driver removed", |rng, s| {
-        let n = some(rng, &s.m.statements, |s| s.kind == 2)?;
+        let n = some(rng, &s.m.statements, assigns)?;
         let p = process_of(&s.m, n);
         let d = driver_of(&s.m, p, s.m.statements[n].a as usize)?;
         s.m.drivers.remove(d);
         Some(())
     }),
     ("a signal without a driver here", |rng, s| {
-        let n = some(rng, &s.m.statements, |s| s.kind == 2)?;
+        let n = some(rng, &s.m.statements, assigns)?;
         let p = process_of(&s.m, n);
         let ty = s.m.signals[s.m.statements[n].a as usize].ty;
         let free = |&x: &usize| s.m.signals[x].ty == ty && driver_of(&s.m, p, x).is_none();
@@ -753,6 +767,7 @@ const OWNER: &[(&str, ModelOp)] = &[
         let own = 1u32 << process_of(&s.m, n);
         let t = s.m.statements[n];
         let second = t.kind == 2 && rng.chance(1, 2)
+            || t.kind == 6
             || t.kind == 5 && t.b == ABSENT
             || t.kind == 5 && t.c != ABSENT && rng.chance(1, 2);
         let old = if second { t.c } else { t.b };
@@ -779,13 +794,14 @@ const OWNER: &[(&str, ModelOp)] = &[
     }),
 ];
 
-fn model_ops(rule: u32) -> &'static [(&'static str, ModelOp)] {
+fn model_ops(rule: u32) -> &'static [Way] {
     match rule {
         4 => TOTAL,
         5 => FIELD,
         6 => OPERAND,
         7 => TYPE,
-        _ => OWNER,
+        8 => OWNER,
+        _ => guarded::NULL,
     }
 }
 
@@ -804,9 +820,9 @@ fn subject(rng: &mut Rng) -> Subject {
     }
 }
 
-fn damage_model(rng: &mut Rng, s: &mut Subject, rule: u32) -> Option<&'static str> {
+fn damage_model(rng: &mut Rng, s: &mut Subject, ops: &[Way]) -> Option<&'static str> {
     for _ in 0..20 {
-        let (name, op) = rng.choose(model_ops(rule));
+        let (name, op) = rng.choose(ops);
         if op(rng, s).is_some() {
             return Some(name);
         }
@@ -832,22 +848,24 @@ pub fn damaged(rng: &mut Rng, rule: u32) -> (&'static str, Vec<u8>) {
             let name = damage_blocks(rng, &mut bytes, rule);
             return (name, bytes);
         }
-        if let Some(name) = damage_model(rng, &mut s, rule) {
+        if let Some(name) = damage_model(rng, &mut s, model_ops(rule)) {
             return (name, s.bytes(rng));
         }
     }
 }
 
-/// A model damaged in two rules: the lower one, how, and the bytes.
+/// A model damaged in two rules: the one that is checked first, how, and the
+/// bytes.
 pub fn twice(rng: &mut Rng) -> (u32, &'static str, Vec<u8>) {
     loop {
-        let high = rng.range(2, 8) as u32;
-        let low = rng.range(1, high as i64 - 1) as u32;
+        let after = 1 + rng.below(numbers::MODEL.len() - 1);
+        let high = numbers::MODEL[after];
+        let low = numbers::MODEL[rng.below(after)];
         let mut s = subject(rng);
-        if high >= 4 && damage_model(rng, &mut s, high).is_none() {
+        if high >= 4 && damage_model(rng, &mut s, model_ops(high)).is_none() {
             continue;
         }
-        if low >= 4 && damage_model(rng, &mut s, low).is_none() {
+        if low >= 4 && damage_model(rng, &mut s, model_ops(low)).is_none() {
             continue;
         }
         let mut bytes = s.bytes(rng);
@@ -974,6 +992,110 @@ impl Limits {
             self.add(number, format!("{n} {what}"), b.encode());
         }
     }
+}
+
+/// Signal 1 of the small model becomes a bus, and process 1 lets go of it.
+fn let_go(m: &mut Model) {
+    m.signals[1].kind = BUS;
+    m.statements[4] = StatementRecord {
+        kind: 6,
+        a: 1,
+        ..Default::default()
+    };
+}
+
+/// Bus and register signals, and a null on a bus.
+fn null_limits(list: &mut Limits) {
+    let whole = [(0, 0), (1, 5), (2, 5), (3, 5), (255, 5)];
+    list.field("integer signal of kind", &whole, |m, x| {
+        m.signals[0].kind = x as u8
+    });
+    let codes = [(0, 0), (1, 0), (2, 0), (3, 5), (4, 5), (128, 5), (255, 5)];
+    list.field("logic signal of kind", &codes, |m, x| {
+        m.signals[1].kind = x as u8
+    });
+    let codes = [(0, 20), (1, 0), (2, 0), (3, 5), (255, 5)];
+    list.field("a null on a signal of kind", &codes, |m, x| {
+        let_go(m);
+        m.signals[1].kind = x as u8
+    });
+    let starts = [(0, 0), (4, 0), (8, 0), (9, 5)];
+    list.field("a bus starts at", &starts, |m, x| {
+        let_go(m);
+        m.signals[1].start = x as i32
+    });
+    // Process 1 does not drive signal 0.
+    let signals = [(0, 8), (1, 0), (2, 5), (65_535, 5)];
+    list.field("a null on signal", &signals, |m, x| {
+        let_go(m);
+        m.statements[4].a = x as u16
+    });
+    let unnamed = [(0, 0), (1, 5), (7, 5), (65_535, 5)];
+    list.field("a null with b", &unnamed, |m, x| {
+        let_go(m);
+        m.statements[4].b = x as u16
+    });
+    // Node 1 is logic, node 6 boolean, node 2 reads process 0's variable.
+    let delays = [
+        (0, 0),
+        (1, 7),
+        (2, 8),
+        (3, 7),
+        (5, 8),
+        (6, 7),
+        (7, 5),
+        (65_535, 5),
+    ];
+    list.field("a null after node", &delays, |m, x| {
+        let_go(m);
+        m.statements[4].c = x as u16
+    });
+    let sets = [(0, 0), (1, 5), (2, 5), (1 << 31, 5)];
+    list.field("a null with set", &sets, |m, x| {
+        let_go(m);
+        m.statements[4].set = x as u32
+    });
+    let drivers = [(0, 8), (1, 8), (2, 8), (3, 0)];
+    list.field("a null with so many drivers left", &drivers, |m, x| {
+        let_go(m);
+        m.drivers.truncate(x as usize)
+    });
+    // Statement 1 is an assignment to the integer signal.
+    fn null(m: &mut Model) {
+        m.statements[1].kind = 6;
+        m.statements[1].b = 0;
+    }
+    let name = "a null on an integer signal";
+    list.changed(20, name, |b| null(&mut b.m));
+    list.changed(8, "the same without its driver", |b| {
+        null(&mut b.m);
+        b.m.drivers.remove(0);
+    });
+    list.changed(5, "the same on an integer bus", |b| {
+        null(&mut b.m);
+        b.m.signals[0].kind = BUS;
+    });
+    list.changed(8, "the same and a foreign variable later", |b| {
+        null(&mut b.m);
+        b.m.statements[6] = StatementRecord {
+            kind: 1,
+            ..Default::default()
+        };
+    });
+    list.changed(7, "the same and a wrong type later", |b| {
+        null(&mut b.m);
+        b.m.statements[6].c = 1;
+    });
+    list.changed(20, "20 in the last statement", |b| {
+        let_go(&mut b.m);
+        b.m.statements[6] = StatementRecord {
+            kind: 6,
+            a: 2,
+            ..Default::default()
+        };
+        b.signal(LOGIC, 2);
+        b.driver(1, 2);
+    });
 }
 
 /// Models on both sides of each limit: name, bytes, number.
@@ -1137,7 +1259,10 @@ pub fn limits() -> Vec<(String, Vec<u8>, u32)> {
     });
     let kinds = [(0, 5), (15, 5), (255, 5)];
     list.field("node kind", &kinds, |m, x| m.nodes[0].kind = x as u8);
-    list.changed(5, "statement kind 6", |b| b.m.statements[0].kind = 6);
+    let kinds = [(6, 5), (7, 5), (255, 5)];
+    list.field("statement kind", &kinds, |m, x| {
+        m.statements[0].kind = x as u8
+    });
     let sets = [
         (0, 0),
         (1, 0),
@@ -1261,6 +1386,8 @@ pub fn limits() -> Vec<(String, Vec<u8>, u32)> {
         }
     }
 
+    null_limits(&mut list);
+
     // Drivers and variables.
     list.changed(8, "a driver twice", |b| b.driver(1, 1));
     let name = "a second driver of an integer signal";
@@ -1285,7 +1412,6 @@ const TOP: i64 = 2_147_483_647;
 #[cfg(test)]
 mod tests {
     use super::*;
-    use crate::numbers;
 
     #[test]
     fn limits_come_out_as_said() {
@@ -1318,7 +1444,7 @@ mod tests {
         }
         let ops = LENGTH.len() + SUM.len() + HEADER.len();
         let ops = ops + TOTAL.len() + FIELD.len() + OPERAND.len() + TYPE.len() + OWNER.len();
-        assert_eq!(seen.len(), ops);
+        assert_eq!(seen.len(), ops + guarded::NULL.len());
         for seed in 0..4_000 {
             let (rule, _, bytes) = twice(&mut Rng::new(seed));
             assert_eq!(judge(&bytes), rule, "two rules, seed {seed}");

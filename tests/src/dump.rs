@@ -1,14 +1,22 @@
 //! A configuration in a fixed layout, little endian, all past a total zero:
 //! 0-7 time, 8-11 delta count, 12 to 15 how many signals, variables, drivers
 //! and processes. Signal s at 16 + 128 s: 32 values of 4 bytes. Variable v at
-//! 4,112 + 4 v. Driver d at 4,368 + 104 d: current value, count of pending
-//! (4 bytes), eight times (8 bytes each), eight values (4 bytes each).
-//! Process p at 11,024 + 16 p: place (2 bytes), standing, fault, 1 if it has
+//! 4,112 + 4 v. Driver d at 4,368 + 144 d, 8 bytes each: what its current
+//! transaction carries, count of pending, eight times, what those eight carry:
+//! a value's 32 bits, or 4,294,967,296 for null.
+//! Process p at 13,584 + 16 p: place (2 bytes), standing, fault, 1 if it has
 //! a deadline, 3 zero bytes, deadline (8 bytes).
 
-use crate::cycle::Config;
+use crate::cycle::{Carried, Config};
 
-pub const DUMP: usize = 11_280;
+pub const DUMP: usize = 13_840;
+
+/// Stands for null; no value has more than 32 bits.
+pub const NULL: u64 = 1 << 32;
+
+fn word(carried: Carried) -> u64 {
+    carried.map_or(NULL, |value| value as u32 as u64)
+}
 
 pub fn dump(config: &Config) -> [u8; DUMP] {
     let mut out = [0; DUMP];
@@ -28,16 +36,16 @@ pub fn dump(config: &Config) -> [u8; DUMP] {
         put(4_112 + 4 * v, &value.to_le_bytes());
     }
     for (d, driver) in config.drivers.iter().enumerate() {
-        let at = 4_368 + 104 * d;
-        put(at, &driver.current.to_le_bytes());
-        put(at + 4, &(driver.wave.len() as u32).to_le_bytes());
-        for (n, (time, value)) in driver.wave.iter().enumerate() {
-            put(at + 8 + 8 * n, &time.to_le_bytes());
-            put(at + 72 + 4 * n, &value.to_le_bytes());
+        let at = 4_368 + 144 * d;
+        put(at, &word(driver.current).to_le_bytes());
+        put(at + 8, &(driver.wave.len() as u64).to_le_bytes());
+        for (n, &(time, carried)) in driver.wave.iter().enumerate() {
+            put(at + 16 + 8 * n, &time.to_le_bytes());
+            put(at + 80 + 8 * n, &word(carried).to_le_bytes());
         }
     }
     for (p, process) in config.processes.iter().enumerate() {
-        let at = 11_024 + 16 * p;
+        let at = 13_584 + 16 * p;
         put(at, &process.place.to_le_bytes());
         put(
             at + 2,
@@ -63,18 +71,10 @@ fn place(n: usize) -> (usize, usize) {
         2..6 => (12 + (n - 2), 1),
         6..1030 => (16 + 4 * (n - 6), 4),
         1030..1094 => (4112 + 4 * (n - 1030), 4),
-        1094..2246 => {
-            let (d, j) = ((n - 1094) / 18, (n - 1094) % 18);
-            let at = 4368 + 104 * d;
-            match j {
-                0 | 1 => (at + 4 * j, 4),
-                2..10 => (at + 8 + 8 * (j - 2), 8),
-                _ => (at + 72 + 4 * (j - 10), 4),
-            }
-        }
+        1094..2246 => (4368 + 8 * (n - 1094), 8),
         _ => {
             let (p, j) = ((n - 2246) / 5, (n - 2246) % 5);
-            let at = 11024 + 16 * p;
+            let at = 13584 + 16 * p;
             [(at, 2), (at + 2, 1), (at + 3, 1), (at + 4, 1), (at + 8, 8)][j]
         }
     }
@@ -117,8 +117,8 @@ mod tests {
             variables: vec![7; 64],
             drivers: vec![
                 Driver {
-                    current: 3,
-                    wave: vec![(9, -1); 8]
+                    current: Some(3),
+                    wave: vec![(9, Some(-1)); 8]
                 };
                 64
             ],
@@ -138,14 +138,36 @@ mod tests {
         assert_eq!(out[4_108..4_112], [254, 255, 255, 255]);
         assert_eq!(out[4_364..4_368], [7, 0, 0, 0]);
         assert_eq!(
-            out[4_368..4_384],
-            [3, 0, 0, 0, 8, 0, 0, 0, 9, 0, 0, 0, 0, 0, 0, 0]
+            out[4_368..4_392],
+            [3, 0, 0, 0, 0, 0, 0, 0, 8, 0, 0, 0, 0, 0, 0, 0, 9, 0, 0, 0, 0, 0, 0, 0]
         );
-        assert_eq!(out[11_020..11_024], [255; 4]);
+        assert_eq!(out[13_576..13_584], [255, 255, 255, 255, 0, 0, 0, 0]);
         assert_eq!(
-            out[11_264..],
+            out[13_824..],
             [2, 1, 1, 2, 1, 0, 0, 0, 6, 0, 0, 0, 0, 0, 0, 0]
         );
+    }
+
+    #[test]
+    fn null_is_no_value() {
+        let driver = |current, pending| Config {
+            drivers: vec![Driver {
+                current,
+                wave: vec![(1, pending)],
+            }],
+            ..Config::default()
+        };
+        let off = words(&dump(&driver(None, None)));
+        assert_eq!((off[1094], off[1104]), (4_294_967_296, 4_294_967_296));
+        for value in [0, 4, 8, -1, i32::MAX, -i32::MAX, i32::MIN] {
+            let on = words(&dump(&driver(Some(value), Some(value))));
+            assert_eq!(
+                (on[1094], on[1104]),
+                (value as u32 as u64, value as u32 as u64)
+            );
+        }
+        // What the proved kernel's word for null becomes.
+        assert_eq!(pack(&off), Ok(dump(&driver(None, None))));
     }
 
     /// The words that a layout's fields hold.
@@ -165,7 +187,7 @@ mod tests {
             let (at, many) = place(n);
             bytes[at..at + many].iter_mut().for_each(|b| *b += 1);
         }
-        let unused = |at: usize| at >= 11_024 && (5..8).contains(&(at % 16));
+        let unused = |at: usize| at >= 13_584 && (5..8).contains(&(at % 16));
         for (at, &times) in bytes.iter().enumerate() {
             assert_eq!(times, !unused(at) as i32, "byte {at}");
         }

@@ -274,6 +274,27 @@ impl Maker<'_> {
         self.node(1, 0, 0, k)
     }
 
+    /// Is the signal a bus or a register?
+    fn guarded(&self, signal: u16) -> bool {
+        self.b.m.signals[signal as usize].kind != PLAIN
+    }
+
+    /// The delay of a null: now and then one that faults.
+    fn null_delay(&mut self, process: u8) -> u16 {
+        if !self.wild || self.count() + 3 > 400 {
+            return self.delay(process);
+        }
+        match self.rng.weighted(&[12, 1, 2]) {
+            0 => self.delay(process),
+            1 => self.node(1, 0, 0, -1),
+            _ => {
+                let k = self.rng.range(1, 3) as i32;
+                let (top, more) = (self.node(1, 0, 0, TOP), self.node(1, 0, 0, k));
+                self.node(11, top, more, 0)
+            }
+        }
+    }
+
     fn wait(&mut self, process: u8) {
         let signals = self.b.m.signals.len();
         let all = if signals == 0 {
@@ -349,6 +370,33 @@ impl Maker<'_> {
         };
     }
 
+    /// A process that drives a line, lets go of it and waits.
+    fn card(&mut self, process: u8, lines: &[u16]) {
+        // Often the first line, so that processes share it.
+        let any = self.rng.choose(lines);
+        let s = self.rng.choose(&[lines[0], lines[0], any]);
+        let k = if self.rng.chance(1, 3) {
+            8
+        } else {
+            self.logic_constant()
+        };
+        let value = self.node(2, 0, 0, k);
+        let on = self.rng.below(5) as i32;
+        let off = on + self.rng.range(-1, 5) as i32;
+        let (on, off) = (self.node(1, 0, 0, on), self.node(1, 0, 0, off.max(0)));
+        self.b.schedule(s, value, on);
+        self.b.release(s, off);
+        let turn = self.rng.range(1, 9) as i32;
+        let turn = self.node(1, 0, 0, turn);
+        let (set, c) = match self.rng.below(4) {
+            0 => (1 << s, ABSENT),
+            1 => (1 << s, turn),
+            2 => (0, turn),
+            _ => return self.wait(process),
+        };
+        self.b.wait(set, ABSENT, c);
+    }
+
     /// Adds the process with `length` statements.
     fn body(&mut self, length: usize) {
         let process = self.b.process();
@@ -363,6 +411,8 @@ impl Maker<'_> {
             .filter(|d| d.process == process)
             .map(|d| d.signal as u16)
             .collect();
+        let list = driven.iter().copied();
+        let lines: Vec<u16> = list.filter(|&s| self.guarded(s)).collect();
         let target = |rng: &mut Rng, at: usize| {
             let rest = first + length - at;
             if rng.chance(17, 20) {
@@ -373,7 +423,10 @@ impl Maker<'_> {
             }
         };
         let sleeps = self.rng.chance(24, 25);
-        if length >= 2 && !driven.is_empty() && self.count() + 12 <= 400 && self.rng.chance(1, 3) {
+        let room = self.count() + 12 <= 400;
+        if length >= 3 && !lines.is_empty() && room && self.rng.chance(2, 3) {
+            self.card(process, &lines);
+        } else if length >= 2 && !driven.is_empty() && room && self.rng.chance(1, 3) {
             self.clock(process, &driven);
         }
         while self.b.m.statements.len() < first + length {
@@ -383,9 +436,11 @@ impl Maker<'_> {
                 self.wait(process);
                 continue;
             }
-            let crowd = if self.wild { 10 } else { 60 };
+            let crowd = if self.wild { 6 } else { 40 };
             if left >= 8 && !driven.is_empty() && self.rng.chance(1, crowd) {
-                self.burst(process, &driven, left);
+                let some = self.rng.choose(&[&driven, &lines]);
+                let some = if some.is_empty() { &driven } else { some };
+                self.burst(process, some, left);
                 continue;
             }
             let weights = [
@@ -408,10 +463,15 @@ impl Maker<'_> {
                 }
                 2 => {
                     let s = self.rng.choose(&driven);
-                    let ty = self.b.m.signals[s as usize].ty;
-                    let value = self.value(ty, process);
-                    let delay = self.delay(process);
-                    self.b.schedule(s, value, delay);
+                    if self.guarded(s) && self.rng.chance(2, 5) {
+                        let delay = self.null_delay(process);
+                        self.b.release(s, delay);
+                    } else {
+                        let ty = self.b.m.signals[s as usize].ty;
+                        let value = self.value(ty, process);
+                        let delay = self.delay(process);
+                        self.b.schedule(s, value, delay);
+                    }
                 }
                 3 => {
                     let condition = self.value(BOOLEAN, process);
@@ -431,17 +491,21 @@ impl Maker<'_> {
     fn burst(&mut self, process: u8, driven: &[u16], left: usize) {
         let s = self.rng.choose(driven);
         let ty = self.b.m.signals[s as usize].ty;
-        let many = (self.rng.range(7, 10) as usize).min(left);
+        let many = (self.rng.range(7, 11) as usize).min(left);
         let mut k = 0;
         for _ in 0..many {
-            let value = self.expression(ty, process, 3);
             k += self.rng.weighted(&[1, 12, 6, 2]) as i32;
             let delay = if self.count() < 400 {
                 self.node(1, 0, 0, k)
             } else {
                 self.reuse(INTEGER, process, 1).expect("a constant exists")
             };
-            self.b.schedule(s, value, delay);
+            if self.guarded(s) && self.rng.chance(1, 2) {
+                self.b.release(s, delay);
+            } else {
+                let value = self.expression(ty, process, 3);
+                self.b.schedule(s, value, delay);
+            }
         }
     }
 
@@ -509,10 +573,16 @@ pub fn model_of(rng: &mut Rng, wild: bool) -> Model {
         readers: vec![],
         wild,
     };
+    // Plain signals alone in two models of five.
+    let shared = maker.rng.chance(3, 5);
     for _ in 0..signals {
         let ty = maker.rng.weighted(&[2, 3]) as u8;
+        let kind = match ty {
+            LOGIC if shared => maker.rng.choose(&[PLAIN, BUS, BUS, REGISTER, REGISTER]),
+            _ => PLAIN,
+        };
         let value = start(&mut maker, ty);
-        maker.b.signal(ty, value);
+        maker.b.signal_of(ty, kind, value);
     }
     for _ in 0..variables {
         let ty = maker.rng.below(3) as u8;
@@ -736,7 +806,9 @@ fn list_length(rng: &mut Rng) -> usize {
 /// A model that goes on in delta steps, and orders for about 1,000 of them.
 fn delta_marathon(rng: &mut Rng) -> (Model, Vec<u8>) {
     let mut b = Builder::new();
-    let s = b.signal(LOGIC, rng.choose(&[2, 3]));
+    let forms = rng.below(6);
+    let kind = if forms == 5 { BUS } else { PLAIN };
+    let s = b.signal_of(LOGIC, kind, rng.choose(&[2, 3]));
     let t = b.signal(INTEGER, 0);
     let v = b.variable(INTEGER, 0, 0);
     let last = rng.range(996, 1_003) as i32;
@@ -751,7 +823,6 @@ fn delta_marathon(rng: &mut Rng) -> (Model, Vec<u8>) {
     let read_v = b.read_variable(v);
     let next_v = b.binary(11, read_v, one);
     let more = b.binary(14, read_v, last);
-    let forms = rng.below(5);
     b.process();
     if rng.chance(1, 3) {
         b.wait(0, ABSENT, soon);
@@ -770,6 +841,15 @@ fn delta_marathon(rng: &mut Rng) -> (Model, Vec<u8>) {
         2 => {
             b.schedule(t, next_t, zero);
             b.wait(1 << t, ABSENT, soon);
+            b.go(again);
+        }
+        5 => {
+            // A line that is let go of and driven again.
+            let high = b.logic(3);
+            b.release(s, zero);
+            b.wait(1 << s, ABSENT, ABSENT);
+            b.schedule(s, high, zero);
+            b.wait(1 << s, ABSENT, ABSENT);
             b.go(again);
         }
         _ => {
@@ -890,8 +970,13 @@ pub fn session_case(seed: u64) -> SessionCase {
     let rng = &mut rng;
     let form = rng.weighted(&[876, 80, 12, 12, 12, 8]);
     if form == 1 {
-        let rule = rng.choose(numbers::MODEL);
-        let (what, model) = damage::damaged(rng, rule);
+        let (what, model) = if rng.chance(1, 5) {
+            let (_, what, model) = damage::guarded(rng);
+            (what, model)
+        } else {
+            let rule = rng.choose(numbers::MODEL);
+            damage::damaged(rng, rule)
+        };
         let mut orders: Vec<u8> = (0..rng.below(20))
             .flat_map(|_| damaged_order(rng))
             .collect();
@@ -992,7 +1077,7 @@ pub struct ModelCase {
 pub fn model_case(seed: u64) -> ModelCase {
     let mut rng = Rng::new(seed);
     let rng = &mut rng;
-    match rng.weighted(&[25, 48, 10, 17]) {
+    match rng.weighted(&[23, 45, 9, 15, 8]) {
         0 => {
             let m = model(rng);
             let plan = plan(rng, &m);
@@ -1023,13 +1108,22 @@ pub fn model_case(seed: u64) -> ModelCase {
                 byte: None,
             }
         }
-        _ => {
+        3 => {
             let (byte, what, bytes) = damage::byte(rng);
             ModelCase {
                 bytes,
                 expected: None,
                 what,
                 byte,
+            }
+        }
+        _ => {
+            let (rule, what, bytes) = damage::guarded(rng);
+            ModelCase {
+                bytes,
+                expected: Some(rule),
+                what,
+                byte: None,
             }
         }
     }

@@ -1,4 +1,4 @@
-//! A second delta-cycle kernel, written from the paper alone, to be held
+//! A second delta-cycle kernel, written from the papers alone, to be held
 //! against the proved one.
 
 pub mod builder;
@@ -9,6 +9,7 @@ pub mod dump;
 pub mod edge;
 pub mod gen;
 pub mod model;
+pub mod nulls;
 pub mod numbers;
 #[cfg(feature = "proved")]
 pub mod proved;

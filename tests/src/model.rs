@@ -1,4 +1,4 @@
-//! Model blocks and records: reading, the refusals 1 to 8, and writing.
+//! Model blocks and records: reading, the refusals 1 to 8 and 20, and writing.
 
 pub const BLOCK: usize = 512;
 pub const RECORD: usize = 12;
@@ -12,12 +12,18 @@ pub const INTEGER: u8 = 0;
 pub const LOGIC: u8 = 1;
 pub const BOOLEAN: u8 = 2;
 
+/// Kinds of signals; a bus or a register is a logic signal.
+pub const PLAIN: u8 = 0;
+pub const BUS: u8 = 1;
+pub const REGISTER: u8 = 2;
+
 /// Least and greatest total of each record kind 1 to 6.
 pub const LIMITS: [(usize, usize); 6] = [(0, 32), (0, 64), (1, 16), (0, 64), (0, 400), (1, 200)];
 
 #[derive(Clone, Copy, Debug, Default, PartialEq, Eq)]
 pub struct SignalRecord {
     pub ty: u8,
+    pub kind: u8,
     pub start: i32,
 }
 
@@ -102,7 +108,7 @@ pub fn repair_sum(block: &mut [u8]) {
 /// The records of the six kinds as bytes.
 type Raw = [Vec<Record>; 6];
 
-/// The first refusal 1 to 8 that applies, 0 when the model is accepted.
+/// The first refusal 1 to 8 or 20 that applies, 0 when the model is accepted.
 pub fn judge(bytes: &[u8]) -> u32 {
     match load(bytes) {
         Ok(_) => 0,
@@ -137,6 +143,9 @@ pub fn load(bytes: &[u8]) -> Result<Model, u32> {
     }
     if !ownership_right(&model) {
         return Err(8);
+    }
+    if !nulls_right(&model) {
+        return Err(20);
     }
     Ok(model)
 }
@@ -196,6 +205,7 @@ fn read(raw: &Raw) -> Model {
             .iter()
             .map(|r| SignalRecord {
                 ty: r[0],
+                kind: r[1],
                 start: i32_at(r, 4),
             })
             .collect(),
@@ -261,7 +271,7 @@ fn only(record: &Record, named: &[usize]) -> bool {
 // Rule 5.
 fn fields_right(raw: &Raw, m: &Model) -> bool {
     // Bytes that no record of the kind names.
-    raw[0].iter().all(|r| only(r, &[0, 4, 5, 6, 7]))
+    raw[0].iter().all(|r| only(r, &[0, 1, 4, 5, 6, 7]))
         && raw[1].iter().all(|r| only(r, &[0, 1, 4, 5, 6, 7]))
         && raw[2].iter().all(|r| only(r, &[0, 1, 2, 3]))
         && raw[3].iter().all(|r| only(r, &[0, 1]))
@@ -271,9 +281,7 @@ fn fields_right(raw: &Raw, m: &Model) -> bool {
         && raw[5]
             .iter()
             .all(|r| only(r, &[0, 2, 3, 4, 5, 6, 7, 8, 9, 10, 11]))
-        && m.signals
-            .iter()
-            .all(|s| s.ty != BOOLEAN && value_right(s.ty, s.start))
+        && m.signals.iter().all(signal_fields_right)
         && m.variables
             .iter()
             .all(|v| value_right(v.ty, v.start) && (v.process as usize) < m.processes.len())
@@ -283,6 +291,15 @@ fn fields_right(raw: &Raw, m: &Model) -> bool {
         })
         && m.nodes.iter().all(|n| node_fields_right(m, n))
         && (0..m.statements.len()).all(|s| statement_fields_right(m, s))
+}
+
+fn signal_fields_right(s: &SignalRecord) -> bool {
+    let kind_right = match s.kind {
+        PLAIN => true,
+        BUS | REGISTER => s.ty == LOGIC,
+        _ => false,
+    };
+    kind_right && s.ty != BOOLEAN && value_right(s.ty, s.start)
 }
 
 fn spans_right(m: &Model) -> bool {
@@ -324,6 +341,7 @@ pub fn process_of(m: &Model, statement: usize) -> usize {
 fn statement_fields_right(m: &Model, number: usize) -> bool {
     let s = &m.statements[number];
     let is_node = |n: u16| (n as usize) < m.nodes.len();
+    let is_signal = |n: u16| (n as usize) < m.signals.len();
     let inside = |target: u16| {
         (target as usize) < m.statements.len()
             && process_of(m, target as usize) == process_of(m, number)
@@ -331,15 +349,16 @@ fn statement_fields_right(m: &Model, number: usize) -> bool {
     match s.kind {
         0 => s.a == 0 && s.b == 0 && s.c == 0 && s.set == 0,
         1 => (s.a as usize) < m.variables.len() && is_node(s.b) && s.c == 0 && s.set == 0,
-        2 => (s.a as usize) < m.signals.len() && is_node(s.b) && is_node(s.c) && s.set == 0,
+        2 => is_signal(s.a) && is_node(s.b) && is_node(s.c) && s.set == 0,
         3 => inside(s.a) && is_node(s.b) && s.c == 0 && s.set == 0,
         4 => inside(s.a) && s.b == 0 && s.c == 0 && s.set == 0,
         5 => {
             s.a == 0
                 && (s.b == ABSENT || is_node(s.b))
                 && (s.c == ABSENT || is_node(s.c))
-                && (0..32).all(|n| s.set >> n & 1 == 0 || n < m.signals.len())
+                && (0..32).all(|n| s.set >> n & 1 == 0 || is_signal(n))
         }
+        6 => is_signal(s.a) && s.b == 0 && is_node(s.c) && s.set == 0,
         _ => false,
     }
 }
@@ -408,6 +427,7 @@ fn types_right(m: &Model) -> bool {
         2 => of(s.b) == m.signals[s.a as usize].ty && of(s.c) == INTEGER,
         3 => of(s.b) == BOOLEAN,
         5 => (s.b == ABSENT || of(s.b) == BOOLEAN) && (s.c == ABSENT || of(s.c) == INTEGER),
+        6 => of(s.c) == INTEGER,
         _ => true,
     })
 }
@@ -418,6 +438,7 @@ pub fn roots(s: &StatementRecord) -> Vec<u16> {
         1 | 3 => vec![s.b],
         2 => vec![s.b, s.c],
         5 => [s.b, s.c].into_iter().filter(|&n| n != ABSENT).collect(),
+        6 => vec![s.c],
         _ => vec![],
     }
 }
@@ -453,11 +474,18 @@ fn ownership_right(m: &Model) -> bool {
         let process = process_of(m, number);
         let own = match s.kind {
             1 => m.variables[s.a as usize].process as usize == process,
-            2 => driver_of(m, process, s.a as usize).is_some(),
+            2 | 6 => driver_of(m, process, s.a as usize).is_some(),
             _ => true,
         };
         own && roots(s).into_iter().all(|root| tree_own(m, root, process))
     })
+}
+
+// Rule 20, which comes after 8.
+fn nulls_right(m: &Model) -> bool {
+    m.statements
+        .iter()
+        .all(|s| s.kind != 6 || m.signals[s.a as usize].kind != PLAIN)
 }
 
 /// The driver of a process for a signal.
@@ -478,6 +506,7 @@ pub fn records(m: &Model) -> [Vec<Record>; 6] {
     let signal = |s: &SignalRecord| {
         let mut r = [0; RECORD];
         r[0] = s.ty;
+        r[1] = s.kind;
         put(&mut r, 4, &s.start.to_le_bytes());
         r
     };

@@ -2,9 +2,10 @@
 //! them: a new number is added here.
 
 use std::collections::BTreeMap;
+use std::fmt::Display;
 
-/// Refusals of a model.
-pub const MODEL: &[u32] = &[1, 2, 3, 4, 5, 6, 7, 8];
+/// Refusals of a model, in checking order.
+pub const MODEL: &[u32] = &[1, 2, 3, 4, 5, 6, 7, 8, 20];
 /// Refusals of a session whose model is accepted: its orders, its answer buffer.
 pub const ORDERS: u32 = 9;
 pub const ANSWERS: u32 = 10;
@@ -18,16 +19,16 @@ pub fn session() -> Vec<u32> {
     [MODEL, &[ORDERS, ANSWERS]].concat()
 }
 
-/// How often each number occurred.
+/// How often each number, or each thing by its name, occurred.
 #[derive(Clone, Debug, Default)]
-pub struct Counts(BTreeMap<u32, u64>);
+pub struct Counts<K = u32>(BTreeMap<K, u64>);
 
-impl Counts {
-    pub fn add(&mut self, number: u32) {
+impl<K: Copy + Ord + Display> Counts<K> {
+    pub fn add(&mut self, number: K) {
         *self.0.entry(number).or_default() += 1;
     }
 
-    pub fn of(&self, number: u32) -> u64 {
+    pub fn of(&self, number: K) -> u64 {
         self.0.get(&number).copied().unwrap_or(0)
     }
 
@@ -36,14 +37,14 @@ impl Counts {
     }
 
     /// Adds another's counts.
-    pub fn extend(&mut self, other: &Counts) {
+    pub fn extend(&mut self, other: &Counts<K>) {
         for (&number, count) in &other.0 {
             *self.0.entry(number).or_default() += count;
         }
     }
 
     /// Err tells the numbers that occurred less often than `least`.
-    pub fn require(&self, what: &str, numbers: &[u32], least: u64) -> Result<(), String> {
+    pub fn require(&self, what: &str, numbers: &[K], least: u64) -> Result<(), String> {
         let missed = numbers.iter().filter(|&&n| self.of(n) < least);
         let missed: Vec<String> = missed
             .map(|&n| format!("{what} {n} occurred {} times", self.of(n)))
@@ -76,9 +77,11 @@ mod tests {
     }
 
     #[test]
-    fn the_base_is_listed_and_no_number_twice() {
+    fn every_number_is_listed_once() {
         let mut all = [session(), ORDER.to_vec()].concat();
-        assert!((1..=19).all(|n| all.contains(&n)));
+        assert!((1..=20).all(|n| all.contains(&n)));
+        let at = |n: u32| session().iter().position(|&m| m == n);
+        assert!(at(8) < at(20) && at(20) < at(9) && at(9) < at(10));
         let many = all.len();
         all.sort();
         all.dedup();

@@ -1,6 +1,7 @@
 //! Runs generated cases through this kernel and, where given, another one;
 //! counts what came out and tells the first difference. A large run in which a
-//! number of the papers is rare fails.
+//! number of the papers is rare fails, and so does one in which a thing of bus,
+//! register and null is.
 
 use crate::cases;
 use crate::cycle::Config;
@@ -8,6 +9,7 @@ use crate::damage;
 use crate::dump::{dump, DUMP};
 use crate::gen;
 use crate::model::{judge, load, ABSENT};
+use crate::nulls;
 use crate::numbers::{self, Counts};
 use crate::session::session;
 use std::collections::{BTreeMap, BTreeSet};
@@ -18,15 +20,31 @@ pub type Judge<'a> = &'a dyn Fn(&[u8]) -> u32;
 /// why there is no dump.
 pub type Session<'a> = &'a dyn Fn(&[u8], &[u8], &mut [u8], &mut [u8]) -> Result<u32, String>;
 
-/// How often each number must occur among n cases: in one of 500, and in a
-/// small run not at all.
-fn least(n: u64) -> u64 {
+/// How often a run must have met each thing.
+#[derive(Clone, Copy, Default)]
+pub struct Least {
+    /// Each number of the papers.
+    pub number: u64,
+    /// Each way to damage bus, register and null, and each thing that models and
+    /// sessions show of them.
+    pub guarded: u64,
+}
+
+/// What is due of n cases: each number in one of 500, each thing of bus, register
+/// and null in one of `guarded`; in a small run nothing.
+fn least(n: u64, guarded: u64) -> Least {
     if n < 10_000 {
-        0
-    } else {
-        n / 500
+        return Least::default();
+    }
+    Least {
+        number: n / 500,
+        guarded: n / guarded,
     }
 }
+
+/// 500 times among the 200,000 models and 100,000 sessions of `make test`.
+const GUARDED_MODELS: u64 = 400;
+const GUARDED_SESSIONS: u64 = 200;
 
 /// What `tally` and `compare` do: `models N SEED`, `sessions N SEED` or
 /// `limits`, in this kernel and in the other one where it is given.
@@ -42,7 +60,7 @@ pub fn run(name: &str, judge: Option<Judge>, session: Option<Session>) -> Result
             let (n, seed) = (number(1, "N")?, number(2, "SEED")?);
             let counts = models(n, seed, judge)?;
             counts.print();
-            counts.require(least(n))?;
+            counts.require(least(n, GUARDED_MODELS))?;
             format!("{n} judged models from seed {seed} on")
         }
         Some("sessions") => {
@@ -52,7 +70,7 @@ pub fn run(name: &str, judge: Option<Judge>, session: Option<Session>) -> Result
             }
             let counts = sessions(n, seed, session)?;
             counts.print();
-            counts.require(least(n))?;
+            counts.require(least(n, GUARDED_SESSIONS))?;
             format!("{n} sessions from seed {seed} on")
         }
         Some("limits") => {
@@ -88,6 +106,8 @@ pub struct ModelTally {
     /// Cases made to be accepted, and those that were.
     pub made: u64,
     pub made_accepted: u64,
+    /// What the accepted ones show of bus, register and null.
+    pub shown: Counts<&'static str>,
 }
 
 /// Judges `n` cases from seed `seed` on; case i has the seed `seed + i`.
@@ -96,7 +116,8 @@ pub fn models(n: u64, seed: u64, other: Option<Judge>) -> Result<ModelTally, Str
     for i in 0..n {
         let seed = seed.wrapping_add(i);
         let case = gen::model_case(seed);
-        let number = judge(&case.bytes);
+        let loaded = load(&case.bytes);
+        let number = loaded.as_ref().err().copied().unwrap_or(0);
         if let Some(other) = other {
             let theirs = other(&case.bytes);
             if theirs != number {
@@ -123,6 +144,11 @@ pub fn models(n: u64, seed: u64, other: Option<Judge>) -> Result<ModelTally, Str
             t.made += 1;
             t.made_accepted += (number == 0) as u64;
         }
+        if let Ok(m) = loaded {
+            for what in nulls::of_model(&m) {
+                t.shown.add(what);
+            }
+        }
     }
     Ok(t)
 }
@@ -138,10 +164,27 @@ fn row(counts: &Counts, numbers: &[u32], width: usize) -> String {
     with_none(numbers).iter().map(cell).collect()
 }
 
+/// A line for each name.
+pub fn print_shown(shown: &Counts<&'static str>, names: &[&'static str]) {
+    for name in names {
+        println!("{name:44}{:8}", shown.of(name));
+    }
+}
+
 impl ModelTally {
-    /// Err where a number occurred less often than `least`.
-    pub fn require(&self, least: u64) -> Result<(), String> {
-        self.numbers.require("refusal", numbers::MODEL, least)
+    /// Err where something occurred less often than `least`.
+    pub fn require(&self, least: Least) -> Result<(), String> {
+        self.numbers
+            .require("refusal", numbers::MODEL, least.number)?;
+        self.shown
+            .require("accepted:", nulls::MODEL, least.guarded)?;
+        let none = Counts::default();
+        for (number, way) in damage::guarded_ways() {
+            let counts = self.ways.get(way).unwrap_or(&none);
+            let what = format!("{way}: refusal");
+            counts.require(&what, &[number], least.guarded)?;
+        }
+        Ok(())
     }
 
     pub fn print(&self) {
@@ -167,6 +210,16 @@ impl ModelTally {
         for (way, counts) in &self.ways {
             println!("{way:44}{}", row(counts, numbers::MODEL, 7));
         }
+        let mut damaged = Counts::default();
+        for (_, way) in damage::guarded_ways() {
+            if let Some(counts) = self.ways.get(way) {
+                damaged.extend(counts);
+            }
+        }
+        let name = "of these, bus, register and null damaged";
+        println!("{name:44}{}", row(&damaged, numbers::MODEL, 7));
+        println!("bus, register and null in accepted models");
+        print_shown(&self.shown, nulls::MODEL);
     }
 }
 
@@ -279,6 +332,8 @@ pub struct SessionTally {
     /// Sessions by time steps: none, 1, 2 to 4, 5 to 9, 10 to 29, more.
     pub depth: [u64; 6],
     pub ways: BTreeMap<&'static str, u64>,
+    /// What sessions show of bus, register and null, by sessions.
+    pub shown: Counts<&'static str>,
 }
 
 /// Plays `n` sessions from seed `seed` on; session i has the seed `seed + i`.
@@ -313,11 +368,11 @@ fn part(at: usize) -> String {
             format!("signal {}, {} units ago", at / 128, at % 128 / 4)
         }
         4_112..=4_367 => format!("variable {}", (at - 4_112) / 4),
-        4_368..=11_023 => format!("driver {}, byte {}", (at - 4_368) / 104, (at - 4_368) % 104),
+        4_368..=13_583 => format!("driver {}, byte {}", (at - 4_368) / 144, (at - 4_368) % 144),
         _ => format!(
             "process {}, byte {}",
-            (at - 11_024) / 16,
-            (at - 11_024) % 16
+            (at - 13_584) / 16,
+            (at - 13_584) % 16
         ),
     }
 }
@@ -398,6 +453,9 @@ impl SessionTally {
         for n in faulted {
             self.faulted.add(n);
         }
+        for what in nulls::of_session(&m, &case.orders) {
+            self.shown.add(what);
+        }
         for d in &config.drivers {
             self.pending[d.wave.len()] += 1;
         }
@@ -405,14 +463,16 @@ impl SessionTally {
         self.varied += config.signals.iter().filter(varied).count() as u64;
     }
 
-    /// Err where a number occurred in fewer sessions than `least`.
-    pub fn require(&self, least: u64) -> Result<(), String> {
+    /// Err where something occurred in fewer sessions than `least`.
+    pub fn require(&self, least: Least) -> Result<(), String> {
         self.numbers
-            .require("session number", &numbers::session(), least)?;
+            .require("session number", &numbers::session(), least.number)?;
         self.refused
-            .require("sessions: refusal", numbers::ORDER, least)?;
+            .require("sessions: refusal", numbers::ORDER, least.number)?;
         self.faulted
-            .require("sessions: fault", numbers::FAULT, least)
+            .require("sessions: fault", numbers::FAULT, least.number)?;
+        let shown = [nulls::SESSION, nulls::FAULT].concat();
+        self.shown.require("sessions:", &shown, least.guarded)
     }
 
     pub fn print(&self) {
@@ -452,6 +512,9 @@ impl SessionTally {
         for (way, count) in &self.ways {
             println!("{way:44}{count:8}");
         }
+        println!("bus, register and null in sessions");
+        print_shown(&self.shown, nulls::SESSION);
+        print_shown(&self.shown, nulls::FAULT);
     }
 }
 
@@ -480,6 +543,11 @@ mod tests {
             message.contains("second kernel 8, proved kernel 0"),
             "{message}"
         );
+        assert!(limits(Some(&wrong), Some(&own)).is_err());
+        let wrong = |b: &[u8]| if judge(b) == 20 { 5 } else { judge(b) };
+        let message = models(2_000, 5, Some(&wrong)).err().unwrap();
+        let found = "second kernel 20, proved kernel 5";
+        assert!(message.contains(found), "{message}");
         assert!(limits(Some(&wrong), Some(&own)).is_err());
     }
 
@@ -514,6 +582,14 @@ mod tests {
         };
         let message = sessions(1_000, 5, Some(&configuration)).err().unwrap();
         assert!(message.contains("signal 0, 31 units ago"), "{message}");
+        // A null driver that is given as 0.
+        let null = |m: &[u8], o: &[u8], a: &mut [u8], d: &mut [u8]| {
+            let n = own(m, o, a, d)?;
+            d[4_368 + 4] = 0;
+            Ok(n)
+        };
+        let message = sessions(1_000, 5, Some(&null)).err().unwrap();
+        assert!(message.contains("driver 0, byte 4"), "{message}");
     }
 
     #[test]
@@ -528,26 +604,62 @@ mod tests {
     // What the runs of `make test` demand of 100,000 and more, in small.
     #[test]
     fn every_number_occurs() {
-        assert_eq!((least(1), least(9_999), least(200_000)), (0, 0, 400));
-        assert_eq!(models(1_000, 5, None).unwrap().require(2), Ok(()));
+        let due = |n, guarded| {
+            let Least { number, guarded } = least(n, guarded);
+            (number, guarded)
+        };
+        assert_eq!((due(1, 400), due(9_999, 200)), ((0, 0), (0, 0)));
+        assert_eq!(due(200_000, GUARDED_MODELS), (400, 500));
+        assert_eq!(due(100_000, GUARDED_SESSIONS), (200, 500));
+        let judged = models(4_000, 5, None).unwrap();
+        assert_eq!(judged.require(at_least(8, 10)), Ok(()));
         assert_eq!(limits(None, None).unwrap().require(), Ok(()));
-        assert_eq!(sessions(2_000, 5, None).unwrap().require(4), Ok(()));
+        let played = sessions(4_000, 5, None).unwrap();
+        assert_eq!(played.require(at_least(8, 20)), Ok(()));
+    }
+
+    fn at_least(number: u64, guarded: u64) -> Least {
+        Least { number, guarded }
     }
 
     #[test]
     fn a_rare_number_is_an_error() {
         let few = models(20, 5, None).unwrap();
-        assert!(few.require(0).is_ok() && few.require(6).is_err());
+        assert!(few.require(at_least(0, 0)).is_ok() && few.require(at_least(6, 0)).is_err());
         let mut played = sessions(2_000, 5, None).unwrap();
         played.refused = Counts::default();
-        let message = played.require(1).unwrap_err();
+        let message = played.require(at_least(1, 0)).unwrap_err();
         for n in numbers::ORDER {
             assert!(message.contains(&format!("refusal {n} ")), "{message}");
         }
         let mut played = sessions(2_000, 5, None).unwrap();
         played.faulted = Counts::default();
-        assert!(played.require(1).unwrap_err().contains("fault 3"));
+        let message = played.require(at_least(1, 0)).unwrap_err();
+        assert!(message.contains("fault 3"), "{message}");
         assert!(LimitTally::default().require().is_err());
+    }
+
+    #[test]
+    fn a_rare_thing_of_bus_register_and_null_is_an_error() {
+        let mut judged = models(4_000, 5, None).unwrap();
+        for (number, way) in damage::guarded_ways() {
+            let counts = judged.ways.remove(way).unwrap();
+            let message = judged.require(at_least(0, 1)).unwrap_err();
+            let expected = format!("{way}: refusal {number} occurred 0 times");
+            assert!(message.starts_with(&expected), "{message}");
+            judged.ways.insert(way, counts);
+        }
+        judged.shown = Counts::default();
+        let message = judged.require(at_least(0, 1)).unwrap_err();
+        for what in nulls::MODEL {
+            assert!(message.contains(&format!("{what} occurred 0")), "{message}");
+        }
+        let mut played = sessions(100, 5, None).unwrap();
+        played.shown = Counts::default();
+        let message = played.require(at_least(0, 1)).unwrap_err();
+        for what in nulls::SESSION.iter().chain(nulls::FAULT) {
+            assert!(message.contains(&format!("{what} occurred 0")), "{message}");
+        }
     }
 
     // Seeds stand for the same cases for good within one build.

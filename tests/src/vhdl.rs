@@ -3,11 +3,13 @@
 //! | model                     | VHDL                                            |
 //! |---------------------------|-------------------------------------------------|
 //! | signal n                  | `sN`, `std_logic` or `integer`, its start value |
+//! | bus or register           | a guarded signal: `std_logic bus`, `.. register`|
 //! | variable n                | `vN` of its process                             |
 //! | process n                 | process `pN`: `case pc is`, a branch a statement|
 //! | driver without assignment | an assignment in the branch never taken         |
 //! | signal a delayed by k     | `sA_dK <= transport sA after k ns`; k = 0: `sA` |
 //! | kind 2                    | `<= transport .. after ..`                      |
+//! | kind 6                    | `<= transport null after ..`                    |
 //! | wait on an empty set      | `wait` or `wait for ..`: b is never asked       |
 //! | one unit of time          | 1 ns                                            |
 //!
@@ -16,6 +18,19 @@
 //! or 2 or a process runs `STEPS` statements without a wait. Two ends of a
 //! model are foreign to VHDL: fault 3 (a ninth transaction) and 16 (1,000
 //! delta steps; GHDL has `--stop-delta`). `Form::Bare` is for measuring.
+//!
+//! Guarded signals in GHDL 2.0, tried in single designs and in random ones: it
+//! takes a null waveform of one element in any process, for one driver or
+//! several, without a disconnection specification, and does as document 02, item
+//! 1, says: drivers start on; a null driver adds nothing to the resolution, so
+//! that one - beside a null stays -; with all null a bus is `resolved` of no
+//! value, Z, and a register keeps its value; a null that falls due is a delta
+//! cycle, also where the value stays. A signal without a driver keeps its start
+//! value. As the papers have it, GHDL refuses a null on a signal that is not
+//! guarded (20) and a guarded signal without a resolution (5). It does not take a
+//! waveform in which a null follows another element, `'1' after 1 ns, null after
+//! 2 ns`: that is analysed and then lacks a symbol at elaboration. A translation
+//! has no such waveform, so that no model is left out for its guarded signals.
 
 use crate::model::{Model, NodeRecord, StatementRecord, ABSENT, INTEGER};
 use crate::values;
@@ -58,11 +73,12 @@ pub fn translate(m: &Model, form: Form) -> String {
     t.push_str("entity top is\nend top;\n\narchitecture model of top is");
     t.push_str(FUNCTIONS);
     for n in 0..m.signals.len() {
-        signal(&mut t, m, n, &format!("s{n}"), m.signals[n].start);
+        let kind = ["", " bus", " register"][m.signals[n].kind as usize];
+        signal(&mut t, m, n, &format!("s{n}"), kind, m.signals[n].start);
     }
     let delayed = delays(m);
     for &(n, k) in &delayed {
-        signal(&mut t, m, n, &format!("s{n}_d{k}"), first_value(m, n));
+        signal(&mut t, m, n, &format!("s{n}_d{k}"), "", first_value(m, n));
     }
     t.push_str("begin\n");
     for (n, k) in delayed {
@@ -91,11 +107,11 @@ fn type_name(ty: u8) -> &'static str {
     ["integer", "std_logic", "boolean"][ty as usize]
 }
 
-fn signal(t: &mut String, m: &Model, n: usize, name: &str, start: i32) {
+fn signal(t: &mut String, m: &Model, n: usize, name: &str, kind: &str, start: i32) {
     let ty = m.signals[n].ty;
     let _ = writeln!(
         t,
-        "  signal {name} : {} := {};",
+        "  signal {name} : {}{kind} := {};",
         type_name(ty),
         literal(ty, start)
     );
@@ -186,6 +202,10 @@ impl Text<'_> {
                 self.expr(b)
             ),
             4 => format!("pc := {a};"),
+            6 => {
+                let delay = self.delay(c);
+                format!("s{a} <= transport null after {delay}; pc := {next};")
+            }
             _ => {
                 let rest = if self.form == Form::Checked {
                     " steps := 0;"
@@ -284,6 +304,32 @@ mod tests {
                 "no line {line} in\n{text}"
             );
         }
+    }
+
+    #[test]
+    fn guarded_signals() {
+        let mut b = Builder::new();
+        let (bus, register) = (b.bus(2), b.register(8));
+        let (one, past) = (b.integer(1), b.delayed(bus, 3));
+        let minus = b.integer(-1);
+        b.process();
+        b.driver(0, bus);
+        b.driver(0, register);
+        b.release(bus, one);
+        b.release(register, minus);
+        b.schedule(register, past, one);
+        has(
+            &translate(&b.m, Form::Checked),
+            &[
+                "signal s0 : std_logic bus := std_ulogic'('0');",
+                "signal s1 : std_logic register := std_ulogic'('-');",
+                // What is read from the past is no guarded signal.
+                "signal s0_d3 : std_logic := std_ulogic'('0');",
+                "when 0 => s0 <= transport null after 1 ns; pc := 1;",
+                "when 1 => s1 <= transport null after span (integer'(-1)); pc := 2;",
+                "when 2 => s1 <= transport s0_d3 after 1 ns; pc := 0;",
+            ],
+        );
     }
 
     /// The paper's inverter.

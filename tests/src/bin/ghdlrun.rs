@@ -15,14 +15,19 @@
 //! that never waits. GHDL must show the same changes of settled values and the
 //! same end: a failure at that time, or a stop by `--stop-delta`. Fault 3 is
 //! foreign to VHDL: such a run is compared up to the time before, and left out
-//! if no signal changes before. The exit code is 1 on any difference, and with
-//! the feature `session` also where the proved kernel played too few: a run of
-//! more than 4,096 orders is the second kernel's, one lively model in ten at most.
+//! if no signal changes before. The exit code is 1 on any difference, where too
+//! few models show what guarded signals and null transactions do before their
+//! last settled values, and with the feature `session` also where the proved
+//! kernel played too few: a run of more than 4,096 orders is the second kernel's,
+//! one lively model in ten at most.
 
 use second_kernel::builder::Builder;
 use second_kernel::cycle::{Config, Step, DELTA_LIMIT, NINTH, TIME_LIMIT};
 use second_kernel::gen;
-use second_kernel::model::{self, Model, ABSENT, INTEGER, LOGIC};
+use second_kernel::model::{self, Model, ABSENT, BUS, INTEGER, LOGIC, PLAIN, REGISTER};
+use second_kernel::nulls::{self, Seen};
+use second_kernel::numbers::Counts;
+use second_kernel::tally;
 use second_kernel::vhdl::{self, Form};
 use std::collections::BTreeMap;
 use std::path::{Path, PathBuf};
@@ -34,6 +39,8 @@ const TIME_STEPS: usize = 60;
 /// Picks in one settling after which some process is taken never to wait:
 /// then one has made the number that the translation allows.
 const PICKS: usize = 16 * vhdl::STEPS;
+
+const NULL_DUE: [&str; 2] = [nulls::DUE_ON_BUS, nulls::DUE_ON_REGISTER];
 
 /// Signal values at a time.
 type Row = (u64, Vec<i32>);
@@ -55,6 +62,8 @@ struct Run {
     rows: Vec<Row>,
     /// The orders of the run, with reads of all signals where a row is taken.
     orders: Vec<[u8; 4]>,
+    /// What it shows of bus, register and null up to the last row.
+    shown: Seen,
     end: End,
     /// The time up to which GHDL is to run.
     stop: u64,
@@ -83,6 +92,7 @@ fn run(m: &Model) -> Run {
     let mut rows = vec![(0, values(&c))];
     let reads: Vec<[u8; 4]> = (0..rows[0].1.len()).map(|s| [4, s as u8, 0, 0]).collect();
     let mut orders = reads.clone();
+    let mut compared = 0;
     let end = loop {
         if !settle(&mut c, m, &mut orders) {
             break End::NoWait;
@@ -97,6 +107,7 @@ fn run(m: &Model) -> Run {
             Ok(Step::Delta) => {}
             Ok(Step::Time) => {
                 rows.push((time, row));
+                compared = orders.len();
                 if rows.len() > TIME_STEPS {
                     break End::TimeSteps;
                 }
@@ -108,6 +119,7 @@ fn run(m: &Model) -> Run {
             Err(16) => break End::DeltaSteps,
             Err(_) => {
                 rows.push((time, row));
+                compared = orders.len();
                 break End::NothingDue;
             }
         }
@@ -117,9 +129,11 @@ fn run(m: &Model) -> Run {
         End::TimeSteps | End::Ninth => rows.last().map_or(0, |r| r.0),
         _ => c.time,
     };
+    let shown = nulls::of_session(m, &orders[..compared].concat());
     Run {
         rows,
         orders,
+        shown,
         end,
         stop,
     }
@@ -277,6 +291,8 @@ struct Case {
     lively: bool,
     stop: u64,
     changes: Vec<Row>,
+    /// What the run shows of bus, register and null up to the last row.
+    shown: Seen,
     end: End,
 }
 
@@ -285,6 +301,7 @@ impl Case {
         let Run {
             rows,
             orders,
+            shown,
             end,
             stop,
         } = run(&model);
@@ -297,8 +314,14 @@ impl Case {
             proved: proved.is_some(),
             lively: second.len() > 1,
             changes: proved.map_or(second, changes),
+            shown,
             end,
         }
+    }
+
+    /// Does a null come due on a bus or a register, settled values after it?
+    fn has_null_due(&self) -> bool {
+        NULL_DUE.iter().any(|what| self.shown.contains(what))
     }
 
     /// The model of `session_case`'s seed, if it is accepted.
@@ -309,11 +332,13 @@ impl Case {
     }
 }
 
-/// From time `start` on, `steps` waits for 0 and then one change of a signal:
-/// as many delta steps, one more if start is not 0.
-fn counted(start: i32, steps: i32) -> Case {
+/// From time `start` on, `steps` waits for 0: as many delta steps, one more if
+/// start is not 0. Then a plain signal changes one unit later; a bus or a register
+/// has a null come due at once, a delta step more that a register's value does
+/// not show.
+fn counted(kind: u8, start: i32, steps: i32) -> Case {
     let mut b = Builder::new();
-    let s = b.signal(LOGIC, 2);
+    let s = b.signal_of(LOGIC, kind, 2);
     let v = b.variable(INTEGER, 0, 0);
     let (zero, one) = (b.integer(0), b.integer(1));
     let (first, many) = (b.integer(start), b.integer(steps));
@@ -331,11 +356,15 @@ fn counted(start: i32, steps: i32) -> Case {
     b.assign(v, next);
     b.wait(0, ABSENT, zero);
     b.go(1);
-    b.schedule(s, turned, one);
+    if kind == PLAIN {
+        b.schedule(s, turned, one);
+    } else {
+        b.release(s, zero);
+    }
     b.wait(0, ABSENT, ABSENT);
     let bytes = b.encode();
     Case::new(
-        format!("{steps} delta steps from time {start}"),
+        format!("kind {kind}, {steps} delta steps from time {start}"),
         b.m,
         &bytes,
     )
@@ -412,6 +441,29 @@ fn show(seed: u64) {
     println!("-- end {end:?}, GHDL up to {stop}");
 }
 
+/// Err where too few of the models compared show what a null does: of n lively
+/// ones a null due on a bus or a register in every fifth, the others in every
+/// hundredth; in a small run nothing is due.
+fn guarded_due(shown: &Counts<&'static str>, n: u64) -> Result<(), String> {
+    if n < 100 {
+        return Ok(());
+    }
+    shown.require("models with", &NULL_DUE, n / 5)?;
+    shown.require("models with", nulls::SESSION, n / 100)
+}
+
+/// Err where the proved kernel played too few of the lively models.
+fn proved_due(cases: &[Case]) -> Result<(), String> {
+    let lively = cases.iter().filter(|c| c.lively);
+    let (many, by_proved) = lively.fold((0, 0), |(m, p), c| (m + 1, p + c.proved as usize));
+    if cfg!(feature = "session") && 10 * by_proved < 9 * many {
+        return Err(format!(
+            "the proved kernel played {by_proved} of {many} lively models, too few"
+        ));
+    }
+    Ok(())
+}
+
 fn usage() -> ! {
     eprintln!("usage: ghdlrun [N [SEED [FROM TO]]] | ghdlrun show SEED");
     exit(2)
@@ -435,11 +487,11 @@ fn main() {
         usage()
     }
     let mut cases = choose(n, seed);
-    cases.extend(
-        [0, 3]
-            .into_iter()
-            .flat_map(|at| (998..1_003).map(move |k| counted(at, k))),
-    );
+    for kind in [PLAIN, BUS, REGISTER] {
+        for at in [0, 3] {
+            cases.extend((998..1_003).map(|k| counted(kind, at, k)));
+        }
+    }
     let mut counts: BTreeMap<End, [usize; 4]> = BTreeMap::new();
     for c in &cases {
         let row = counts.entry(c.end).or_default();
@@ -458,6 +510,12 @@ fn main() {
         "{} models left out: fault 3 before any change",
         all - cases.len()
     );
+    let mut shown: Counts<&'static str> = Counts::default();
+    for what in cases.iter().flat_map(|c| &c.shown) {
+        shown.add(what);
+    }
+    println!("bus, register and null in the models that are compared");
+    tally::print_shown(&shown, nulls::SESSION);
     let dir = scratch();
     let bad = compare_all(&cases, &alter, &dir);
     for (name, e) in bad.iter().take(10) {
@@ -465,19 +523,22 @@ fn main() {
     }
     let rows: usize = cases.iter().map(|c| c.changes.len() - 1).sum();
     let proved = cases.iter().filter(|c| c.proved).count();
+    let nulls = cases.iter().filter(|c| c.has_null_due()).count();
     println!(
-        "ghdlrun: {} models ({proved} played by the proved kernel), {rows} changes of settled values, {} models differ",
+        "ghdlrun: {} models ({proved} played by the proved kernel, {nulls} with nulls that came due), \
+         {rows} changes of settled values, {} models differ",
         cases.len(),
         bad.len()
     );
     let _ = std::fs::remove_dir_all(&dir);
-    let lively = cases.iter().filter(|c| c.lively);
-    let (many, by_proved) = lively.fold((0, 0), |(m, p), c| (m + 1, p + c.proved as usize));
-    let few = cfg!(feature = "session") && 10 * by_proved < 9 * many;
-    if few {
-        eprintln!("ghdlrun: the proved kernel played {by_proved} of {many} lively models, too few");
+    let mut wrong = !bad.is_empty();
+    for due in [guarded_due(&shown, n as u64), proved_due(&cases)] {
+        if let Err(e) = due {
+            eprintln!("ghdlrun: {e}");
+            wrong = true;
+        }
     }
-    if few || !bad.is_empty() {
+    if wrong {
         exit(1)
     }
 }

@@ -98,6 +98,10 @@ fn damaged_models() -> Vec<Case> {
             }
         }
     }
+    for seed in 0..40 {
+        let (rule, what, model) = damage::guarded(&mut Rng::new(seed));
+        list.push(Case::new(what, &model, &inverter_orders(), rule));
+    }
     list
 }
 

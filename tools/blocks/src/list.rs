@@ -18,6 +18,10 @@ fn type_name(ty: u8) -> &'static str {
     ["integer", "logic", "boolean"][ty as usize]
 }
 
+fn kind_name(kind: u8) -> &'static str {
+    ["", " bus", " register"][kind as usize]
+}
+
 fn expression(m: &Model, n: u16) -> String {
     let d = &m.nodes[n as usize];
     let two = |op: &str| format!("({} {op} {})", expression(m, d.a), expression(m, d.b));
@@ -62,6 +66,7 @@ fn statement(m: &Model, s: &StatementRecord) -> String {
         2 => format!("s{} <= {} after {}", s.a, expression(m, s.b), expression(m, s.c)),
         3 => format!("unless {} goto l{}", expression(m, s.b), s.a),
         4 => format!("goto l{}", s.a),
+        6 => format!("s{} <= null after {}", s.a, expression(m, s.c)),
         _ => wait(m, s),
     }
 }
@@ -70,7 +75,7 @@ fn statement(m: &Model, s: &StatementRecord) -> String {
 pub fn model(m: &Model) -> String {
     let mut out = String::new();
     for (n, s) in m.signals.iter().enumerate() {
-        let _ = writeln!(out, "signal s{n} {} {}", type_name(s.ty), value(s.ty, s.start));
+        let _ = writeln!(out, "signal s{n} {}{} {}", type_name(s.ty), kind_name(s.kind), value(s.ty, s.start));
     }
     let targets: BTreeSet<u16> = m.statements.iter().filter(|s| s.kind == 3 || s.kind == 4).map(|s| s.a).collect();
     for (p, q) in m.processes.iter().enumerate() {
@@ -123,7 +128,7 @@ mod tests {
     // uses is lost, so models that have one are passed over, and those that grow past a limit.
     #[test]
     fn a_listing_makes_a_model_that_does_the_same() {
-        let mut compared = 0;
+        let (mut compared, mut letting_go) = (0, 0);
         for seed in 0..4_000 {
             let mut rng = Rng::new(seed);
             let m = gen::model(&mut rng);
@@ -134,9 +139,11 @@ mod tests {
                 let (ours, theirs) = (encode(&m), encode(&again));
                 assert_eq!(session::print(&ours, &orders), session::print(&theirs, &orders), "seed {seed}");
                 compared += 1;
+                letting_go += m.statements.iter().any(|s| s.kind == 6) as usize;
             }
         }
         assert!(compared > 500, "{compared} models compared");
+        assert!(letting_go > 100, "{letting_go} of them with a null transaction");
     }
 
     #[test]
@@ -154,6 +161,29 @@ process p1
   wait
 ";
         assert_eq!(model(&cases::inverter().m), expected);
+    }
+
+    #[test]
+    fn a_listing_of_lines_that_are_let_go_of() {
+        let listed = "\
+signal s0 logic bus 'Z'
+signal s1 logic register 'H'
+signal s2 logic '0'
+process p0
+  -- drives s0
+  -- drives s2
+  s0 <= null after 3
+  s2 <= '1' after 0
+  wait
+process p1
+  -- drives s0
+  -- drives s1
+  s1 <= null after (- 2)
+  s0 <= 'L' after 0
+  wait on s0, s1
+";
+        let blocks = text::model(listed).expect("a listing is a model text");
+        assert_eq!(model(&load(&blocks).expect("an accepted model")), listed);
     }
 
     #[test]

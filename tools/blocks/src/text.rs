@@ -1,19 +1,23 @@
 //! Reads model texts and order texts. One item a line; `--` starts a comment.
 //!
-//!     signal NAME TYPE VALUE          TYPE is integer, logic or (variables) boolean
+//!     signal NAME TYPE [bus|register] VALUE
 //!     process NAME                    opens a process: what follows is its own
 //!     variable NAME TYPE VALUE
 //!     LABEL:                          names the next statement
 //!     null
 //!     VARIABLE := EXPRESSION
 //!     SIGNAL <= EXPRESSION after EXPRESSION
+//!     SIGNAL <= null after EXPRESSION
 //!     unless EXPRESSION goto LABEL
 //!     goto LABEL
 //!     wait [on SIGNAL, ..] [until EXPRESSION] [for EXPRESSION]
 //!
+//! TYPE is integer, logic or (variables) boolean. A signal without `bus` or `register` is plain; these two are for logic signals,
+//! and only they take null transactions (the kernel refuses others with 20). `null` is no name and no value.
+//!
 //! EXPRESSION: an integer, a logic value as '0' or 'U', a name, `SIGNAL delayed K`, `not e`, `- e`, `e OP e` with OP one of
 //! `and or xor = < + -`, and parentheses. `= <` bind weaker than `+ -`; `and or xor` weaker than those; equal ones group to the
-//! left. A process gets a driver for each signal that it assigns.
+//! left. A process gets a driver for each signal that it assigns, also where it assigns only null.
 //!
 //! Orders: `pick P`, `advance`, `settle N`, `read S`, with numbers.
 
@@ -112,6 +116,14 @@ impl Reader {
         }
     }
 
+    /// The name of something new.
+    fn new_name(&mut self) -> Result<String, String> {
+        match self.word()? {
+            w if w == "null" => Err("`null` is no name".to_string()),
+            w => Ok(w),
+        }
+    }
+
     fn signal(&self, name: &str) -> Result<u16, String> {
         let at = self.signals.iter().position(|s| s == name);
         at.map(|n| n as u16).ok_or_else(|| format!("there is no signal `{name}`"))
@@ -151,6 +163,7 @@ impl Reader {
                 let e = self.atom()?;
                 Ok(self.node(6, e, 0, 0))
             }
+            Token::Word(w) if w == "null" => Err("`null` is no value: it stands alone between `<=` and `after`".to_string()),
             Token::Word(w) => {
                 if let Some(v) = self.variables.iter().rposition(|n| *n == w) {
                     return Ok(self.node(3, v as u16, 0, 0));
@@ -242,28 +255,42 @@ impl Reader {
         }
         if self.takes(&Token::Sign("<=")) {
             let a = self.signal(name)?;
-            let b = self.expression()?;
+            let (kind, b) = if self.takes_word("null") { (6, 0) } else { (2, self.expression()?) };
             if !self.takes_word("after") {
                 return Err("`after` and a delay are missing".to_string());
             }
             let c = self.expression()?;
-            self.statement(StatementRecord { kind: 2, a, b, c, set: 0 })?;
+            self.statement(StatementRecord { kind, a, b, c, set: 0 })?;
             self.drivers.insert((process - 1, a as u8));
             return Ok(());
         }
         Err(format!("`{name}` begins no item"))
     }
 
+    fn signal_kind(&mut self) -> u8 {
+        if self.takes_word("bus") {
+            BUS
+        } else if self.takes_word("register") {
+            REGISTER
+        } else {
+            PLAIN
+        }
+    }
+
     fn item(&mut self, line: usize) -> Result<(), String> {
         let word = self.word()?;
         match word.as_str() {
             "signal" | "variable" => {
-                let name = self.word()?;
+                let name = self.new_name()?;
                 let ty = type_of(&self.word()?)?;
+                let kind = self.signal_kind();
+                if kind != PLAIN && (word == "variable" || ty != LOGIC) {
+                    return Err("`bus` and `register` are for logic signals".to_string());
+                }
                 let start = self.value(ty)?;
                 if word == "signal" {
                     self.signals.push(name);
-                    self.model.signals.push(SignalRecord { ty, start });
+                    self.model.signals.push(SignalRecord { ty, kind, start });
                 } else {
                     let process = self.model.processes.len().checked_sub(1).ok_or("a variable stands in a process")?;
                     self.variables.push(name);
@@ -272,7 +299,7 @@ impl Reader {
                 Ok(())
             }
             "process" => {
-                self.word()?;
+                self.new_name()?;
                 let first = self.model.statements.len() as u16;
                 self.model.processes.push(ProcessRecord { first, count: 0 });
                 Ok(())
@@ -331,4 +358,75 @@ pub fn orders(text: &str) -> Result<Vec<u8>, String> {
         out.extend(order);
     }
     Ok(out)
+}
+
+#[cfg(test)]
+mod tests {
+    use super::*;
+
+    // Card b assigns only null, and has its driver all the same.
+    #[test]
+    fn cards_that_let_go_of_a_line() {
+        let text = "\
+signal wire logic '0'
+signal line logic bus 'Z'
+signal last logic register 'H'
+process card_a
+  line <= '0' after 2
+  last <= null after 3
+  wait
+process card_b
+  line <= null after 0
+  wait
+";
+        let m = load(&model(text).expect("a model text")).expect("an accepted model");
+        let signal = |kind, start| SignalRecord { ty: LOGIC, kind, start };
+        assert_eq!(m.signals, [signal(PLAIN, 2), signal(BUS, 4), signal(REGISTER, 7)]);
+        let constant = |kind, k| NodeRecord { kind, a: 0, b: 0, k };
+        assert_eq!(m.nodes, [constant(2, 2), constant(1, 2), constant(1, 3), constant(1, 0)]);
+        let wait = StatementRecord { kind: 5, a: 0, b: ABSENT, c: ABSENT, set: 0 };
+        let assign = |kind, a, b, c| StatementRecord { kind, a, b, c, set: 0 };
+        assert_eq!(m.statements, [assign(2, 1, 0, 1), assign(6, 2, 0, 2), wait, assign(6, 1, 0, 3), wait]);
+        let driver = |process, signal| DriverRecord { process, signal };
+        assert_eq!(m.drivers, [driver(0, 1), driver(0, 2), driver(1, 1)]);
+    }
+
+    // Like wrong types, this is the kernel's to refuse.
+    #[test]
+    fn null_on_a_plain_signal_is_20() {
+        for (ty, number) in [("logic '0'", 20), ("integer 0", 20), ("logic bus '0'", 0), ("logic register '0'", 0)] {
+            let text = format!("signal s {ty}\nprocess p\ns <= null after 0\nwait");
+            assert_eq!(model(&text).map(|blocks| judge(&blocks)), Ok(number), "{ty}");
+        }
+    }
+
+    #[test]
+    fn wrong_texts_are_told_with_their_line() {
+        let for_logic = "`bus` and `register` are for logic signals";
+        let no_value = "`null` is no value: it stands alone between `<=` and `after`";
+        for (text, line, error) in [
+            ("signal s integer bus 0", 1, for_logic),
+            ("signal s integer register 0", 1, for_logic),
+            ("signal s boolean bus true", 1, for_logic),
+            ("process p\nvariable v logic register '0'", 2, for_logic),
+            ("process p\nvariable v integer bus 0", 2, for_logic),
+            ("signal s logic bus register 'Z'", 1, "Word(\"register\") is no value of this type"),
+            ("signal s logic 'Z' bus", 1, "Word(\"bus\") is one too many"),
+            ("signal s logic bus", 1, "something is missing at the end of the line"),
+            ("signal s logic bus 'Z'\nprocess p\ns <= null", 3, "`after` and a delay are missing"),
+            ("signal s logic bus 'Z'\nprocess p\ns <= null after", 3, "something is missing at the end of the line"),
+            ("signal s logic bus 'Z'\nprocess p\ns <= null and '1' after 0", 3, "`after` and a delay are missing"),
+            ("signal s logic bus 'Z'\nprocess p\ns <= not null after 0", 3, no_value),
+            ("signal s logic bus 'Z'\nprocess p\ns <= '1' after null", 3, no_value),
+            ("process p\nvariable v logic '0'\nv := null", 3, no_value),
+            ("process p\nt <= null after 0", 2, "there is no signal `t`"),
+            ("signal s logic bus 'Z'\ns <= null after 0", 2, "a statement stands before the first process"),
+            ("signal null logic bus 'Z'", 1, "`null` is no name"),
+            ("process p\nvariable null logic 'Z'", 2, "`null` is no name"),
+            ("process null", 1, "`null` is no name"),
+            ("process p\nnull:", 2, "Sign(\":\") is one too many"),
+        ] {
+            assert_eq!(model(text), Err(format!("line {line}: {error}")), "{text}");
+        }
+    }
 }
