@@ -96,9 +96,9 @@ pub fn drivers(letters: &str) -> Builder {
     b
 }
 
-/// One process per letter drives a common line of this kind to it at once and
-/// lets go of it after 1, 2, .. in turn; one more waits on the line.
-pub fn cards(kind: u8, letters: &str) -> Builder {
+/// One process per letter drives a common signal of this kind to it at once and
+/// turns its driver off after 1, 2, .. in turn; one more waits on the signal.
+pub fn turned_off(kind: u8, letters: &str) -> Builder {
     let mut b = Builder::new();
     let s = b.signal_of(LOGIC, kind, 4);
     let zero = b.integer(0);
@@ -116,7 +116,7 @@ pub fn cards(kind: u8, letters: &str) -> Builder {
     b
 }
 
-/// One process gives a line of this kind transactions (delay, code or null),
+/// One process gives a signal of this kind transactions (delay, code or null),
 /// then waits.
 pub fn releases(kind: u8, list: &[(i32, Carried)]) -> Builder {
     let mut b = Builder::new();
@@ -298,15 +298,15 @@ pub fn watched(advances: usize) -> Vec<u8> {
     [orders(&[(SETTLE, 0, 30)]), round.repeat(advances)].concat()
 }
 
-/// Bus and register lines whose drivers let go of them.
+/// Bus and register signals whose drivers turn off.
 fn null_sessions(add: &mut impl FnMut(String, &Builder, Vec<u8>)) {
     for (kind, name) in [(BUS, "bus"), (REGISTER, "register")] {
         for letters in [
             "", "1", "-", "01", "-0", "0-", "--", "LH", "H0L", "U1", "ZZ",
         ] {
             add(
-                format!("a {name} with cards {letters}"),
-                &cards(kind, letters),
+                format!("a {name} turned off after {letters}"),
+                &turned_off(kind, letters),
                 watched(2 * letters.len() + 2),
             );
         }

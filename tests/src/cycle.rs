@@ -23,7 +23,7 @@ pub type Carried = Option<i32>;
 
 #[derive(Clone, Debug, Default, PartialEq, Eq)]
 pub struct Driver {
-    /// The current transaction; a null one lets go of the signal.
+    /// The current transaction; a null one turns the driver off.
     pub current: Carried,
     /// Pending transactions (time, value or null), rising in time.
     pub wave: Vec<(u64, Carried)>,

@@ -994,8 +994,8 @@ impl Limits {
     }
 }
 
-/// Signal 1 of the small model becomes a bus, and process 1 lets go of it.
-fn let_go(m: &mut Model) {
+/// Signal 1 of the small model becomes a bus, and process 1 assigns null to it.
+fn null_on_bus(m: &mut Model) {
     m.signals[1].kind = BUS;
     m.statements[4] = StatementRecord {
         kind: 6,
@@ -1016,23 +1016,23 @@ fn null_limits(list: &mut Limits) {
     });
     let codes = [(0, 20), (1, 0), (2, 0), (3, 5), (255, 5)];
     list.field("a null on a signal of kind", &codes, |m, x| {
-        let_go(m);
+        null_on_bus(m);
         m.signals[1].kind = x as u8
     });
     let starts = [(0, 0), (4, 0), (8, 0), (9, 5)];
     list.field("a bus starts at", &starts, |m, x| {
-        let_go(m);
+        null_on_bus(m);
         m.signals[1].start = x as i32
     });
     // Process 1 does not drive signal 0.
     let signals = [(0, 8), (1, 0), (2, 5), (65_535, 5)];
     list.field("a null on signal", &signals, |m, x| {
-        let_go(m);
+        null_on_bus(m);
         m.statements[4].a = x as u16
     });
     let unnamed = [(0, 0), (1, 5), (7, 5), (65_535, 5)];
     list.field("a null with b", &unnamed, |m, x| {
-        let_go(m);
+        null_on_bus(m);
         m.statements[4].b = x as u16
     });
     // Node 1 is logic, node 6 boolean, node 2 reads process 0's variable.
@@ -1047,17 +1047,17 @@ fn null_limits(list: &mut Limits) {
         (65_535, 5),
     ];
     list.field("a null after node", &delays, |m, x| {
-        let_go(m);
+        null_on_bus(m);
         m.statements[4].c = x as u16
     });
     let sets = [(0, 0), (1, 5), (2, 5), (1 << 31, 5)];
     list.field("a null with set", &sets, |m, x| {
-        let_go(m);
+        null_on_bus(m);
         m.statements[4].set = x as u32
     });
     let drivers = [(0, 8), (1, 8), (2, 8), (3, 0)];
     list.field("a null with so many drivers left", &drivers, |m, x| {
-        let_go(m);
+        null_on_bus(m);
         m.drivers.truncate(x as usize)
     });
     // Statement 1 is an assignment to the integer signal.
@@ -1087,7 +1087,7 @@ fn null_limits(list: &mut Limits) {
         b.m.statements[6].c = 1;
     });
     list.changed(20, "20 in the last statement", |b| {
-        let_go(&mut b.m);
+        null_on_bus(&mut b.m);
         b.m.statements[6] = StatementRecord {
             kind: 6,
             a: 2,

@@ -370,9 +370,9 @@ impl Maker<'_> {
         };
     }
 
-    /// A process that drives a line, lets go of it and waits.
-    fn card(&mut self, process: u8, lines: &[u16]) {
-        // Often the first line, so that processes share it.
+    /// A process that drives a bus or a register, turns its driver off and waits.
+    fn on_and_off(&mut self, process: u8, lines: &[u16]) {
+        // Often the first, so that processes share it.
         let any = self.rng.choose(lines);
         let s = self.rng.choose(&[lines[0], lines[0], any]);
         let k = if self.rng.chance(1, 3) {
@@ -425,7 +425,7 @@ impl Maker<'_> {
         let sleeps = self.rng.chance(24, 25);
         let room = self.count() + 12 <= 400;
         if length >= 3 && !lines.is_empty() && room && self.rng.chance(2, 3) {
-            self.card(process, &lines);
+            self.on_and_off(process, &lines);
         } else if length >= 2 && !driven.is_empty() && room && self.rng.chance(1, 3) {
             self.clock(process, &driven);
         }
@@ -844,7 +844,7 @@ fn delta_marathon(rng: &mut Rng) -> (Model, Vec<u8>) {
             b.go(again);
         }
         5 => {
-            // A line that is let go of and driven again.
+            // A signal whose driver turns off and on again.
             let high = b.logic(3);
             b.release(s, zero);
             b.wait(1 << s, ABSENT, ABSENT);

@@ -37,7 +37,7 @@ pub const DUE_ON_REGISTER: &str = "a null due on a register";
 const NULL_AND_VALUE: &str = "a null and a value due at once";
 const NULL_AGAIN: &str = "a null after a null";
 const ON_AGAIN: &str = "a value after a null";
-const BUS_LET_GO: &str = "a bus that becomes Z, all null";
+const BUS_TO_Z: &str = "a bus that becomes Z, all null";
 const BUS_WAKES: &str = "a bus that becomes Z wakes a process";
 const BUS_STAYS: &str = "a bus that is Z, all null again";
 const REGISTER_KEEPS: &str = "a register that keeps a value, all null";
@@ -64,7 +64,7 @@ pub const SESSION: &[&str] = &[
     NULL_AND_VALUE,
     NULL_AGAIN,
     ON_AGAIN,
-    BUS_LET_GO,
+    BUS_TO_Z,
     BUS_WAKES,
     BUS_STAYS,
     REGISTER_KEEPS,
@@ -281,7 +281,7 @@ impl Play<'_> {
             let several = drivers.len() > 1;
             let woken = self.woken(s, before, changed);
             let asleep = self.asleep(s, before, changed);
-            self.see(BUS_LET_GO, bus && old != z);
+            self.see(BUS_TO_Z, bus && old != z);
             self.see(BUS_WAKES, bus && old != z && woken);
             self.see(BUS_STAYS, bus && old == z);
             self.see(REGISTER_KEEPS, !bus && old != z);
@@ -344,7 +344,7 @@ impl Play<'_> {
 mod tests {
     use super::*;
     use crate::builder::Builder;
-    use crate::cases::{cards, null_after, releases, watched};
+    use crate::cases::{null_after, releases, turned_off, watched};
 
     fn shown(b: &Builder, advances: usize) -> Vec<&'static str> {
         of_session(&b.m, &watched(advances)).into_iter().collect()
@@ -360,19 +360,19 @@ mod tests {
     }
 
     #[test]
-    fn lines_let_go() {
-        let bus = [DUE_ON_BUS, BUS_LET_GO, BUS_WAKES, OFF_AT_END];
-        assert_eq!(shown(&cards(BUS, "1"), 3), sorted(&bus));
+    fn drivers_turned_off() {
+        let bus = [DUE_ON_BUS, BUS_TO_Z, BUS_WAKES, OFF_AT_END];
+        assert_eq!(shown(&turned_off(BUS, "1"), 3), sorted(&bus));
         let register = [
             DUE_ON_REGISTER,
             REGISTER_KEEPS,
             REGISTER_WAKES_NOT,
             OFF_AT_END,
         ];
-        assert_eq!(shown(&cards(REGISTER, "1"), 3), sorted(&register));
-        // Of the two only the first has let go.
+        assert_eq!(shown(&turned_off(REGISTER, "1"), 3), sorted(&register));
+        // Of the two only the first is off.
         let first = [DUE_ON_BUS, BUS_AMONG, NOT_LAST, OFF_AT_END, PENDING_AT_END];
-        assert_eq!(shown(&cards(BUS, "01"), 3), sorted(&first));
+        assert_eq!(shown(&turned_off(BUS, "01"), 3), sorted(&first));
         let first = [
             DUE_ON_REGISTER,
             REGISTER_AMONG,
@@ -380,7 +380,7 @@ mod tests {
             OFF_AT_END,
             PENDING_AT_END,
         ];
-        assert_eq!(shown(&cards(REGISTER, "01"), 3), sorted(&first));
+        assert_eq!(shown(&turned_off(REGISTER, "01"), 3), sorted(&first));
         let lone = [
             DUE_ON_BUS,
             BUS_AMONG,
@@ -389,7 +389,7 @@ mod tests {
             OFF_AT_END,
             PENDING_AT_END,
         ];
-        assert_eq!(shown(&cards(BUS, "0-"), 3), sorted(&lone));
+        assert_eq!(shown(&turned_off(BUS, "0-"), 3), sorted(&lone));
         let both = [
             DUE_ON_REGISTER,
             REGISTER_AMONG,
@@ -397,20 +397,20 @@ mod tests {
             REGISTER_WAKES_NOT,
         ];
         let both = [&both[..], &[REGISTER_MANY_NULL, OFF_AT_END]].concat();
-        assert_eq!(shown(&cards(REGISTER, "Z1"), 5), sorted(&both));
+        assert_eq!(shown(&turned_off(REGISTER, "Z1"), 5), sorted(&both));
         let both = [
             DUE_ON_BUS,
             BUS_AMONG,
-            BUS_LET_GO,
+            BUS_TO_Z,
             BUS_WAKES,
             BUS_MANY_NULL,
             OFF_AT_END,
         ];
-        assert_eq!(shown(&cards(BUS, "Z1"), 5), sorted(&both));
+        assert_eq!(shown(&turned_off(BUS, "Z1"), 5), sorted(&both));
         // A Z beside a null, and a bus that was Z.
         let quiet = [DUE_ON_BUS, BUS_AMONG, BUS_STAYS, BUS_MANY_NULL, OFF_AT_END];
-        assert_eq!(shown(&cards(BUS, "ZZ"), 5), sorted(&quiet));
-        assert!(shown(&cards(BUS, ""), 5).is_empty());
+        assert_eq!(shown(&turned_off(BUS, "ZZ"), 5), sorted(&quiet));
+        assert!(shown(&turned_off(BUS, ""), 5).is_empty());
     }
 
     #[test]
@@ -437,18 +437,18 @@ mod tests {
             assert!(shown(&null_after(x, y), 0).contains(&what));
         }
         let list = [(1, None), (2, None), (3, on)];
-        let back = [DUE_ON_BUS, BUS_LET_GO, BUS_STAYS, NULL_AGAIN, ON_AGAIN];
+        let back = [DUE_ON_BUS, BUS_TO_Z, BUS_STAYS, NULL_AGAIN, ON_AGAIN];
         assert_eq!(shown(&releases(BUS, &list), 6), sorted(&back));
     }
 
     #[test]
     fn models() {
         let of = |b: &Builder| of_model(&b.m).into_iter().collect::<Vec<_>>();
-        assert_eq!(of(&cards(PLAIN, "")), [PLAIN_ALONE]);
-        assert_eq!(of(&cards(BUS, "")), [BUS_UNDRIVEN]);
-        assert_eq!(of(&cards(REGISTER, "")), [REGISTER_UNDRIVEN]);
-        assert_eq!(of(&cards(BUS, "1")), [NULL_ON_BUS]);
-        assert_eq!(of(&cards(REGISTER, "1")), [NULL_ON_REGISTER]);
+        assert_eq!(of(&turned_off(PLAIN, "")), [PLAIN_ALONE]);
+        assert_eq!(of(&turned_off(BUS, "")), [BUS_UNDRIVEN]);
+        assert_eq!(of(&turned_off(REGISTER, "")), [REGISTER_UNDRIVEN]);
+        assert_eq!(of(&turned_off(BUS, "1")), [NULL_ON_BUS]);
+        assert_eq!(of(&turned_off(REGISTER, "1")), [NULL_ON_REGISTER]);
         let mut b = releases(BUS, &[(1, None)]);
         assert_eq!(of(&b), sorted(&[NULL_ON_BUS, ONLY_NULLS]));
         b.register(2);

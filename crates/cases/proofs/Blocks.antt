@@ -1,17 +1,18 @@
 -- Rules 2 and 3 block by block: a test of block n + 1 is the test of block n behind the first block. Bytes whose blocks pass, and which
 -- are read as an accepted model, are accepted. Assumes nothing.
 use mathlib.Core.Path.{_≡_, refl, ap, fun-ext}
-use mathlib.Core.Bool.{Bool, true}
+use mathlib.Core.Bool.{Bool, true, _&&_}
 use mathlib.Core.List.{List, [], _∷_, _++_, flatten}
 use Prim.Native.Nat.{ℕ, zero, suc, _+_, _-_, _*_, _%_}
 use native.Mathlib.Omega.{arith}
+use borrow.Author.Tests.{eqb-true}
 use lib.Dec.{eqb, leb}
 use lib.ListN.{length}
 use lib.Seq.{getD-append-add}
 use Rattle.base.specs.Below.{allBelow, sumBelow, every}
 use Rattle.base.specs.Bytes.{byteAt, wordAt}
 use Rattle.base.specs.Rules.{firstFailing}
-use Rattle.base.proofs.Below.{and-left, and-right}
+use Rattle.base.proofs.Below.{and-left, and-right, every-at}
 use Rattle.blocks.specs.Blocks.{blocksOf, lengthOk, blockSum, sumOk, sumsOk, kindAt, countAt, trailingAt, trailingOk, headOk, headsOk}
 use Rattle.blocks.specs.Records.{Model, modelOf}
 use Rattle.blocks.specs.Totals.{blockRules}
@@ -24,12 +25,12 @@ all-first f (suc n) h t =
     rw (all-first f n h (and-left _ _ t), and-right (allBelow (λ i. f (suc i)) n) (f (suc n)) t)
 
 -- the first n blocks pass
-pub record Pass (m : List ℕ) (n : ℕ) : Type 0 where
+record Pass (m : List ℕ) (n : ℕ) : Type 0 where
   pub sums : allBelow (sumOk m) n ≡ true
   pub trailing : allBelow (trailingOk m) n ≡ true
 
 -- b is a block, and passes
-pub record Block (b m : List ℕ) : Type 0 where
+record Block (b m : List ℕ) : Type 0 where
   pub size : length b ≡ 512
   pub sum : sumOk (b ++ m) 0 ≡ true
   pub trailing : trailingOk (b ++ m) 0 ≡ true
@@ -59,14 +60,28 @@ module _ (b m : List ℕ) (is : Block b m) where
       }
 
 -- each of some blocks passes
-abbrev pub Blocks : List (List ℕ) → Type 0
+abbrev Blocks : List (List ℕ) → Type 0
 Blocks [] = Unit {0}
 Blocks (b ∷ bs) = Block b (flatten bs) × Blocks bs
 
-pub all-pass : (bs : List (List ℕ)) → Blocks bs → Pass (flatten bs) (length bs)
+all-pass : (bs : List (List ℕ)) → Blocks bs → Pass (flatten bs) (length bs)
 unfolding allBelow flatten
 all-pass [] is = record { sums = refl; trailing = refl }
 all-pass (b ∷ bs) is = in-front b (flatten bs) (is .0) (length bs) (all-pass bs (is .1))
+
+-- the same as one test
+abbrev pub passing : List (List ℕ) → Bool
+passing [] = true
+passing (b ∷ bs) = every (eqb (length b) 512 ∷ sumOk (b ++ flatten bs) 0 ∷ trailingOk (b ++ flatten bs) 0 ∷ []) && passing bs
+
+each-passes : (bs : List (List ℕ)) → passing bs ≡ true → Blocks bs
+each-passes [] h = tt
+each-passes (b ∷ bs) h =
+    let tests : List Bool = eqb (length b) 512 ∷ sumOk (b ++ flatten bs) 0 ∷ trailingOk (b ++ flatten bs) 0 ∷ [] in
+    let t : every tests ≡ true = and-left (every tests) (passing bs) h in (
+      record { size = eqb-true (length b) 512 (every-at tests 0 t); sum = every-at tests 1 t; trailing = every-at tests 2 t },
+      each-passes bs (and-right (every tests) (passing bs) h),
+    )
 
 -- what rule 3 says of a block but for its trailing zeros
 abbrev pub numbersOk : List ℕ → ℕ → Bool
@@ -90,11 +105,11 @@ heads-hold m (suc n) h t =
     )
 
 -- no rule of the model applies
-pub accepted-bytes : (bs : List (List ℕ)) (M : Model) → Blocks bs → lengthOk (flatten bs) ≡ true → blocksOf (flatten bs) ≡ length bs
+pub accepted-bytes : (bs : List (List ℕ)) (M : Model) → passing bs ≡ true → lengthOk (flatten bs) ≡ true → blocksOf (flatten bs) ≡ length bs
     → allBelow (numbersOk (flatten bs)) (length bs) ≡ true → modelOf (flatten bs) ≡ M → Accepted M → refusalOf (flatten bs) ≡ 0
 unfolding refusalOf rulesOf blockRules recordRules firstFailing sumsOk headsOk
-accepted-bytes bs M is size counted numbers read rules =
-    let pass = all-pass bs is in
+accepted-bytes bs M passes size counted numbers read rules =
+    let pass = all-pass bs (each-passes bs passes) in
     rw (
       size,
       counted,

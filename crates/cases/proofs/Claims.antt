@@ -1,4 +1,4 @@
--- The claims on the inverter and on the cards: their lists are played by computation, and the claims say the rest. Assumes nothing.
+-- The claims on the inverter and on the shared bus and register: their lists are played by computation, and the claims say the rest. Assumes nothing.
 use mathlib.Core.Path.{_≡_, refl}
 use mathlib.Core.Bool.{true, false}
 use mathlib.Core.List.{List, [], _∷_}
@@ -17,11 +17,11 @@ use Rattle.session.specs.Demand3.{Bytes, picksOf, advancesOf, kernelOf, tallyOf
 use Rattle.session.proofs.Demand3.{determinate}
 use Rattle.session.proofs.ListLaws.{list-laws}
 use Rattle.cases.specs.Inverter.{inverter, inverterBytes}
-use Rattle.cases.specs.Lines.{cards, cardsBytes, carried}
-use Rattle.cases.specs.Claims.{settling, picking, woken, waking, kernel, tally, Comes, Ends, alike, behind, InverterDetermined, releasing, swapping, CardsDetermined, early, InverterLaws}
+use Rattle.cases.specs.Guarded.{shared, sharedBytes, carried}
+use Rattle.cases.specs.Claims.{settling, picking, woken, waking, kernel, tally, Comes, Ends, alike, behind, InverterDetermined, disconnecting, swapping, SharedDetermined, early, InverterLaws}
 use Rattle.cases.proofs.Rules.{the-orders}
 use Rattle.cases.proofs.Inverter.{model-read, accepted-inverter}
-use Rattle.cases.proofs.Lines.{cards-read, accepted-cards}
+use Rattle.cases.proofs.Guarded.{shared-read, accepted-shared}
 
 -- the two processes that are there are not ready, and no other can be picked
 quiet-by : (M : Model) → length (M .processes) ≡ 2 → (c : Configuration) → isReady 0 c ≡ false → isReady 1 c ≡ false → NormalForm (kernelOf M) c
@@ -87,28 +87,28 @@ determined =
       lead-there = (two .1 0 first .1 0 second) .1;
     }
 
-releasing-ends : Ends cardsBytes releasing 8 3
-unfolding the-orders cards picksOf advancesOf
-releasing-ends = ends cards-read releasing refl refl refl refl refl
+disconnecting-ends : Ends sharedBytes disconnecting 8 3
+unfolding the-orders shared picksOf advancesOf
+disconnecting-ends = ends shared-read disconnecting refl refl refl refl refl
 
-swapping-ends : Ends cardsBytes swapping 8 3
-unfolding the-orders cards picksOf advancesOf
-swapping-ends = ends cards-read swapping refl refl refl refl refl
+swapping-ends : Ends sharedBytes swapping 8 3
+unfolding the-orders shared picksOf advancesOf
+swapping-ends = ends shared-read swapping refl refl refl refl refl
 
-swapped-off : carried (tallyOf cards swapping .end) ≡ Null ∷ Null ∷ Null ∷ Null ∷ []
-unfolding the-orders cards
+swapped-off : carried (tallyOf shared swapping .end) ≡ Null ∷ Null ∷ Null ∷ Null ∷ []
+unfolding the-orders shared
 swapped-off = refl
 
-pub cards-determined : CardsDetermined
-cards-determined =
+pub shared-determined : SharedDetermined
+shared-determined =
     record {
-      read = cards-read;
-      accepted = accepted-cards;
+      read = shared-read;
+      accepted = accepted-shared;
       demand3 = determinate;
-      releasing-ends = releasing-ends;
+      disconnecting-ends = disconnecting-ends;
       swapping-ends = swapping-ends;
-      same-end = alike determinate accepted-cards releasing swapping releasing-ends swapping-ends .same-end;
-      all-off = rw cards-read swapped-off;
+      same-end = alike determinate accepted-shared disconnecting swapping disconnecting-ends swapping-ends .same-end;
+      all-off = rw shared-read swapped-off;
     }
 
 early-refusal : early .refusal ≡ 14

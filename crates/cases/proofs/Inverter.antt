@@ -8,7 +8,6 @@ use borrow.Author.Tests.{eq-eqb}
 use lib.Dec.{eqb}
 use lib.ListN.{replicate}
 use Rattle.base.specs.Below.{allBelow, sumBelow, every}
-use Rattle.base.proofs.Below.{_and_}
 use Rattle.blocks.specs.Blocks.{lengthOk, blockSum, sumOk, trailingAt, trailingOk}
 use Rattle.blocks.specs.Records.{modelOf}
 use Rattle.model.specs.Rules.{refusalOf, Accepted}
@@ -19,7 +18,7 @@ use Rattle.session.proofs.SessionLaws.{model-accepted, neither}
 use Rattle.text.specs.Text.{placesOf, decimalOf, signedOf, lineOf, answersIn, sessionText, textOf}
 use Rattle.cases.specs.Inverter.{inverter, signalBlock, processBlock, driverBlock, nodeBlock, statementBlock, inverterBlocks, inverterBytes, inverterOrders, inverterOrderBytes, bytesIn, printed, inverterLines, InverterPlayed}
 use Rattle.cases.proofs.Rules.{the-orders, the-checks, the-reading}
-use Rattle.cases.proofs.Blocks.{Blocks, accepted-bytes}
+use Rattle.cases.proofs.Blocks.{accepted-bytes}
 
 -- named on an `unfolding` line, it opens the inverter's bytes
 the-bytes : ℕ
@@ -34,24 +33,14 @@ orders-read : ordersOf inverterOrderBytes ≡ inverterOrders
 unfolding the-orders inverterOrders
 orders-read = refl
 
-each-block : Blocks inverterBlocks
-unfolding the-bytes allBelow sumBelow blockSum sumOk trailingAt trailingOk
-each-block =
-    record { size = refl; sum = refl; trailing = refl }
-    and record { size = refl; sum = refl; trailing = refl }
-    and record { size = refl; sum = refl; trailing = refl }
-    and record { size = refl; sum = refl; trailing = refl }
-    and record { size = refl; sum = refl; trailing = refl }
-    and tt
-
 rules-hold : Accepted inverter
 unfolding the-checks inverter
 rules-hold = record { totals = refl; fields = refl; trees = refl; types = refl; owners = refl; nulls = refl }
 
 -- no rule of the model applies
 pub accepted-inverter : refusalOf inverterBytes ≡ 0
-unfolding the-bytes lengthOk every allBelow
-accepted-inverter = accepted-bytes inverterBlocks inverter each-block refl refl refl model-read rules-hold
+unfolding the-bytes lengthOk every allBelow sumBelow blockSum sumOk trailingAt trailingOk
+accepted-inverter = accepted-bytes inverterBlocks inverter refl refl refl refl model-read rules-hold
 
 -- nor 9 and 10
 number-is : numberOf inverterBytes inverterOrderBytes (replicate 128 0) ≡ 0

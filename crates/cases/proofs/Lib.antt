@@ -2,5 +2,5 @@ pub mod Rules
 pub mod Bench
 pub mod Blocks
 pub mod Inverter
-pub mod Lines
+pub mod Guarded
 pub mod Claims

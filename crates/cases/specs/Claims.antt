@@ -1,5 +1,5 @@
--- The claims over all models and lists of orders, used on the inverter and on the cards. Each fact stands with the part of the claim
--- that proves it: a claim with a premise more, or with a part less, is no proof of it.
+-- The claims over all models and lists of orders, used on the inverter and on a model with null transactions. Each fact stands
+-- with the part of the claim that proves it: a claim with a premise more, or with a part less, is no proof of it.
 use mathlib.Core.Path.{_≡_, refl, sym, _∙_}
 use mathlib.Core.Bool.{true}
 use mathlib.Core.Logic.{_≢_}
@@ -18,7 +18,7 @@ use Rattle.session.specs.Demand3.{Bytes, kernelOf, tallyOf, Determinate}
 use Rattle.session.specs.ListLaws.{ListLaws}
 use Rattle.cases.specs.Forms.{pickOrder, advanceOrder, settleOrder, orderBytes, asBytes}
 use Rattle.cases.specs.Inverter.{inverter, inverterBytes, inverterOrders, inverterOrderBytes}
-use Rattle.cases.specs.Lines.{cards, cardsBytes, released, swapped, carried}
+use Rattle.cases.specs.Guarded.{shared, sharedBytes, disconnected, swapped, carried}
 
 -- a fact, and what proves it: nothing else may stand behind `by`
 infix 2 _by_
@@ -93,23 +93,23 @@ pub record InverterDetermined : Type 0 where
   pub lead-there : kernel .step 0 (kernel .step 0 (tally waking .end)) ≡ tally woken .end
       by (two-missing .1 0 first-ready .1 0 second-ready) .1
 
--- the cards' orders, and the same with card 1 picked first
-abbrev pub releasing : Bytes
-releasing = asBytes (orderBytes released) refl
+-- the orders of the shared bus and register, and the same with process 1 picked first
+abbrev pub disconnecting : Bytes
+disconnecting = asBytes (orderBytes disconnected) refl
 
 abbrev pub swapping : Bytes
 swapping = asBytes (orderBytes swapped) refl
 
--- Demand 3 on the cards: the order of picks does not change which drivers are off
-pub record CardsDetermined : Type 0 where
-  pub read : modelOf cardsBytes ≡ cards
-  pub accepted : refusalOf cardsBytes ≡ 0
+-- Demand 3 on the shared bus and register: the order of picks does not change which drivers are off
+pub record SharedDetermined : Type 0 where
+  pub read : modelOf sharedBytes ≡ shared
+  pub accepted : refusalOf sharedBytes ≡ 0
   pub demand3 : Determinate
-  pub releasing-ends : Ends cardsBytes releasing 8 3
-  pub swapping-ends : Ends cardsBytes swapping 8 3
-  pub same-end : tallyOf (modelOf cardsBytes) releasing .end ≡ tallyOf (modelOf cardsBytes) swapping .end
-      by alike demand3 accepted releasing swapping releasing-ends swapping-ends .same-end
-  pub all-off : carried (tallyOf (modelOf cardsBytes) swapping .end) ≡ Null ∷ Null ∷ Null ∷ Null ∷ []
+  pub disconnecting-ends : Ends sharedBytes disconnecting 8 3
+  pub swapping-ends : Ends sharedBytes swapping 8 3
+  pub same-end : tallyOf (modelOf sharedBytes) disconnecting .end ≡ tallyOf (modelOf sharedBytes) swapping .end
+      by alike demand3 accepted disconnecting swapping disconnecting-ends swapping-ends .same-end
+  pub all-off : carried (tallyOf (modelOf sharedBytes) swapping .end) ≡ Null ∷ Null ∷ Null ∷ Null ∷ []
 
 -- an advance before any pick
 abbrev pub early : Outcome

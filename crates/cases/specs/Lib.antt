@@ -1,5 +1,5 @@
 pub mod Forms
 pub mod Bench
 pub mod Inverter
-pub mod Lines
+pub mod Guarded
 pub mod Claims

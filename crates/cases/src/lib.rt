@@ -1,12 +1,12 @@
 // The bench cases of document 01, by the definitions alone: the proved table, what the inverter prints, and the claims over all
-// models and lists of orders, used on the inverter; and two cards that let go of shared lines.
+// models and lists of orders, used on the inverter; and a bus and a register whose drivers turn off.
 ghost use mathlib.Core.Path.{_≡_};
 ghost use lib.ListN.{length};
 ghost use Rattle.values.specs.Bench.{Holds};
 ghost use Rattle.cases.specs.Bench.{rows, TableWhole};
 ghost use Rattle.cases.specs.Inverter.{inverterLines, InverterPlayed};
-ghost use Rattle.cases.specs.Lines.{lineRows, LinesReleased};
-ghost use Rattle.cases.specs.Claims.{settling, tally, InverterDetermined, CardsDetermined, InverterLaws};
+ghost use Rattle.cases.specs.Guarded.{guardedRows, GuardedPlayed};
+ghost use Rattle.cases.specs.Claims.{settling, tally, InverterDetermined, SharedDetermined, InverterLaws};
 
 // How many rows the proved table has; that they hold, and that none is missing.
 pub fn bench_rows() -> usize
@@ -34,12 +34,12 @@ pub fn inverter_picks() -> usize
     6
 }
 
-// How many rows the table of the shared lines has; that they hold, and that picks in another order lead to the same drivers being off.
-pub fn line_rows() -> usize
-    ensures { λ r. ⌜ r ≡ length lineRows ⌝ }
-    ensures { λ r. ⌜ Holds lineRows ⌝ }
-    ensures { λ r. ⌜ LinesReleased ⌝ }
-    ensures { λ r. ⌜ CardsDetermined ⌝ }
+// How many rows the table of the shared bus and register has; that they hold, and that picks in another order turn the same drivers off.
+pub fn guarded_rows() -> usize
+    ensures { λ r. ⌜ r ≡ length guardedRows ⌝ }
+    ensures { λ r. ⌜ Holds guardedRows ⌝ }
+    ensures { λ r. ⌜ GuardedPlayed ⌝ }
+    ensures { λ r. ⌜ SharedDetermined ⌝ }
 {
     9
 }

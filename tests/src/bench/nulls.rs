@@ -26,7 +26,7 @@ fn followed(b: &Builder, advances: usize) -> (String, u16) {
 }
 
 #[test]
-fn cards_let_go_in_turn() {
+fn drivers_turn_off_in_turn() {
     // Values at first, at 0, then twice for each time: before its delta step and
     // after it. A process waits on the line, and each change wakes it.
     for (letters, bus, register) in [
@@ -47,7 +47,7 @@ fn cards_let_go_in_turn() {
         };
         let advances = 2 * letters.len() + 1;
         for (kind, values) in LINES.into_iter().zip([bus, register]) {
-            let (text, picks) = followed(&cards(kind, letters), advances);
+            let (text, picks) = followed(&turned_off(kind, letters), advances);
             assert_eq!(text, values, "kind {kind}, {letters}");
             assert_eq!(picks, changes(values), "kind {kind}, {letters}");
         }
@@ -57,7 +57,7 @@ fn cards_let_go_in_turn() {
 #[test]
 fn without_drivers_a_bus_keeps_its_start() {
     for kind in LINES {
-        let mut b = cards(kind, "");
+        let mut b = turned_off(kind, "");
         b.m.signals[0].start = 6;
         let (a, c) = play(&b, &[SET, (READ, 0, 0), ADV]);
         assert_eq!((a[1].3, a[2].0), (6, 17));
@@ -68,7 +68,7 @@ fn without_drivers_a_bus_keeps_its_start() {
 #[test]
 fn drivers_start_on() {
     for kind in LINES {
-        let mut b = cards(kind, "00");
+        let mut b = turned_off(kind, "00");
         b.m.signals[0].start = 8;
         let c = Config::first(&b.m);
         assert_eq!(c.signals, [[1; 32]]);
@@ -104,7 +104,7 @@ fn a_driver_comes_back() {
 
 #[test]
 fn null_and_value_at_once() {
-    // Process 0 lets go of the line when process 1 begins to drive it.
+    // The driver of process 0 turns off when that of process 1 turns on.
     for kind in LINES {
         let mut b = Builder::new();
         let s = b.signal_of(LOGIC, kind, 4);
@@ -195,7 +195,7 @@ fn the_past_of_a_line() {
 
 // Refusals of the model.
 
-/// The rich model with a bus that process 1 lets go of in statement 10, and a
+/// The rich model with a bus to which process 1 assigns null in statement 10, and a
 /// register that nobody drives.
 fn rich_line() -> Builder {
     let mut b = rich();

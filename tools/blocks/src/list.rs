@@ -128,7 +128,7 @@ mod tests {
     // uses is lost, so models that have one are passed over, and those that grow past a limit.
     #[test]
     fn a_listing_makes_a_model_that_does_the_same() {
-        let (mut compared, mut letting_go) = (0, 0);
+        let (mut compared, mut with_null) = (0, 0);
         for seed in 0..4_000 {
             let mut rng = Rng::new(seed);
             let m = gen::model(&mut rng);
@@ -139,11 +139,11 @@ mod tests {
                 let (ours, theirs) = (encode(&m), encode(&again));
                 assert_eq!(session::print(&ours, &orders), session::print(&theirs, &orders), "seed {seed}");
                 compared += 1;
-                letting_go += m.statements.iter().any(|s| s.kind == 6) as usize;
+                with_null += m.statements.iter().any(|s| s.kind == 6) as usize;
             }
         }
         assert!(compared > 500, "{compared} models compared");
-        assert!(letting_go > 100, "{letting_go} of them with a null transaction");
+        assert!(with_null > 100, "{with_null} of them with a null transaction");
     }
 
     #[test]
@@ -164,7 +164,7 @@ process p1
     }
 
     #[test]
-    fn a_listing_of_lines_that_are_let_go_of() {
+    fn a_listing_of_null_assignments() {
         let listed = "\
 signal s0 logic bus 'Z'
 signal s1 logic register 'H'

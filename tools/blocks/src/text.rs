@@ -364,9 +364,9 @@ pub fn orders(text: &str) -> Result<Vec<u8>, String> {
 mod tests {
     use super::*;
 
-    // Card b assigns only null, and has its driver all the same.
+    // Process card_b assigns only null, and has its driver all the same.
     #[test]
-    fn cards_that_let_go_of_a_line() {
+    fn null_assignments() {
         let text = "\
 signal wire logic '0'
 signal line logic bus 'Z'

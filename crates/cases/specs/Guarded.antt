@@ -1,6 +1,6 @@
--- Two cards on shared lines: "A driver whose current transaction is null adds nothing to the resolution. With all its drivers null, a
--- bus is Z and a register keeps its value; a signal without a driver keeps its starting value. [..] Two schedules that come to rest
--- must still agree, now also on which drivers are off. Answers: 20, kind 6 on a plain signal, checked after 8."
+-- Two processes that share a bus and a register: "A driver whose current transaction is null adds nothing to the resolution. With all
+-- its drivers null, a bus is Z and a register keeps its value; a signal without a driver keeps its starting value. [..] Two schedules
+-- that come to rest must still agree, now also on which drivers are off. Answers: 20, kind 6 on a plain signal, checked after 8."
 use mathlib.Core.Path.{_≡_}
 use mathlib.Core.List.{List, [], _∷_, _++_, map, flatten}
 use Prim.Native.Nat.{ℕ}
@@ -21,8 +21,8 @@ use Rattle.cases.specs.Bench.{after}
 
 -- signal 0 is a bus and 1 a register, both starting at '0'; 2 is a bus without a driver, starting at '1'.
 -- Process 0: 0 and 1 <= '1' after 0; both <= null after 1; wait. Process 1: both <= null after 0; wait.
-unfoldable pub cards : Model
-cards =
+unfoldable pub shared : Model
+shared =
     record {
       signals = signal logic bus ‘0’ ∷ signal logic register ‘0’ ∷ signal logic bus ‘1’ ∷ [];
       variables = [];
@@ -42,8 +42,8 @@ cards =
     }
 
 -- the same model as bytes: a block for each kind of which it has records
-unfoldable pub cardSignals : List ℕ
-cardSignals =
+unfoldable pub sharedSignals : List ℕ
+sharedSignals =
     block 0 1 3
     (1 ∷ 1 ∷ 0 ∷ 0 ∷ 2 ∷ 0 ∷ 0 ∷ 0 ∷ 0 ∷ 0 ∷ 0 ∷ 0
     ∷ 1 ∷ 2 ∷ 0 ∷ 0 ∷ 2 ∷ 0 ∷ 0 ∷ 0 ∷ 0 ∷ 0 ∷ 0 ∷ 0
@@ -51,16 +51,16 @@ cardSignals =
     ∷ [])
     246 248
 
-unfoldable pub cardProcesses : List ℕ
-cardProcesses =
+unfoldable pub sharedProcesses : List ℕ
+sharedProcesses =
     block 1 3 2
     (0 ∷ 0 ∷ 5 ∷ 0 ∷ 0 ∷ 0 ∷ 0 ∷ 0 ∷ 0 ∷ 0 ∷ 0 ∷ 0
     ∷ 5 ∷ 0 ∷ 3 ∷ 0 ∷ 0 ∷ 0 ∷ 0 ∷ 0 ∷ 0 ∷ 0 ∷ 0 ∷ 0
     ∷ [])
     240 253
 
-unfoldable pub cardDrivers : List ℕ
-cardDrivers =
+unfoldable pub sharedDrivers : List ℕ
+sharedDrivers =
     block 2 4 4
     (0 ∷ 0 ∷ 0 ∷ 0 ∷ 0 ∷ 0 ∷ 0 ∷ 0 ∷ 0 ∷ 0 ∷ 0 ∷ 0
     ∷ 0 ∷ 1 ∷ 0 ∷ 0 ∷ 0 ∷ 0 ∷ 0 ∷ 0 ∷ 0 ∷ 0 ∷ 0 ∷ 0
@@ -69,8 +69,8 @@ cardDrivers =
     ∷ [])
     249 249
 
-unfoldable pub cardNodes : List ℕ
-cardNodes =
+unfoldable pub sharedNodes : List ℕ
+sharedNodes =
     block 3 5 3
     (2 ∷ 0 ∷ 0 ∷ 0 ∷ 0 ∷ 0 ∷ 0 ∷ 0 ∷ 3 ∷ 0 ∷ 0 ∷ 0
     ∷ 1 ∷ 0 ∷ 0 ∷ 0 ∷ 0 ∷ 0 ∷ 0 ∷ 0 ∷ 0 ∷ 0 ∷ 0 ∷ 0
@@ -78,8 +78,8 @@ cardNodes =
     ∷ [])
     241 252
 
-unfoldable pub cardStatements : List ℕ
-cardStatements =
+unfoldable pub sharedStatements : List ℕ
+sharedStatements =
     block 4 6 8
     (2 ∷ 0 ∷ 0 ∷ 0 ∷ 0 ∷ 0 ∷ 1 ∷ 0 ∷ 0 ∷ 0 ∷ 0 ∷ 0
     ∷ 2 ∷ 0 ∷ 1 ∷ 0 ∷ 0 ∷ 0 ∷ 1 ∷ 0 ∷ 0 ∷ 0 ∷ 0 ∷ 0
@@ -92,27 +92,27 @@ cardStatements =
     ∷ [])
     202 247
 
-unfoldable pub cardBlocks : List (List ℕ)
-cardBlocks = cardSignals ∷ cardProcesses ∷ cardDrivers ∷ cardNodes ∷ cardStatements ∷ []
+unfoldable pub sharedBlocks : List (List ℕ)
+sharedBlocks = sharedSignals ∷ sharedProcesses ∷ sharedDrivers ∷ sharedNodes ∷ sharedStatements ∷ []
 
-unfoldable pub cardsBytes : List ℕ
-cardsBytes = flatten cardBlocks
+unfoldable pub sharedBytes : List ℕ
+sharedBytes = flatten sharedBlocks
 
--- up to the delta step in which card 0 drives and card 1 lets go, and up to that in which card 0 lets go too
+-- up to the delta step in which process 0 drives and the drivers of process 1 turn off, and up to that in which all are off
 abbrev pub driven : List Order
 driven = settleOrder 10 ∷ advanceOrder ∷ []
 
-abbrev pub released : List Order
-released = driven ++ (advanceOrder ∷ advanceOrder ∷ [])
+abbrev pub disconnected : List Order
+disconnected = driven ++ (advanceOrder ∷ advanceOrder ∷ [])
 
--- the same with card 1 picked first
+-- the same with process 1 picked first
 abbrev pub swapped : List Order
 swapped =
     pickOrder 1 ∷ pickOrder 1 ∷ pickOrder 0 ∷ pickOrder 1 ∷ settleOrder 10 ∷ advanceOrder ∷ advanceOrder ∷ advanceOrder ∷ []
 
 -- one process: signal 0, of the kind, <= null after 0; wait
-abbrev pub lettingGo : ℕ → List DriverRecord → Model
-lettingGo kind drivers =
+abbrev pub assigningNull : ℕ → List DriverRecord → Model
+assigningNull kind drivers =
     record {
       signals = signal logic kind ‘0’ ∷ [];
       variables = [];
@@ -123,18 +123,18 @@ lettingGo kind drivers =
     }
 
 abbrev pub valueAfter : List Order → ℕ → ℕ
-valueAfter os s = currentOf (after cards os .signals) s
+valueAfter os s = currentOf (after shared os .signals) s
 
 abbrev pub refusalWith : ℕ → List DriverRecord → ℕ
-refusalWith kind drivers = firstFailing (recordRules (lettingGo kind drivers))
+refusalWith kind drivers = firstFailing (recordRules (assigningNull kind drivers))
 
-unfoldable pub lineRows : List Row
-lineRows =
+unfoldable pub guardedRows : List Row
+guardedRows =
     (valueAfter driven 0 gives ‘1’)
     ∷ (valueAfter driven 1 gives ‘1’)
-    ∷ (valueAfter released 0 gives Z)
-    ∷ (valueAfter released 1 gives ‘1’)
-    ∷ (valueAfter released 2 gives ‘1’)
+    ∷ (valueAfter disconnected 0 gives Z)
+    ∷ (valueAfter disconnected 1 gives ‘1’)
+    ∷ (valueAfter disconnected 2 gives ‘1’)
     ∷ (refusalWith plain (driver 0 0 ∷ []) gives 20)
     ∷ (refusalWith plain [] gives 8)
     ∷ (refusalWith bus (driver 0 0 ∷ []) gives 0)
@@ -145,8 +145,8 @@ lineRows =
 abbrev pub carried : Configuration → List Driven
 carried c = map (λ (d : DriverState). d .current) (c .drivers)
 
-pub record LinesReleased : Type 0 where
-  pub said : map (λ r. r .said) lineRows ≡ ‘1’ ∷ ‘1’ ∷ Z ∷ ‘1’ ∷ ‘1’ ∷ 20 ∷ 8 ∷ 0 ∷ 8 ∷ []
-  pub accepted : Accepted cards
-  pub one-off : carried (after cards driven) ≡ To ‘1’ ∷ To ‘1’ ∷ Null ∷ Null ∷ []
-  pub all-off : carried (after cards released) ≡ Null ∷ Null ∷ Null ∷ Null ∷ []
+pub record GuardedPlayed : Type 0 where
+  pub said : map (λ r. r .said) guardedRows ≡ ‘1’ ∷ ‘1’ ∷ Z ∷ ‘1’ ∷ ‘1’ ∷ 20 ∷ 8 ∷ 0 ∷ 8 ∷ []
+  pub accepted : Accepted shared
+  pub one-off : carried (after shared driven) ≡ To ‘1’ ∷ To ‘1’ ∷ Null ∷ Null ∷ []
+  pub all-off : carried (after shared disconnected) ≡ Null ∷ Null ∷ Null ∷ Null ∷ []
