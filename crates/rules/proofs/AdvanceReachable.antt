@@ -17,9 +17,9 @@ use Rattle.trees.specs.Trees.{boolean}
 use Rattle.model.specs.Facts.{Facts}
 use Rattle.rules.specs.declared.value.Value.{Value}
 use Rattle.rules.specs.declared.value.Value.the-variants.{Of, Fault}
-use Rattle.rules.specs.Configuration.{ProcessState, Configuration, driverIn, processIn, pastOf, currentOf, drivingOf, resolvedOr, waiting, lastTime}
+use Rattle.rules.specs.Configuration.{ProcessState, Configuration, driverIn, processIn, pastOf, currentOf, waiting, lastTime}
 use Rattle.rules.specs.Evaluation.{Environment, environmentOf, evalOf}
-use Rattle.rules.specs.Steps.{taken, deadlineDue, active, withCurrent, undriven, signalAfter, signalsAfter, changedIn, wakes, wokenBy, wokenIf, wokenAt, processAfterDelta, deltaStep, shifted, timeStep}
+use Rattle.rules.specs.Steps.{taken, deadlineDue, active, withCurrent, undriven, valueAfter, signalAfter, signalsAfter, changedIn, wakes, wokenBy, wokenIf, wokenAt, processAfterDelta, deltaStep, shifted, timeStep}
 use Rattle.rules.specs.Orders.{optional, earliest, dueTimes}
 use Rattle.rules.specs.Invariant.{ValueOf, DriverValid, DeadlineValid, ProcessValid, Reachable}
 use Rattle.rules.proofs.Lists.{All}
@@ -63,10 +63,7 @@ module _ (M : Model) (fs : Facts M) (c : Configuration) (r : Reachable M c) wher
     abbrev past : List ℕ
     past = getD (c .signals) s []
 
-    abbrev resolved : ℕ
-    resolved = resolvedOr (undriven (signalAt M s) (currentOf (c .signals) s)) (drivingOf M (map (taken (c .time)) (c .drivers)) s)
-
-    value-valid : ValueOf (signalAt M s .ty) resolved
+    value-valid : ValueOf (signalAt M s .ty) (valueAfter M c s)
     value-valid =
         resolved-typed M fs _ s _ h (λ k l e. rw e at (taken-valid k l .current))
         (undriven-typed M fs s h (currentOf (c .signals) s) (r .signal-values s 0 h (omega arith)))
@@ -75,13 +72,13 @@ module _ (M : Model) (fs : Facts M) (c : Configuration) (r : Reachable M c) wher
     unfolding signalAfter
     history-length =
         by-test (λ (l : List ℕ). length l ≡ 32) (active M (c .time) (c .drivers) s) _ _
-        (λ e. current-length resolved past (r .histories s h)) (λ e. r .histories s h)
+        (λ e. current-length (valueAfter M c s) past (r .histories s h)) (λ e. r .histories s h)
 
     history-typed : (k : ℕ) → k < 32 → ValueOf (signalAt M s .ty) (getD (signalAfter M c s) k 0)
     unfolding signalAfter
     history-typed k l =
         by-test (λ (l : List ℕ). ValueOf (signalAt M s .ty) (getD l k 0)) (active M (c .time) (c .drivers) s) _ _
-        (λ e. current-each (ValueOf (signalAt M s .ty)) resolved past value-valid (λ k l. r .signal-values s k h l) k l)
+        (λ e. current-each (ValueOf (signalAt M s .ty)) (valueAfter M c s) past value-valid (λ k l. r .signal-values s k h l) k l)
         (λ e. r .signal-values s k h l)
 
   history-at : (s : ℕ) → s < length (M .signals) → getD (signalsAfter M c) s [] ≡ signalAfter M c s

@@ -58,13 +58,14 @@ withCurrent v (x ∷ past) = v ∷ past
 unfoldable pub undriven : SignalRecord → ℕ → ℕ
 undriven d v = d .kind is bus ⇒ Z ∣ v
 
--- "each signal with such a driver becomes the resolution of all its drivers' current values"
+-- what signal s becomes where it is active: "the resolution of all its drivers' current values"
+abbrev pub valueAfter : Model → Configuration → ℕ → ℕ
+valueAfter M c s = resolvedOr (undriven (signalAt M s) (currentOf (c .signals) s)) (drivingOf M (map (taken (c .time)) (c .drivers)) s)
+
+-- "each signal with such a driver becomes" that
 unfoldable pub signalAfter : Model → Configuration → ℕ → List ℕ
 signalAfter M c s =
-    active M (c .time) (c .drivers) s
-    ⇒ withCurrent
-    (resolvedOr (undriven (signalAt M s) (currentOf (c .signals) s)) (drivingOf M (map (taken (c .time)) (c .drivers)) s))
-    (getD (c .signals) s [])
+    active M (c .time) (c .drivers) s ⇒ withCurrent (valueAfter M c s) (getD (c .signals) s [])
     ∣ getD (c .signals) s []
 
 unfoldable pub signalsAfter : Model → Configuration → List (List ℕ)
