@@ -12,11 +12,14 @@ use Rattle.rules.specs.declared.driven.Driven.the-variants.{To, Null}
 use Rattle.rules.specs.Invariant.{ValueOf, Carries}
 use Rattle.waveforms.specs.Pending.{nullWord, drivenOf, wordFor}
 
+abbrev Fails : Bool → Type 0
+Fails x = x ≡ true → ⊥
+
 not-a-value : (ty : ℕ) → ValueOf ty nullWord → ⊥
 unfolding valueOk
 not-a-value ty =
-    by-test (λ (x : Bool). x ≡ true → ⊥) (eqb ty 0) _ _ (λ _. false≢true)
-    (λ _. by-test (λ (x : Bool). x ≡ true → ⊥) (eqb ty 1) _ _ (λ _. false≢true) (λ _. by-test (λ (x : Bool). x ≡ true → ⊥) (eqb ty 2) _ _ (λ _. false≢true) (λ _. false≢true)))
+    by-test Fails (eqb ty 0) _ _ (λ _. false≢true)
+    (λ _. by-test Fails (eqb ty 1) _ _ (λ _. false≢true) (λ _. by-test Fails (eqb ty 2) _ _ (λ _. false≢true) (λ _. false≢true)))
 
 pub value-held : (ty v : ℕ) → ValueOf ty v → drivenOf v ≡ To v
 unfolding drivenOf
