@@ -38,11 +38,22 @@ module _ (M : Model) (n : ℕ) (s : StatementRecord) (ok : statementOk M n s ≡
   unfolding statementOk
   names-variable e = ltb-true _ _ (every-at _ 0 (rw e at ok))
 
-  -- a signal assignment, of a value or of null
-  pub names-signal : (s .kind ≡ 2) ⊎ (s .kind ≡ 6) → s .a < length (M .signals)
+  -- a signal assignment, of a value or of null: its signal and its delay
+  abbrev Assigns : Type 0
+  Assigns = (s .kind ≡ 2) ⊎ (s .kind ≡ 6)
+
+  assignment : Assigns → (s .a < length (M .signals)) × (s .c < length (M .nodes))
   unfolding statementOk
-  names-signal h =
-      ⊎-elim (λ (e : s .kind ≡ 2). ltb-true _ _ (every-at _ 0 (rw e at ok))) (λ (e : s .kind ≡ 6). ltb-true _ _ (every-at _ 0 (rw e at ok))) h
+  assignment =
+      ⊎-elim
+      (λ (e : s .kind ≡ 2). (ltb-true _ _ (every-at _ 0 (rw e at ok)), ltb-true _ _ (every-at _ 2 (rw e at ok))))
+      (λ (e : s .kind ≡ 6). (ltb-true _ _ (every-at _ 0 (rw e at ok)), ltb-true _ _ (every-at _ 2 (rw e at ok))))
+
+  pub names-signal : Assigns → s .a < length (M .signals)
+  names-signal h = assignment h .0
+
+  pub delay-node : Assigns → s .c < length (M .nodes)
+  delay-node h = assignment h .1
 
   -- an assigned value or a branch's condition
   pub value-node : 1 ≤ s .kind → s .kind ≤ 3 → s .b < length (M .nodes)
@@ -54,11 +65,6 @@ module _ (M : Model) (n : ℕ) (s : StatementRecord) (ok : statementOk M n s ≡
 
   pub value-at : (k : ℕ) → s .kind ≡ k → T (leb 1 k) → T (leb k 3) → s .b < length (M .nodes)
   value-at k e l h = value-node (rw e (lit≤ l)) (rw e (lit≤ h))
-
-  pub delay-node : (s .kind ≡ 2) ⊎ (s .kind ≡ 6) → s .c < length (M .nodes)
-  unfolding statementOk
-  delay-node h =
-      ⊎-elim (λ (e : s .kind ≡ 2). ltb-true _ _ (every-at _ 2 (rw e at ok))) (λ (e : s .kind ≡ 6). ltb-true _ _ (every-at _ 2 (rw e at ok))) h
 
   pub target : 3 ≤ s .kind → s .kind ≤ 4 → Spans M (ownerOf M n) (s .a)
   unfolding statementOk inSpan
