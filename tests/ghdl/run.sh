@@ -1,5 +1,5 @@
 #!/bin/sh
-# Every comparison with GHDL: run.sh [N [SEED]], by default 200 models from 1. The tables and runs are both kernels';
+# Every comparison with GHDL: run.sh [N [SEED]], by default 200 models from 1. Tables, runs and operators are both kernels';
 # the proved one is target/staticlib/libexports.a (rt staticlib exports), or libexports.a in the folder KERNEL_LIB_DIR.
 # run.sh second [N [SEED]] compares the second kernel alone.
 set -eu
@@ -20,8 +20,10 @@ fi
 run --bin tables second "$work/tables"
 if [ -n "$alone" ]; then
     run --bin ghdlrun "${1:-200}" "${2:-1}"
+    run --bin arithmetic
 else
     export KERNEL_LIB_DIR="$lib"
     run --features proved --bin tables proved "$work/tables"
     run --features session --bin ghdlrun "${1:-200}" "${2:-1}"
+    run --features session --bin arithmetic
 fi

@@ -1,5 +1,6 @@
 //! The paper's bench cases, and cases for its single sentences.
 
+mod arithmetic;
 mod nulls;
 
 use crate::builder::Builder;
@@ -70,40 +71,6 @@ fn resolution_through_drivers() {
         let (a, _) = play(&b, &[SET, ADV, (READ, 0, 0)]);
         assert_eq!(a[2].3, crate::values::code(result as u8) as i32, "{values}");
     }
-}
-
-#[test]
-fn integer_range() {
-    // v := k + 1 for both kinds of sum, and the difference's lower end.
-    for (k, kind, m, result) in [
-        (2_147_483_646, 11, 1, Some(2_147_483_647)),
-        (2_147_483_647, 11, 1, None),
-        (-2_147_483_646, 12, 1, Some(-2_147_483_647)),
-        (-2_147_483_647, 12, 1, None),
-        (-2_147_483_647, 11, -2_147_483_647, None),
-        (2_147_483_647, 12, -2_147_483_647, None),
-    ] {
-        let b = sum(k, kind, m);
-        let (a, c) = play(&b, &[(PICK, 0, 0), (PICK, 0, 0)]);
-        match result {
-            Some(r) => {
-                assert_eq!(a, [(0, 0, 1, 0, 0), (0, 0, 1, 0, 0)]);
-                assert_eq!(c.variables, [r]);
-            }
-            None => {
-                assert_eq!(a, [(0, 2, 1, 1, 0), (13, 0, 0, 0, 0)]);
-                assert_eq!(c.variables, [5]);
-                assert_eq!(c.processes, [process(0, STOPPED, 1, None)]);
-            }
-        }
-    }
-    let mut b = Builder::new();
-    let v = b.variable(INTEGER, 0, 0);
-    let x = b.integer(-2_147_483_647);
-    let n = b.unary(10, x);
-    b.process();
-    b.assign(v, n);
-    assert_eq!(play(&b, &[(PICK, 0, 0)]).1.variables, [2_147_483_647]);
 }
 
 #[test]
@@ -363,30 +330,32 @@ fn settle_goes_past_a_fault() {
 fn boolean_skips() {
     // `and` skips b on false, `or` on true; otherwise b's fault shows. A
     // fault in a always shows.
-    for (kind, left, fault) in [
-        (7, 0, 0),
-        (7, 1, 1),
-        (8, 1, 0),
-        (8, 0, 1),
-        (9, 0, 1),
-        (9, 1, 1),
-    ] {
-        let mut b = Builder::new();
-        let v = b.variable(BOOLEAN, 0, left);
-        let one = b.integer(1);
-        let top = b.integer(2_147_483_647);
-        let over = b.binary(11, top, one);
-        let bad = b.binary(13, over, one);
-        let read = b.read_variable(v);
-        let forth = b.binary(kind, read, bad);
-        let back = b.binary(kind, bad, read);
-        b.process();
-        b.assign(v, forth);
-        b.assign(v, back);
-        let (a, _) = play(&b, &[(PICK, 0, 0)]);
-        assert_eq!(a[0].3, fault, "kind {kind} left {left}");
-        b.m.statements[0].b = back;
-        assert_eq!(play(&b, &[(PICK, 0, 0)]).0[0].3, 1);
+    for (x, operator, y, fault) in [(2_147_483_647, 11, 1, 1), (1, 17, 0, 4)] {
+        for (kind, left, skips) in [
+            (7, 0, true),
+            (7, 1, false),
+            (8, 1, true),
+            (8, 0, false),
+            (9, 0, false),
+            (9, 1, false),
+        ] {
+            let mut b = Builder::new();
+            let v = b.variable(BOOLEAN, 0, left);
+            let (x, y) = (b.integer(x), b.integer(y));
+            let over = b.binary(operator, x, y);
+            let bad = b.binary(13, over, y);
+            let read = b.read_variable(v);
+            let forth = b.binary(kind, read, bad);
+            let back = b.binary(kind, bad, read);
+            b.process();
+            b.assign(v, forth);
+            b.assign(v, back);
+            let (a, _) = play(&b, &[(PICK, 0, 0)]);
+            let shown = if skips { 0 } else { fault };
+            assert_eq!(a[0].3, shown, "kind {kind} left {left}");
+            b.m.statements[0].b = back;
+            assert_eq!(play(&b, &[(PICK, 0, 0)]).0[0].3, fault);
+        }
     }
 }
 
@@ -745,7 +714,7 @@ fn fields() {
         |b| b.m.drivers[0].process = 2,
         |b| b.m.drivers[0].signal = 2,
         |b| b.m.nodes[0].kind = 0,
-        |b| b.m.nodes[0].kind = 15,
+        |b| b.m.nodes[0].kind = 19,
         |b| b.m.nodes[0].k = i32::MIN,
         |b| b.m.nodes[0].a = 1,
         |b| b.m.nodes[0].b = 1,

@@ -4,6 +4,7 @@
 use crate::builder::Builder;
 use crate::cycle::Carried;
 use crate::gen::order;
+use crate::integers::*;
 use crate::model::*;
 use crate::values::code;
 
@@ -11,8 +12,6 @@ pub const PICK: u8 = 1;
 pub const ADVANCE: u8 = 2;
 pub const SETTLE: u8 = 3;
 pub const READ: u8 = 4;
-
-const TOP: i32 = 2_147_483_647;
 
 /// A named session.
 pub struct Case {
@@ -151,17 +150,222 @@ pub fn null_after(x: i32, y: i32) -> Builder {
     b
 }
 
+/// An operator on two integers, by its node kind.
+pub type Operation = (i32, u8, i32);
+
 /// One process assigns x `kind` y to a variable that starts at 5.
 pub fn sum(x: i32, kind: u8, y: i32) -> Builder {
+    assigned(|b| operator(b, (x, kind, y)))
+}
+
+fn operator(b: &mut Builder, (x, kind, y): Operation) -> u16 {
+    let (x, y) = (b.integer(x), b.integer(y));
+    b.binary(kind, x, y)
+}
+
+/// The same with an operator on the results of two others.
+pub fn nested(x: Operation, kind: u8, y: Operation) -> Builder {
+    assigned(|b| {
+        let (x, y) = (operator(b, x), operator(b, y));
+        b.binary(kind, x, y)
+    })
+}
+
+fn assigned(expression: impl Fn(&mut Builder) -> u16) -> Builder {
     let mut b = Builder::new();
     let v = b.variable(INTEGER, 0, 5);
-    let x = b.integer(x);
-    let y = b.integer(y);
-    let sum = b.binary(kind, x, y);
+    let node = expression(&mut b);
     b.process();
-    b.assign(v, sum);
+    b.assign(v, node);
     b.null();
     b
+}
+
+/// Sums and differences: the value or the fault.
+const SUMS: &[(i32, u8, i32, Result<i32, u8>)] = &[
+    (TOP - 1, SUM, 1, Ok(TOP)),
+    (TOP, SUM, 1, Err(1)),
+    (1 - TOP, DIFFERENCE, 1, Ok(-TOP)),
+    (-TOP, DIFFERENCE, 1, Err(1)),
+    (-TOP, SUM, -TOP, Err(1)),
+    (TOP, DIFFERENCE, -TOP, Err(1)),
+];
+
+/// Products: two factors and the value or the fault, at both ends, inside and past
+/// them.
+const PRODUCTS: &[(i32, i32, Result<i32, u8>)] = &[
+    (3, 4, Ok(12)),
+    (3, -4, Ok(-12)),
+    (-3, 4, Ok(-12)),
+    (-3, -4, Ok(12)),
+    (0, TOP, Ok(0)),
+    (-TOP, 0, Ok(0)),
+    (TOP, 1, Ok(TOP)),
+    (TOP, -1, Ok(-TOP)),
+    (-TOP, 1, Ok(-TOP)),
+    (-1, -TOP, Ok(TOP)),
+    (1_073_741_823, 2, Ok(TOP - 1)),
+    (-2, 1_073_741_823, Ok(1 - TOP)),
+    (46_340, 46_340, Ok(2_147_395_600)),
+    (46_340, -46_340, Ok(-2_147_395_600)),
+    // 2,147,483,648 and its negative: one past the ends.
+    (1_073_741_824, 2, Err(1)),
+    (-1_073_741_824, 2, Err(1)),
+    (65_536, 32_768, Err(1)),
+    (65_536, -32_768, Err(1)),
+    (-65_536, -32_768, Err(1)),
+    (46_341, 46_341, Err(1)),
+    (46_341, -46_341, Err(1)),
+    // 2 to the 32, whose low 32 bits are 0.
+    (65_536, 65_536, Err(1)),
+    (TOP, 2, Err(1)),
+    (-TOP, 2, Err(1)),
+    (TOP, TOP, Err(1)),
+    (TOP, -TOP, Err(1)),
+    (-TOP, -TOP, Err(1)),
+];
+
+/// Divisions: dividend, divisor, quotient, mod and rem.
+const DIVISIONS: &[(i32, i32, i32, i32, i32)] = &[
+    (7, 2, 3, 1, 1),
+    (7, -2, -3, -1, 1),
+    (-7, 2, -3, 1, -1),
+    (-7, -2, 3, -1, -1),
+    (6, 2, 3, 0, 0),
+    (6, -2, -3, 0, 0),
+    (-6, 2, -3, 0, 0),
+    (-6, -2, 3, 0, 0),
+    (1, 2, 0, 1, 1),
+    (1, -2, 0, -1, 1),
+    (-1, 2, 0, 1, -1),
+    (-1, -2, 0, -1, -1),
+    (0, 3, 0, 0, 0),
+    (0, -3, 0, 0, 0),
+    (0, TOP, 0, 0, 0),
+    (0, -TOP, 0, 0, 0),
+    (9, 1, 9, 0, 0),
+    (9, -1, -9, 0, 0),
+    (-9, 1, -9, 0, 0),
+    (-9, -1, 9, 0, 0),
+    // An end by 1, by 2 and by an end.
+    (TOP, 1, TOP, 0, 0),
+    (TOP, -1, -TOP, 0, 0),
+    (-TOP, 1, -TOP, 0, 0),
+    (-TOP, -1, TOP, 0, 0),
+    (TOP, 2, 1_073_741_823, 1, 1),
+    (TOP, -2, -1_073_741_823, -1, 1),
+    (-TOP, 2, -1_073_741_823, 1, -1),
+    (-TOP, -2, 1_073_741_823, -1, -1),
+    (TOP, TOP, 1, 0, 0),
+    (TOP, -TOP, -1, 0, 0),
+    (-TOP, TOP, -1, 0, 0),
+    (-TOP, -TOP, 1, 0, 0),
+    // By an end.
+    (1, TOP, 0, 1, 1),
+    (1, -TOP, 0, 1 - TOP, 1),
+    (-1, TOP, 0, TOP - 1, -1),
+    (-1, -TOP, 0, -1, -1),
+    (TOP - 1, TOP, 0, TOP - 1, TOP - 1),
+    (TOP - 1, -TOP, 0, -1, TOP - 1),
+    (1 - TOP, TOP, 0, 1, 1 - TOP),
+    (1 - TOP, -TOP, 0, 1 - TOP, 1 - TOP),
+];
+
+/// Every operator above with its value or fault, and divisors of 0.
+pub fn operations() -> Vec<(Operation, Result<i32, u8>)> {
+    let mut list: Vec<(Operation, Result<i32, u8>)> = vec![];
+    list.extend(
+        SUMS.iter()
+            .map(|&(x, kind, y, result)| ((x, kind, y), result)),
+    );
+    list.extend(
+        PRODUCTS
+            .iter()
+            .map(|&(x, y, result)| ((x, PRODUCT, y), result)),
+    );
+    for &(x, y, quotient, modulus, rem) in DIVISIONS {
+        let results = [(QUOTIENT, quotient), (MOD, modulus), (REM, rem)];
+        list.extend(results.map(|(kind, value)| ((x, kind, y), Ok(value))));
+    }
+    for x in [0, 1, -1, TOP, -TOP] {
+        list.extend([QUOTIENT, MOD, REM].map(|kind| ((x, kind, 0), Err(4))));
+    }
+    list
+}
+
+/// Process 0 gives its signal 1 after 1, then has 7 `kind` 0 in this role;
+/// process 1 waits on the signal.
+pub fn by_zero(kind: u8, role: Role) -> Builder {
+    let mut b = Builder::new();
+    let v = b.variable(INTEGER, 0, 5);
+    let (s, bus) = (b.signal(INTEGER, 0), b.bus(2));
+    let (one, five) = (b.integer(1), b.integer(5));
+    let node = operator(&mut b, (7, kind, 0));
+    let condition = b.binary(14, node, one);
+    b.process();
+    b.schedule(s, one, one);
+    match role {
+        Role::VariableValue => b.assign(v, node),
+        Role::SignalValue => b.schedule(s, node, five),
+        Role::Delay => b.schedule(s, five, node),
+        Role::NullDelay => b.release(bus, node),
+        Role::Unless => b.unless(condition, 0),
+        Role::Until => b.wait(1 << s, condition, five),
+        Role::For => b.wait(0, ABSENT, node),
+    };
+    b.process();
+    b.wait(1 << s, ABSENT, ABSENT);
+    b.driver(0, s);
+    b.driver(0, bus);
+    b
+}
+
+/// One process gives a signal this value after this delay.
+pub fn scheduled(value: Operation, delay: Operation) -> Builder {
+    let mut b = Builder::new();
+    let s = b.signal(INTEGER, 0);
+    let (value, delay) = (operator(&mut b, value), operator(&mut b, delay));
+    b.process();
+    b.schedule(s, value, delay);
+    b.wait(0, ABSENT, ABSENT);
+    b.driver(0, s);
+    b
+}
+
+/// Values and delays with faults: the value's comes first.
+pub fn scheduled_faults() -> Vec<(Operation, Operation, u8)> {
+    let (over, by_zero) = ((TOP, PRODUCT, 2), (1, REM, 0));
+    let (minus, two) = ((-5, QUOTIENT, 2), (5, QUOTIENT, 2));
+    vec![
+        (over, by_zero, 1),
+        (by_zero, over, 4),
+        (by_zero, minus, 4),
+        (two, by_zero, 4),
+        (two, over, 1),
+        (two, minus, 2),
+        (two, two, 0),
+    ]
+}
+
+/// Operators on the results of two others: a's fault comes before b's, and b's
+/// before a divisor of 0.
+pub fn nested_faults() -> Vec<(Operation, u8, Operation, Result<i32, u8>)> {
+    let (over, by_zero) = ((TOP, SUM, 1), (1, QUOTIENT, 0));
+    let (zero, two) = ((1, DIFFERENCE, 1), (1, SUM, 1));
+    let mut list = vec![];
+    for kind in ARITHMETIC {
+        let last = if divides(kind) { Err(4) } else { Ok(0) };
+        list.extend([
+            (over, kind, zero, Err(1)),
+            (over, kind, by_zero, Err(1)),
+            (by_zero, kind, over, Err(4)),
+            (by_zero, kind, zero, Err(4)),
+            (two, kind, over, Err(1)),
+            (two, kind, by_zero, Err(4)),
+            (two, kind, zero, last),
+        ]);
+    }
+    list
 }
 
 /// One process waits `turns` times for `step`, then for each of `rest`, again
@@ -375,20 +579,30 @@ pub fn sessions() -> Vec<Case> {
             read.clone(),
         );
     }
-    for (x, kind, y) in [
-        (TOP - 1, 11, 1),
-        (TOP, 11, 1),
-        (-TOP + 1, 12, 1),
-        (-TOP, 12, 1),
-        (-TOP, 11, -TOP),
-        (TOP, 12, -TOP),
-    ] {
-        let picks = orders(&[(PICK, 0, 0), (PICK, 0, 0)]);
+    let picks = orders(&[(PICK, 0, 0), (PICK, 0, 0)]);
+    for ((x, kind, y), _) in operations() {
         add(
             format!("{x} and {y} in node kind {kind}"),
             &sum(x, kind, y),
-            picks,
+            picks.clone(),
         );
+    }
+    for (x, kind, y, _) in nested_faults() {
+        add(
+            format!("{x:?} and {y:?} in node kind {kind}"),
+            &nested(x, kind, y),
+            picks.clone(),
+        );
+    }
+    for kind in [QUOTIENT, MOD, REM] {
+        for role in Role::ALL {
+            let name = format!("{role:?} with node kind {kind} and a divisor of 0");
+            add(name, &by_zero(kind, role), watched(3));
+        }
+    }
+    for (value, delay, _) in scheduled_faults() {
+        let name = format!("a transaction of {value:?} after {delay:?}");
+        add(name, &scheduled(value, delay), watched(3));
     }
     add(
         "settle of no picks".into(),

@@ -1,5 +1,6 @@
 //! Configuration, pick, advance, settle and read.
 
+use crate::integers;
 use crate::model::{driver_of, Model, StatementRecord, ABSENT, BOOLEAN, BUS, INTEGER, REGISTER};
 use crate::values;
 
@@ -11,6 +12,7 @@ pub const STOPPED: u8 = 2;
 pub const OUT_OF_RANGE: u8 = 1;
 pub const NEGATIVE_DELAY: u8 = 2;
 pub const NINTH: u8 = 3;
+pub const DIVISOR_ZERO: u8 = 4;
 
 /// Most pending transactions of a driver.
 pub const WAVEFORM: usize = 8;
@@ -73,14 +75,6 @@ impl Value {
             Value::Logic(v) => v as i32,
             Value::Boolean(b) => b as i32,
         }
-    }
-}
-
-fn in_range(i: i64) -> Result<Value, u8> {
-    if (-2_147_483_647..=2_147_483_647).contains(&i) {
-        Ok(Value::Integer(i as i32))
-    } else {
-        Err(OUT_OF_RANGE)
     }
 }
 
@@ -187,15 +181,11 @@ impl Config {
                 _ => unreachable!(),
             },
             10 => match self.evaluate(m, n.a)? {
-                Integer(v) => return in_range(-(v as i64)),
+                Integer(v) => Integer(integers::negate(v)?),
                 _ => unreachable!(),
             },
-            11 => match (self.evaluate(m, n.a)?, self.evaluate(m, b)?) {
-                (Integer(v), Integer(w)) => return in_range(v as i64 + w as i64),
-                _ => unreachable!(),
-            },
-            12 => match (self.evaluate(m, n.a)?, self.evaluate(m, b)?) {
-                (Integer(v), Integer(w)) => return in_range(v as i64 - w as i64),
+            11 | 12 | 15..=18 => match (self.evaluate(m, n.a)?, self.evaluate(m, b)?) {
+                (Integer(v), Integer(w)) => Integer(integers::operate(n.kind, v, w)?),
                 _ => unreachable!(),
             },
             13 => match (self.evaluate(m, n.a)?, self.evaluate(m, b)?) {
@@ -317,7 +307,7 @@ impl Config {
         ))
     }
 
-    fn lowest_ready(&self) -> Option<usize> {
+    pub fn lowest_ready(&self) -> Option<usize> {
         self.processes.iter().position(|p| p.standing == READY)
     }
 

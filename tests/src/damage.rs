@@ -1,14 +1,17 @@
 //! Models damaged in one rule of the refusals 1 to 8 and 20, in two, or in a
 //! single byte; and cases on both sides of each limit.
 
+mod arithmetic;
 mod guarded;
 
 use crate::builder::Builder;
 use crate::gen;
+use crate::integers;
 use crate::model::*;
 use crate::numbers;
 use crate::rng::Rng;
-pub use guarded::{guarded, guarded_ways};
+pub use arithmetic::ARITHMETIC;
+pub use guarded::GUARDED;
 
 /// A model and bytes to change in its records (kind, record, byte, value).
 struct Subject {
@@ -33,6 +36,34 @@ impl Subject {
 type ModelOp = fn(&mut Rng, &mut Subject) -> Option<()>;
 /// A way to damage a model, with its name.
 type Way = (&'static str, ModelOp);
+/// The ways to damage a feature, each list with the number that it comes to.
+#[derive(Clone, Copy)]
+pub struct Ways(&'static [(u32, &'static [Way])]);
+
+impl Ways {
+    /// The number and the name of each way.
+    pub fn names(self) -> Vec<(u32, &'static str)> {
+        let lists = self.0.iter();
+        lists
+            .flat_map(|&(rule, ways)| ways.iter().map(move |way| (rule, way.0)))
+            .collect()
+    }
+
+    /// A model damaged in one of the ways, each as likely: the number, how, and
+    /// the bytes.
+    pub fn damaged(self, rng: &mut Rng) -> (u32, &'static str, Vec<u8>) {
+        let many: Vec<usize> = self.0.iter().map(|(_, ways)| ways.len()).collect();
+        let (rule, ways) = self.0[rng.weighted(&many)];
+        let (name, op) = rng.choose(ways);
+        loop {
+            let mut s = subject(rng);
+            if op(rng, &mut s).is_some() {
+                return (rule, name, s.bytes(rng));
+            }
+        }
+    }
+}
+
 /// Damages the blocks; gives whether it did.
 type BlockOp = fn(&mut Rng, &mut Vec<u8>) -> bool;
 
@@ -372,7 +403,7 @@ const FIELD: &[Way] = &[
     }),
     ("a node's kind", |rng, s| {
         let n = rng.below(s.m.nodes.len());
-        s.m.nodes[n].kind = rng.choose(&[0, 15, 16, 128, 255]);
+        s.m.nodes[n].kind = rng.choose(&[0, 19, 20, 128, 255]);
         Some(())
     }),
     ("a constant", |rng, s| {
@@ -591,7 +622,7 @@ const TYPE: &[Way] = &[
             return None;
         }
         let sizes = sizes(&s.m);
-        let kind = 6 + rng.below(9) as u8;
+        let kind = 6 + rng.below(13) as u8;
         let (x, y) = (rng.below(types.len()), rng.below(types.len()));
         let (t, u) = (types[x], types[y]);
         let wrong = match kind {
@@ -1098,6 +1129,95 @@ fn null_limits(list: &mut Limits) {
     });
 }
 
+/// Node 5 of the small model, the sum that statement 0 assigns, made product,
+/// quotient, mod or rem.
+fn arithmetic_limits(list: &mut Limits) {
+    let kinds = [
+        (11, 0),
+        (12, 0),
+        (13, 7),
+        (14, 7),
+        (15, 0),
+        (16, 0),
+        (17, 0),
+        (18, 0),
+        (19, 5),
+        (20, 5),
+        (32, 5),
+        (255, 5),
+    ];
+    list.field("a sum made node kind", &kinds, |m, x| {
+        m.nodes[5].kind = x as u8
+    });
+    for kind in integers::ARITHMETIC {
+        let name = |what: &str, x: i64| format!("node kind {kind} with {what} {x}");
+        let made = |b: &mut Builder| b.m.nodes[5].kind = kind;
+        for (k, number) in [(0, 0), (1, 5), (-1, 5), (256, 5), (i32::MIN, 5)] {
+            list.changed(number, name("k", k as i64), |b| {
+                made(b);
+                b.m.nodes[5].k = k;
+            });
+        }
+        // Nodes 1 and 4 are logic, 3 is boolean.
+        let operands = [
+            (0, 0),
+            (1, 7),
+            (2, 0),
+            (3, 7),
+            (4, 7),
+            (5, 6),
+            (6, 6),
+            (7, 6),
+            (65_535, 6),
+        ];
+        for (x, number) in operands {
+            list.changed(number, name("a", x as i64), |b| {
+                made(b);
+                b.m.nodes[5].a = x;
+            });
+            list.changed(number, name("b", x as i64), |b| {
+                made(b);
+                b.m.nodes[5].b = x;
+            });
+        }
+        for &byte in UNNAMED[4] {
+            let mut bytes = changed(made);
+            bytes[BLOCK * 4 + 4 + RECORD * 5 + byte] = 1;
+            repair(&mut bytes, 4);
+            list.add(5, name("byte", byte as i64), bytes);
+        }
+        for (size, number) in [(63, 0), (64, 0), (65, 6), (66, 6)] {
+            list.changed(number, name("nodes", size as i64), |b| {
+                let leaf = if size % 2 == 0 { b.unary(10, 0) } else { 0 };
+                let mut sizes = 1 + (size + 1) % 2;
+                let mut top = leaf;
+                while sizes < size {
+                    top = b.binary(kind, top, 0);
+                    sizes += 2;
+                }
+                b.m.statements[0].b = top;
+            });
+        }
+        let uses: [(&str, fn(&mut Model), u32); 4] = [
+            ("in unless", |m| m.statements[2].b = 5, 7),
+            ("in a wait's condition", |m| m.statements[3].b = 5, 7),
+            ("as a logic value", |m| m.statements[0].a = 1, 7),
+            ("in a delay", |m| m.statements[1].c = 5, 0),
+        ];
+        for (what, put, number) in uses {
+            list.changed(number, format!("node kind {kind} {what}"), |b| {
+                made(b);
+                put(&mut b.m);
+            });
+        }
+        let name = format!("node kind {kind} over a variable of the other process");
+        list.changed(8, name, |b| {
+            made(b);
+            b.m.statements[6].c = 5;
+        });
+    }
+}
+
 /// Models on both sides of each limit: name, bytes, number.
 pub fn limits() -> Vec<(String, Vec<u8>, u32)> {
     let mut list = Limits::default();
@@ -1257,7 +1377,7 @@ pub fn limits() -> Vec<(String, Vec<u8>, u32)> {
     list.field("last driver of signal", &signals, |m, x| {
         m.drivers[2].signal = x as u8
     });
-    let kinds = [(0, 5), (15, 5), (255, 5)];
+    let kinds = [(0, 5), (19, 5), (255, 5)];
     list.field("node kind", &kinds, |m, x| m.nodes[0].kind = x as u8);
     let kinds = [(6, 5), (7, 5), (255, 5)];
     list.field("statement kind", &kinds, |m, x| {
@@ -1364,7 +1484,7 @@ pub fn limits() -> Vec<(String, Vec<u8>, u32)> {
     });
 
     // Types of every node kind over every pair of types.
-    for kind in 6..=14u8 {
+    for kind in 6..=18u8 {
         for (ta, a) in [(INTEGER, 0u16), (LOGIC, 1), (BOOLEAN, 3)] {
             for (tb, b) in [(INTEGER, 0u16), (LOGIC, 1), (BOOLEAN, 3)] {
                 let one = kind == 6 || kind == 10;
@@ -1387,6 +1507,7 @@ pub fn limits() -> Vec<(String, Vec<u8>, u32)> {
     }
 
     null_limits(&mut list);
+    arithmetic_limits(&mut list);
 
     // Drivers and variables.
     list.changed(8, "a driver twice", |b| b.driver(1, 1));
@@ -1407,11 +1528,12 @@ pub fn limits() -> Vec<(String, Vec<u8>, u32)> {
     list.0
 }
 
-const TOP: i64 = 2_147_483_647;
+const TOP: i64 = integers::TOP as i64;
 
 #[cfg(test)]
 mod tests {
     use super::*;
+    use crate::features::FEATURES;
 
     #[test]
     fn limits_come_out_as_said() {
@@ -1448,6 +1570,19 @@ mod tests {
         for seed in 0..4_000 {
             let (rule, _, bytes) = twice(&mut Rng::new(seed));
             assert_eq!(judge(&bytes), rule, "two rules, seed {seed}");
+        }
+    }
+
+    #[test]
+    fn every_damage_of_a_feature_comes_out_as_made() {
+        for feature in FEATURES {
+            let mut seen = std::collections::BTreeSet::new();
+            for seed in 0..8_000 {
+                let (rule, name, bytes) = feature.damages.damaged(&mut Rng::new(seed));
+                assert_eq!(judge(&bytes), rule, "{name}, seed {seed}");
+                seen.insert((rule, name));
+            }
+            assert_eq!(seen, feature.damages.names().into_iter().collect());
         }
     }
 }

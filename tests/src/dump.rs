@@ -60,6 +60,18 @@ pub fn dump(config: &Config) -> [u8; DUMP] {
     out
 }
 
+/// The value of a variable in a dump.
+pub fn variable(dump: &[u8; DUMP], v: usize) -> i32 {
+    let at = 4_112 + 4 * v;
+    i32::from_le_bytes([dump[at], dump[at + 1], dump[at + 2], dump[at + 3]])
+}
+
+/// The place and the fault of a process in a dump.
+pub fn place_and_fault(dump: &[u8; DUMP], p: usize) -> (u16, u8) {
+    let at = 13_584 + 16 * p;
+    (u16::from_le_bytes([dump[at], dump[at + 1]]), dump[at + 3])
+}
+
 /// How many words the proved kernel's dump has (crates/exports, specs/Dump).
 pub const WORDS: usize = 2326;
 
@@ -137,6 +149,8 @@ mod tests {
         assert_eq!(out[8..16], [231, 3, 0, 0, 32, 64, 64, 16]);
         assert_eq!(out[4_108..4_112], [254, 255, 255, 255]);
         assert_eq!(out[4_364..4_368], [7, 0, 0, 0]);
+        assert_eq!((variable(&out, 0), variable(&out, 63)), (7, 7));
+        assert_eq!(place_and_fault(&out, 15), (258, 2));
         assert_eq!(
             out[4_368..4_392],
             [3, 0, 0, 0, 0, 0, 0, 0, 8, 0, 0, 0, 0, 0, 0, 0, 9, 0, 0, 0, 0, 0, 0, 0]

@@ -1,14 +1,25 @@
 //! Seeded random models that are accepted, and order lists for them.
 
+mod calculation;
+
 use crate::builder::Builder;
 use crate::cycle::{Config, READY, STOPPED};
 use crate::damage;
+use crate::features::FEATURES;
+use crate::integers::*;
 use crate::model::*;
 use crate::numbers;
 use crate::rng::Rng;
 use crate::session;
 
-const TOP: i32 = 2_147_483_647;
+/// Operators on constants that have a fault.
+const FAULTS: [(u8, i32, i32); 5] = [
+    (SUM, TOP, 1),
+    (PRODUCT, -TOP, 2),
+    (QUOTIENT, 1, 0),
+    (MOD, -1, 0),
+    (REM, 0, 0),
+];
 
 /// Builds a model and keeps for each node its type, the size of its tree and
 /// the processes whose variables its tree reads (bit p for process p).
@@ -37,7 +48,11 @@ impl Maker<'_> {
             4 | 5 => (self.b.m.signals[x].ty, 1, 0),
             6 | 10 => (self.types[x], 1 + self.sizes[x], self.readers[x]),
             _ => (
-                if kind >= 13 { BOOLEAN } else { self.types[x] },
+                if kind == 13 || kind == 14 {
+                    BOOLEAN
+                } else {
+                    self.types[x]
+                },
                 1 + self.sizes[x] + self.sizes[y],
                 self.readers[x] | self.readers[y],
             ),
@@ -163,10 +178,10 @@ impl Maker<'_> {
             if self.wild && budget >= 9 && self.rng.chance(1, 5) {
                 // `and` or `or` with a second operand that faults.
                 let a = self.expression(BOOLEAN, process, budget - 6);
-                let top = self.node(1, 0, 0, TOP);
-                let one = self.node(1, 0, 0, 1);
-                let over = self.node(11, top, one, 0);
-                let bad = self.node(13, over, one, 0);
+                let (kind, x, y) = self.rng.choose(&FAULTS);
+                let (x, y) = (self.node(1, 0, 0, x), self.node(1, 0, 0, y));
+                let fault = self.node(kind, x, y, 0);
+                let bad = self.node(13, fault, y, 0);
                 let kind = self.rng.choose(&[7, 8]);
                 return self.node(kind, a, bad, 0);
             }
@@ -218,15 +233,36 @@ impl Maker<'_> {
             _ => {
                 let (left, right) = half(self.rng, 1);
                 let a = self.expression(ty, process, left);
-                let b = self.expression(ty, process, right);
-                let kind = if ty == LOGIC {
-                    7 + self.rng.below(3)
+                let (kind, b) = if ty == LOGIC {
+                    let b = self.expression(ty, process, right);
+                    (self.rng.choose(&[7, 8, 9]), b)
                 } else {
-                    11 + self.rng.below(2)
+                    self.operator(process, right)
                 };
-                self.node(kind as u8, a, b, 0)
+                self.node(kind, a, b, 0)
             }
         }
+    }
+
+    /// An operator on integers and its second operand: mostly a small factor, and
+    /// a divisor other than 0.
+    fn operator(&mut self, process: u8, budget: usize) -> (u8, u16) {
+        let sums = [SUM, SUM, SUM, DIFFERENCE, DIFFERENCE, DIFFERENCE];
+        let kind = self.rng.choose(&[&sums[..], &ARITHMETIC].concat());
+        let k = match kind {
+            PRODUCT => self.rng.range(-3, 3) as i32,
+            _ => match self.constant() {
+                0 => 10,
+                k => k,
+            },
+        };
+        let any = if self.wild { 4 } else { 20 };
+        let b = if ARITHMETIC.contains(&kind) && !self.rng.chance(1, any) {
+            self.node(1, 0, 0, k)
+        } else {
+            self.expression(INTEGER, process, budget)
+        };
+        (kind, b)
     }
 
     /// Grows a node's tree to 64 nodes over repeats.
@@ -234,7 +270,11 @@ impl Maker<'_> {
         while self.sizes[n as usize] < 64 && self.count() < 400 {
             let logic = self.types[n as usize] != INTEGER;
             n = if 2 * self.sizes[n as usize] < 64 {
-                self.node(if logic { 9 } else { 12 }, n, n, 0)
+                let kind = match logic {
+                    true => 9,
+                    false => self.rng.choose(&[DIFFERENCE, DIFFERENCE, PRODUCT, MOD]),
+                };
+                self.node(kind, n, n, 0)
             } else {
                 self.node(if logic { 6 } else { 10 }, n, 0, 0)
             };
@@ -324,7 +364,8 @@ impl Maker<'_> {
         self.b.wait(set, b, c);
     }
 
-    /// A condition that faults once an integer signal leaves its side of 0.
+    /// A condition that faults once an integer signal leaves its side of 0, or
+    /// comes to 0.
     fn trap(&mut self) -> u16 {
         let signals = self.signals_of(INTEGER);
         let side = self.rng.choose(&[TOP, -TOP]);
@@ -335,8 +376,12 @@ impl Maker<'_> {
             let s = self.rng.choose(&signals);
             self.node(4, s, 0, 0)
         };
-        let sum = self.node(11, a, k, 0);
-        self.node(14, sum, k, 0)
+        let kind = self.rng.choose(&[SUM, SUM, SUM, QUOTIENT, MOD, REM]);
+        let trap = match kind {
+            SUM => self.node(kind, a, k, 0),
+            _ => self.node(kind, k, a, 0),
+        };
+        self.node(14, trap, k, 0)
     }
 
     /// A process that changes one of its signals time and again.
@@ -355,7 +400,8 @@ impl Maker<'_> {
         } else {
             let k = self.rng.choose(&[1, -1, 2, 3]);
             let step = self.node(1, 0, 0, k);
-            self.node(11, read, step, 0)
+            let next = self.node(11, read, step, 0);
+            self.turned(next)
         };
         self.b.schedule(s, value, delay);
         let all = u32::MAX >> (32 - self.b.m.signals.len());
@@ -368,6 +414,17 @@ impl Maker<'_> {
                 self.b.wait(self.rng.next() as u32 & all, ABSENT, c)
             }
         };
+    }
+
+    /// The value itself, or one that stays within a few units of 0.
+    fn turned(&mut self, value: u16) -> u16 {
+        if self.rng.chance(2, 3) {
+            return value;
+        }
+        let k = self.rng.choose(&[2, 3, 7, -3, -5]);
+        let k = self.node(1, 0, 0, k);
+        let kind = self.rng.choose(&[MOD, REM]);
+        self.node(kind, value, k, 0)
     }
 
     /// A process that drives a bus or a register, turns its driver off and waits.
@@ -436,7 +493,7 @@ impl Maker<'_> {
                 self.wait(process);
                 continue;
             }
-            let crowd = if self.wild { 6 } else { 40 };
+            let crowd = if self.wild { 5 } else { 28 };
             if left >= 8 && !driven.is_empty() && self.rng.chance(1, crowd) {
                 let some = self.rng.choose(&[&driven, &lines]);
                 let some = if some.is_empty() { &driven } else { some };
@@ -515,7 +572,7 @@ impl Maker<'_> {
         let b = self.rng.below(self.count());
         let alike = self.types[a] == self.types[b];
         let kind = match self.types[a] {
-            INTEGER if alike => self.rng.choose(&[11, 12, 13, 14]),
+            INTEGER if alike => self.rng.choose(&[11, 12, 13, 14, 15, 16, 17, 18]),
             INTEGER => 10,
             LOGIC if alike => self.rng.choose(&[7, 8, 9, 13]),
             BOOLEAN if alike => self.rng.choose(&[7, 8, 9]),
@@ -643,8 +700,11 @@ pub fn model_of(rng: &mut Rng, wild: bool) -> Model {
     maker.b.m
 }
 
-/// A random accepted model, tame or wild.
+/// A random accepted model: one that calculates, a tame or a wild one.
 pub fn model(rng: &mut Rng) -> Model {
+    if rng.chance(1, 10) {
+        return calculation::model(rng);
+    }
     let wild = rng.chance(2, 5);
     model_of(rng, wild)
 }
@@ -968,10 +1028,11 @@ pub struct SessionCase {
 pub fn session_case(seed: u64) -> SessionCase {
     let mut rng = Rng::new(seed);
     let rng = &mut rng;
-    let form = rng.weighted(&[876, 80, 12, 12, 12, 8]);
+    let form = rng.weighted(&[776, 80, 12, 12, 12, 8, 100]);
     if form == 1 {
-        let (what, model) = if rng.chance(1, 5) {
-            let (_, what, model) = damage::guarded(rng);
+        let (what, model) = if rng.chance(1, 4) {
+            let damages = rng.choose(FEATURES).damages;
+            let (_, what, model) = damages.damaged(rng);
             (what, model)
         } else {
             let rule = rng.choose(numbers::MODEL);
@@ -1002,6 +1063,12 @@ pub fn session_case(seed: u64) -> SessionCase {
         5 => {
             let (m, orders) = time_marathon(rng);
             ("time marathon", m, orders)
+        }
+        6 => {
+            let m = calculation::model(rng);
+            let most = list_length(rng);
+            let orders = self::orders(rng, &m, most);
+            ("calculation", m, orders)
         }
         _ => {
             let wild = rng.chance(2, 5);
@@ -1077,7 +1144,7 @@ pub struct ModelCase {
 pub fn model_case(seed: u64) -> ModelCase {
     let mut rng = Rng::new(seed);
     let rng = &mut rng;
-    match rng.weighted(&[23, 45, 9, 15, 8]) {
+    match rng.weighted(&[20, 42, 9, 13, 16]) {
         0 => {
             let m = model(rng);
             let plan = plan(rng, &m);
@@ -1118,7 +1185,7 @@ pub fn model_case(seed: u64) -> ModelCase {
             }
         }
         _ => {
-            let (rule, what, bytes) = damage::guarded(rng);
+            let (rule, what, bytes) = rng.choose(FEATURES).damages.damaged(rng);
             ModelCase {
                 bytes,
                 expected: Some(rule),

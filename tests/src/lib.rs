@@ -7,10 +7,12 @@ pub mod cycle;
 pub mod damage;
 pub mod dump;
 pub mod edge;
+pub mod features;
 pub mod gen;
+pub mod integers;
 pub mod model;
-pub mod nulls;
 pub mod numbers;
+pub mod operands;
 #[cfg(feature = "proved")]
 pub mod proved;
 pub mod rng;

@@ -322,7 +322,7 @@ fn node_fields_right(m: &Model, n: &NodeRecord) -> bool {
         4 => is_signal && n.b == 0 && n.k == 0,
         5 => is_signal && n.b == 0 && (0..=31).contains(&n.k),
         6 | 10 => n.b == 0 && n.k == 0,
-        7 | 8 | 9 | 11 | 12 | 13 | 14 => n.k == 0,
+        7..=9 | 11..=18 => n.k == 0,
         _ => false,
     }
 }
@@ -367,7 +367,7 @@ fn statement_fields_right(m: &Model, number: usize) -> bool {
 pub fn operands(n: &NodeRecord) -> Vec<u16> {
     match n.kind {
         6 | 10 => vec![n.a],
-        7 | 8 | 9 | 11 | 12 | 13 | 14 => vec![n.a, n.b],
+        7..=9 | 11..=18 => vec![n.a, n.b],
         _ => vec![],
     }
 }
@@ -406,7 +406,7 @@ pub fn node_types(m: &Model) -> Option<Vec<u8>> {
             6 if of(n.a) != INTEGER => of(n.a),
             7..=9 if of(n.a) != INTEGER && of(n.a) == of(n.b) => of(n.a),
             10 if of(n.a) == INTEGER => INTEGER,
-            11 | 12 if of(n.a) == INTEGER && of(n.b) == INTEGER => INTEGER,
+            11 | 12 | 15..=18 if of(n.a) == INTEGER && of(n.b) == INTEGER => INTEGER,
             13 if of(n.a) != BOOLEAN && of(n.a) == of(n.b) => BOOLEAN,
             14 if of(n.a) == INTEGER && of(n.b) == INTEGER => BOOLEAN,
             _ => return None,
@@ -432,15 +432,50 @@ fn types_right(m: &Model) -> bool {
     })
 }
 
-/// The nodes at the roots of a statement's trees.
-pub fn roots(s: &StatementRecord) -> Vec<u16> {
+/// What an expression is in its statement.
+#[derive(Clone, Copy, Debug, PartialEq, Eq)]
+pub enum Role {
+    VariableValue,
+    SignalValue,
+    Delay,
+    NullDelay,
+    Unless,
+    Until,
+    For,
+}
+
+impl Role {
+    pub const ALL: [Role; 7] = [
+        Role::VariableValue,
+        Role::SignalValue,
+        Role::Delay,
+        Role::NullDelay,
+        Role::Unless,
+        Role::Until,
+        Role::For,
+    ];
+}
+
+/// The expressions of a statement, b before c: the role and the node of each.
+pub fn expressions(s: &StatementRecord) -> Vec<(Role, u16)> {
+    use Role::*;
     match s.kind {
-        1 | 3 => vec![s.b],
-        2 => vec![s.b, s.c],
-        5 => [s.b, s.c].into_iter().filter(|&n| n != ABSENT).collect(),
-        6 => vec![s.c],
+        1 => vec![(VariableValue, s.b)],
+        2 => vec![(SignalValue, s.b), (Delay, s.c)],
+        3 => vec![(Unless, s.b)],
+        5 => {
+            let mut list = vec![(Until, s.b), (For, s.c)];
+            list.retain(|e| e.1 != ABSENT);
+            list
+        }
+        6 => vec![(NullDelay, s.c)],
         _ => vec![],
     }
+}
+
+/// The nodes at the roots of a statement's trees.
+pub fn roots(s: &StatementRecord) -> Vec<u16> {
+    expressions(s).into_iter().map(|e| e.1).collect()
 }
 
 /// Does the tree read variables of this process alone?

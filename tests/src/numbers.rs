@@ -12,7 +12,9 @@ pub const ANSWERS: u32 = 10;
 /// Refusals of an order.
 pub const ORDER: &[u32] = &[11, 12, 13, 14, 15, 16, 17, 18, 19];
 /// Faults that stop a process.
-pub const FAULT: &[u32] = &[1, 2, 3];
+pub const FAULT: &[u32] = &[1, 2, 3, 4];
+/// Those of them that an expression has.
+pub const EXPRESSION: &[u32] = &[1, 4];
 
 /// Refusals of a session.
 pub fn session() -> Vec<u32> {

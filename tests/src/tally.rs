@@ -1,15 +1,15 @@
 //! Runs generated cases through this kernel and, where given, another one;
 //! counts what came out and tells the first difference. A large run in which a
-//! number of the papers is rare fails, and so does one in which a thing of bus,
-//! register and null is.
+//! number of the papers is rare fails, and so does one in which something of a
+//! feature is.
 
 use crate::cases;
 use crate::cycle::Config;
 use crate::damage;
 use crate::dump::{dump, DUMP};
+use crate::features::{self, FEATURES};
 use crate::gen;
 use crate::model::{judge, load, ABSENT};
-use crate::nulls;
 use crate::numbers::{self, Counts};
 use crate::session::session;
 use std::collections::{BTreeMap, BTreeSet};
@@ -25,26 +25,26 @@ pub type Session<'a> = &'a dyn Fn(&[u8], &[u8], &mut [u8], &mut [u8]) -> Result<
 pub struct Least {
     /// Each number of the papers.
     pub number: u64,
-    /// Each way to damage bus, register and null, and each thing that models and
-    /// sessions show of them.
-    pub guarded: u64,
+    /// Each way to damage a feature, and each thing that models and sessions show
+    /// of it.
+    pub feature: u64,
 }
 
-/// What is due of n cases: each number in one of 500, each thing of bus, register
-/// and null in one of `guarded`; in a small run nothing.
-fn least(n: u64, guarded: u64) -> Least {
+/// What is due of n cases: each number in one of 500, each thing of a feature in
+/// one of `feature`; in a small run nothing.
+fn least(n: u64, feature: u64) -> Least {
     if n < 10_000 {
         return Least::default();
     }
     Least {
         number: n / 500,
-        guarded: n / guarded,
+        feature: n / feature,
     }
 }
 
 /// 500 times among the 200,000 models and 100,000 sessions of `make test`.
-const GUARDED_MODELS: u64 = 400;
-const GUARDED_SESSIONS: u64 = 200;
+const FEATURE_MODELS: u64 = 400;
+const FEATURE_SESSIONS: u64 = 200;
 
 /// What `tally` and `compare` do: `models N SEED`, `sessions N SEED` or
 /// `limits`, in this kernel and in the other one where it is given.
@@ -60,7 +60,7 @@ pub fn run(name: &str, judge: Option<Judge>, session: Option<Session>) -> Result
             let (n, seed) = (number(1, "N")?, number(2, "SEED")?);
             let counts = models(n, seed, judge)?;
             counts.print();
-            counts.require(least(n, GUARDED_MODELS))?;
+            counts.require(least(n, FEATURE_MODELS))?;
             format!("{n} judged models from seed {seed} on")
         }
         Some("sessions") => {
@@ -70,7 +70,7 @@ pub fn run(name: &str, judge: Option<Judge>, session: Option<Session>) -> Result
             }
             let counts = sessions(n, seed, session)?;
             counts.print();
-            counts.require(least(n, GUARDED_SESSIONS))?;
+            counts.require(least(n, FEATURE_SESSIONS))?;
             format!("{n} sessions from seed {seed} on")
         }
         Some("limits") => {
@@ -106,7 +106,7 @@ pub struct ModelTally {
     /// Cases made to be accepted, and those that were.
     pub made: u64,
     pub made_accepted: u64,
-    /// What the accepted ones show of bus, register and null.
+    /// What the accepted ones show of the features.
     pub shown: Counts<&'static str>,
 }
 
@@ -145,7 +145,7 @@ pub fn models(n: u64, seed: u64, other: Option<Judge>) -> Result<ModelTally, Str
             t.made_accepted += (number == 0) as u64;
         }
         if let Ok(m) = loaded {
-            for what in nulls::of_model(&m) {
+            for what in features::of_model(&m) {
                 t.shown.add(what);
             }
         }
@@ -176,13 +176,15 @@ impl ModelTally {
     pub fn require(&self, least: Least) -> Result<(), String> {
         self.numbers
             .require("refusal", numbers::MODEL, least.number)?;
-        self.shown
-            .require("accepted:", nulls::MODEL, least.guarded)?;
         let none = Counts::default();
-        for (number, way) in damage::guarded_ways() {
-            let counts = self.ways.get(way).unwrap_or(&none);
-            let what = format!("{way}: refusal");
-            counts.require(&what, &[number], least.guarded)?;
+        for feature in FEATURES {
+            self.shown
+                .require("accepted:", &(feature.model)(), least.feature)?;
+            for (number, way) in feature.damages.names() {
+                let counts = self.ways.get(way).unwrap_or(&none);
+                let what = format!("{way}: refusal");
+                counts.require(&what, &[number], least.feature)?;
+            }
         }
         Ok(())
     }
@@ -210,16 +212,20 @@ impl ModelTally {
         for (way, counts) in &self.ways {
             println!("{way:44}{}", row(counts, numbers::MODEL, 7));
         }
-        let mut damaged = Counts::default();
-        for (_, way) in damage::guarded_ways() {
-            if let Some(counts) = self.ways.get(way) {
-                damaged.extend(counts);
+        for feature in FEATURES {
+            let mut damaged = Counts::default();
+            for (_, way) in feature.damages.names() {
+                if let Some(counts) = self.ways.get(way) {
+                    damaged.extend(counts);
+                }
             }
+            let name = format!("{} damaged", feature.name);
+            println!("{name:44}{}", row(&damaged, numbers::MODEL, 7));
         }
-        let name = "of these, bus, register and null damaged";
-        println!("{name:44}{}", row(&damaged, numbers::MODEL, 7));
-        println!("bus, register and null in accepted models");
-        print_shown(&self.shown, nulls::MODEL);
+        for feature in FEATURES {
+            println!("{} in accepted models", feature.name);
+            print_shown(&self.shown, &(feature.model)());
+        }
     }
 }
 
@@ -317,8 +323,8 @@ pub struct SessionTally {
     /// Faults by processes and by sessions.
     pub faults: Counts,
     pub faulted: Counts,
-    /// Faults in a wait's condition.
-    pub until: u64,
+    /// Faults in a wait's condition, by processes.
+    pub until: Counts,
     /// Done orders: picks by new standing, settles by byte 1, delta steps,
     /// time steps, reads.
     pub done_picks: [u64; 3],
@@ -332,7 +338,7 @@ pub struct SessionTally {
     /// Sessions by time steps: none, 1, 2 to 4, 5 to 9, 10 to 29, more.
     pub depth: [u64; 6],
     pub ways: BTreeMap<&'static str, u64>,
-    /// What sessions show of bus, register and null, by sessions.
+    /// What sessions show of the features, by sessions.
     pub shown: Counts<&'static str>,
 }
 
@@ -448,12 +454,14 @@ impl SessionTally {
             faulted.insert(p.fault as u32);
             let s = &m.statements[p.place as usize];
             let waited = p.deadline.is_some() || s.c == ABSENT;
-            self.until += (s.kind == 5 && p.fault == 1 && waited) as u64;
+            if s.kind == 5 && waited {
+                self.until.add(p.fault as u32);
+            }
         }
         for n in faulted {
             self.faulted.add(n);
         }
-        for what in nulls::of_session(&m, &case.orders) {
+        for what in features::of_session(&m, &case.orders) {
             self.shown.add(what);
         }
         for d in &config.drivers {
@@ -471,8 +479,11 @@ impl SessionTally {
             .require("sessions: refusal", numbers::ORDER, least.number)?;
         self.faulted
             .require("sessions: fault", numbers::FAULT, least.number)?;
-        let shown = [nulls::SESSION, nulls::FAULT].concat();
-        self.shown.require("sessions:", &shown, least.guarded)
+        for feature in FEATURES {
+            let shown = [(feature.session)(), (feature.fault)()].concat();
+            self.shown.require("sessions:", &shown, least.feature)?;
+        }
+        Ok(())
     }
 
     pub fn print(&self) {
@@ -494,7 +505,9 @@ impl SessionTally {
             let (processes, sessions) = (self.faults.of(n), self.faulted.of(n));
             println!("{n:5} {processes:20} {sessions:10}");
         }
-        println!("fault 1 in a wait's condition: {}", self.until);
+        for &n in numbers::EXPRESSION {
+            println!("fault {n} in a wait's condition: {}", self.until.of(n));
+        }
         println!(
             "done: picks by standing {:?}, settles {:?}, delta steps {}, time steps {}, reads {}",
             self.done_picks, self.settles, self.steps[1], self.steps[2], self.reads
@@ -512,9 +525,11 @@ impl SessionTally {
         for (way, count) in &self.ways {
             println!("{way:44}{count:8}");
         }
-        println!("bus, register and null in sessions");
-        print_shown(&self.shown, nulls::SESSION);
-        print_shown(&self.shown, nulls::FAULT);
+        for feature in FEATURES {
+            println!("{} in sessions", feature.name);
+            print_shown(&self.shown, &(feature.session)());
+            print_shown(&self.shown, &(feature.fault)());
+        }
     }
 }
 
@@ -601,25 +616,26 @@ mod tests {
         assert!(message.contains("word 1 is too large"), "{message}");
     }
 
-    // What the runs of `make test` demand of 100,000 and more, in small.
+    // What the runs of `make test` demand of 100,000 and more, in small and with
+    // some room for chance.
     #[test]
     fn every_number_occurs() {
-        let due = |n, guarded| {
-            let Least { number, guarded } = least(n, guarded);
-            (number, guarded)
+        let due = |n, feature| {
+            let Least { number, feature } = least(n, feature);
+            (number, feature)
         };
         assert_eq!((due(1, 400), due(9_999, 200)), ((0, 0), (0, 0)));
-        assert_eq!(due(200_000, GUARDED_MODELS), (400, 500));
-        assert_eq!(due(100_000, GUARDED_SESSIONS), (200, 500));
+        assert_eq!(due(200_000, FEATURE_MODELS), (400, 500));
+        assert_eq!(due(100_000, FEATURE_SESSIONS), (200, 500));
         let judged = models(4_000, 5, None).unwrap();
         assert_eq!(judged.require(at_least(8, 10)), Ok(()));
         assert_eq!(limits(None, None).unwrap().require(), Ok(()));
-        let played = sessions(4_000, 5, None).unwrap();
-        assert_eq!(played.require(at_least(8, 20)), Ok(()));
+        let played = sessions(6_000, 5, None).unwrap();
+        assert_eq!(played.require(at_least(12, 20)), Ok(()));
     }
 
-    fn at_least(number: u64, guarded: u64) -> Least {
-        Least { number, guarded }
+    fn at_least(number: u64, feature: u64) -> Least {
+        Least { number, feature }
     }
 
     #[test]
@@ -640,25 +656,31 @@ mod tests {
     }
 
     #[test]
-    fn a_rare_thing_of_bus_register_and_null_is_an_error() {
+    fn a_rare_thing_of_a_feature_is_an_error() {
         let mut judged = models(4_000, 5, None).unwrap();
-        for (number, way) in damage::guarded_ways() {
-            let counts = judged.ways.remove(way).unwrap();
-            let message = judged.require(at_least(0, 1)).unwrap_err();
-            let expected = format!("{way}: refusal {number} occurred 0 times");
-            assert!(message.starts_with(&expected), "{message}");
-            judged.ways.insert(way, counts);
-        }
-        judged.shown = Counts::default();
-        let message = judged.require(at_least(0, 1)).unwrap_err();
-        for what in nulls::MODEL {
-            assert!(message.contains(&format!("{what} occurred 0")), "{message}");
-        }
         let mut played = sessions(100, 5, None).unwrap();
-        played.shown = Counts::default();
-        let message = played.require(at_least(0, 1)).unwrap_err();
-        for what in nulls::SESSION.iter().chain(nulls::FAULT) {
-            assert!(message.contains(&format!("{what} occurred 0")), "{message}");
+        for feature in FEATURES {
+            for (number, way) in feature.damages.names() {
+                let counts = judged.ways.remove(way).unwrap();
+                let message = judged.require(at_least(0, 1)).unwrap_err();
+                let expected = format!("{way}: refusal {number} occurred 0 times");
+                assert!(message.starts_with(&expected), "{message}");
+                judged.ways.insert(way, counts);
+            }
+        }
+        (judged.shown, played.shown) = (Counts::default(), Counts::default());
+        for feature in FEATURES {
+            // All of it is told; then it counts as seen, for the next one.
+            let message = judged.require(at_least(0, 1)).unwrap_err();
+            for what in (feature.model)() {
+                assert!(message.contains(&format!("{what} occurred 0")), "{message}");
+                judged.shown.add(what);
+            }
+            let message = played.require(at_least(0, 1)).unwrap_err();
+            for what in [(feature.session)(), (feature.fault)()].concat() {
+                assert!(message.contains(&format!("{what} occurred 0")), "{message}");
+                played.shown.add(what);
+            }
         }
     }
 

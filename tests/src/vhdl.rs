@@ -10,12 +10,13 @@
 //! | signal a delayed by k     | `sA_dK <= transport sA after k ns`; k = 0: `sA` |
 //! | kind 2                    | `<= transport .. after ..`                      |
 //! | kind 6                    | `<= transport null after ..`                    |
+//! | node kinds 15 to 18       | `*`, `/`, `mod`, `rem`, in parentheses          |
 //! | wait on an empty set      | `wait` or `wait for ..`: b is never asked       |
 //! | one unit of time          | 1 ns                                            |
 //!
 //! Every accepted model translates. `Form::Checked` is for comparing: it
-//! prints settled values and ends with a failure where the model has fault 1
-//! or 2 or a process runs `STEPS` statements without a wait. Two ends of a
+//! prints settled values and ends with a failure where the model has fault 1,
+//! 2 or 4 or a process runs `STEPS` statements without a wait. Two ends of a
 //! model are foreign to VHDL: fault 3 (a ninth transaction) and 16 (1,000
 //! delta steps; GHDL has `--stop-delta`). `Form::Bare` is for measuring.
 //!
@@ -47,8 +48,9 @@ pub enum Form {
 /// Statements without a wait at which the checked form gives up.
 pub const STEPS: usize = 5_000;
 
-/// Delays that are not constants go through `span`, sums and differences of
-/// the checked form through `ranged`: GHDL's integers have one value more.
+/// Delays that are not constants go through `span`. In the checked form sums,
+/// differences and products go through `ranged`, as GHDL's integers have one value
+/// more, and divisors through `divisor`.
 const FUNCTIONS: &str = r#"
   function span (n : integer) return time is
   begin
@@ -61,6 +63,12 @@ const FUNCTIONS: &str = r#"
     assert n /= integer'low report "fault 1" severity failure;
     return n;
   end ranged;
+
+  function divisor (n : integer) return integer is
+  begin
+    assert n /= 0 report "fault 4" severity failure;
+    return n;
+  end divisor;
 
 "#;
 
@@ -248,9 +256,13 @@ impl Text<'_> {
     fn expr(self, n: u16) -> String {
         let NodeRecord { kind, a, b, k } = self.m.nodes[n as usize];
         let pair = |op: &str| format!("({} {op} {})", self.expr(a), self.expr(b));
-        let sum = |op: &str| match self.form {
+        let ranged = |op: &str| match self.form {
             Form::Bare => pair(op),
             Form::Checked => format!("ranged {}", pair(op)),
+        };
+        let divided = |op: &str| match self.form {
+            Form::Bare => pair(op),
+            Form::Checked => format!("({} {op} divisor ({}))", self.expr(a), self.expr(b)),
         };
         match kind {
             1 => literal(0, k),
@@ -263,10 +275,14 @@ impl Text<'_> {
             8 => pair("or"),
             9 => pair("xor"),
             10 => format!("(- {})", self.expr(a)),
-            11 => sum("+"),
-            12 => sum("-"),
+            11 => ranged("+"),
+            12 => ranged("-"),
             13 => pair("="),
-            _ => pair("<"),
+            14 => pair("<"),
+            15 => ranged("*"),
+            16 => divided("/"),
+            17 => divided("mod"),
+            _ => divided("rem"),
         }
     }
 }
@@ -330,6 +346,28 @@ mod tests {
                 "when 2 => s1 <= transport s0_d3 after 1 ns; pc := 0;",
             ],
         );
+    }
+
+    #[test]
+    fn operators() {
+        let mut b = Builder::new();
+        let v = b.variable(INTEGER, 0, -7);
+        let (low, read) = (b.integer(-2_147_483_647), b.read_variable(v));
+        let product = b.binary(15, low, read);
+        b.process();
+        for kind in 16..19 {
+            let division = b.binary(kind, product, read);
+            b.assign(v, division);
+        }
+        let checked = translate(&b.m, Form::Checked);
+        let bare = translate(&b.m, Form::Bare);
+        for (n, op) in ["/", "mod", "rem"].into_iter().enumerate() {
+            let a = "(integer'(-2147483647) * v0)";
+            let line =
+                |value: String| format!("when {n} => v0 := ({value}); pc := {};", (n + 1) % 3);
+            has(&checked, &[&line(format!("ranged {a} {op} divisor (v0)"))]);
+            has(&bare, &[&line(format!("{a} {op} v0"))]);
+        }
     }
 
     /// The paper's inverter.

@@ -3,7 +3,7 @@
 use mathlib.Core.Path.{_≡_}
 use mathlib.Core.List.{List, [], _∷_, map, _++_}
 use Prim.Native.Nat.{ℕ}
-use lib.ListN.{length, getD}
+use lib.ListN.{length, getD, replicate}
 use Rattle.base.specs.Bytes.{byteAt, wordAt, longAt}
 use Rattle.values.specs.Nine.{U, X, ‘0’, ‘-’, W, L}
 use Rattle.values.specs.Bench as Values
@@ -14,6 +14,7 @@ use Rattle.model.specs.Rules.{Accepted}
 use Rattle.rules.specs.Configuration.{Configuration, driverIn, first}
 use Rattle.session.specs.Lists.{Order, played}
 use Rattle.cases.specs.Forms.{signal, variable, process, driver, node, statement, pickOrder, settleOrder}
+use Rattle.cases.specs.Arithmetic.{arithmeticRows, arithmeticRefusals}
 
 -- the end configuration of a list of orders, and the answer to order n of it
 abbrev pub after : Model → List Order → Configuration
@@ -86,7 +87,7 @@ pendingRows =
     ∷ []
 
 unfoldable pub rows : List Row
-rows = Values.rows ++ sumRows ++ settleRows ++ pendingRows
+rows = Values.rows ++ sumRows ++ settleRows ++ pendingRows ++ arithmeticRows
 
 -- what the paper says, case by case: the table has a row for each
 pub record TableWhole : Type 0 where
@@ -94,7 +95,9 @@ pub record TableWhole : Type 0 where
   pub sums : map (λ r. r .said) sumRows ≡ 0 ∷ 2147483647 ∷ 1 ∷ []
   pub settles : map (λ r. r .said) settleRows ≡ 1 ∷ 0 ∷ []
   pub pendings : map (λ r. r .said) pendingRows ≡ 7 ∷ 8 ∷ 0 ∷ 8 ∷ 3 ∷ []
-  pub all : length rows ≡ 17
+  pub arithmetic : length arithmeticRows ≡ 75
+  pub all : length rows ≡ 92
   -- the models that it plays are accepted
   pub adder-accepted : Accepted adder
   pub scheduler-accepted : Accepted scheduler
+  pub arithmetic-accepted : arithmeticRefusals ≡ replicate 75 0

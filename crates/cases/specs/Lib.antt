@@ -1,4 +1,5 @@
 pub mod Forms
+pub mod Arithmetic
 pub mod Bench
 pub mod Inverter
 pub mod Guarded

@@ -47,11 +47,11 @@ module _ {m index : List ℕ} {n t : ℕ} (call : (n ≡ t) × Call m index n) {
   delay-below k = rw node (fits .delay (rw node at k))
 
   -- the last arm is never taken
-  pub no-other : {A : Type 0} → NoneOf (d .kind) 1 14 → A
+  pub no-other : {A : Type 0} → NoneOf (d .kind) 1 18 → A
   no-other h =
       let l : 1 ≤ d .kind = rw node (fits .kindLeast) in
-      let g : d .kind ≤ 14 = rw node (fits .kindMost) in
-      absurd (none-of 1 14 (d .kind) h l (omega arith))
+      let g : d .kind ≤ 18 = rw node (fits .kindMost) in
+      absurd (none-of 1 18 (d .kind) h l (omega arith))
 
   module _ (e : Environment) {v : Value} {ty : ℕ} (type : ty ≡ typeOf (modelOf m) n) where
     pub leaf-value : ((p q : Value) → v ≡ valueBy e d ty p q) → v ≡ evalOf (modelOf m) e n

@@ -11,10 +11,14 @@ use crate::operators::decided;
 use crate::operators::equal;
 use crate::operators::less;
 use crate::operators::minus;
+use crate::operators::modulo;
 use crate::operators::negate;
 use crate::operators::not;
 use crate::operators::or;
 use crate::operators::plus;
+use crate::operators::product;
+use crate::operators::quotient;
+use crate::operators::rem;
 use crate::operators::xor;
 use blocks::index::Index;
 use blocks::index::node_at;
@@ -110,6 +114,22 @@ pub fn eval<'a>(
         14 => {
             let p = eval(whole, index, variables, signals, a);
             less(p, eval(whole, index, variables, signals, b))
+        }
+        15 => {
+            let p = eval(whole, index, variables, signals, a);
+            product(p, eval(whole, index, variables, signals, b))
+        }
+        16 => {
+            let p = eval(whole, index, variables, signals, a);
+            quotient(p, eval(whole, index, variables, signals, b))
+        }
+        17 => {
+            let p = eval(whole, index, variables, signals, a);
+            modulo(p, eval(whole, index, variables, signals, b))
+        }
+        18 => {
+            let p = eval(whole, index, variables, signals, a);
+            rem(p, eval(whole, index, variables, signals, b))
         }
         _ => Value::Of(0),
     }

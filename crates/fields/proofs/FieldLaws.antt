@@ -26,7 +26,7 @@ at-least-seven x h a b c d e f = omega arith
 
 module _ (M : Model) (d : NodeRecord) where
   -- from 7 on, 10 aside, the kinds are alike
-  node-else : 7 ≤ d .kind → (d .kind ≡ 10 → ⊥) → nodeOk M d ≡ ((leb (d .kind) 14 && eqb (d .k) 0) && d .zeros)
+  node-else : 7 ≤ d .kind → (d .kind ≡ 10 → ⊥) → nodeOk M d ≡ ((leb (d .kind) 18 && eqb (d .k) 0) && d .zeros)
   unfolding nodeOk every
   node-else h n =
       let x = d .kind in
@@ -42,12 +42,12 @@ module _ (M : Model) (d : NodeRecord) where
       )
 
   -- a kind with two operands
-  pub node-binary : 7 ≤ d .kind → d .kind ≤ 14 → (d .kind ≡ 10 → ⊥) → (eqb (d .k) 0 && d .zeros) ≡ nodeOk M d
-  node-binary lo hi n = rw (node-else lo n, le-leb (d .kind) 14 hi)
+  pub node-binary : 7 ≤ d .kind → d .kind ≤ 18 → (d .kind ≡ 10 → ⊥) → (eqb (d .k) 0 && d .zeros) ≡ nodeOk M d
+  node-binary lo hi n = rw (node-else lo n, le-leb (d .kind) 18 hi)
 
   -- no kind
-  pub node-past : 15 ≤ d .kind → false ≡ nodeOk M d
-  node-past h = rw (node-else (omega arith) (λ e. omega arith), lt-leb (d .kind) 14 h)
+  pub node-past : 19 ≤ d .kind → false ≡ nodeOk M d
+  node-past h = rw (node-else (omega arith) (λ e. omega arith), lt-leb (d .kind) 18 h)
 
 -- a set of signals is below the power of two that a shift computes
 pub power : (n : ℕ) → n ≤ 32 → (1 * 2 ^ n) % 2 ^ 64 ≡ 2 ^ n

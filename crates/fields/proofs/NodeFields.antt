@@ -50,13 +50,13 @@ module _ (M : Model) (d : NodeRecord) (ok : nodeOk M d ≡ true) where
       (λ (l : 1 ≤ d .kind). l)
       (split (d .kind) 1)
 
-  pub kind-most : d .kind ≤ 14
+  pub kind-most : d .kind ≤ 18
   unfolding nodeOk
   kind-most =
       let k = d .kind in
       ⊎-elim (λ (l : k < 11). omega arith)
       (λ (l : 11 ≤ k).
-      leb-true k 14
+      leb-true k 18
       (every-at _ 1
       (rw (ne-eqb k 1 (omega arith), ne-eqb k 2 (omega arith), ne-eqb k 3 (omega arith), ne-eqb k 4 (omega arith), ne-eqb k 5 (omega arith), ne-eqb k 6 (omega arith), ne-eqb k 10 (omega arith)) at ok)))
       (split k 11)

@@ -15,7 +15,7 @@ use Rattle.blocks.specs.declared.records.NodeRecord.{NodeRecord}
 use Rattle.blocks.specs.declared.records.StatementRecord.{StatementRecord}
 
 -- 5. "A record field is outside its values, not zero though unnamed, names nothing, breaks the rule of process spans, or
--- jumps out of its process (operands of kinds 6 to 14 aside)."
+-- jumps out of its process (operands of kinds 6 to 14 aside)." Item 2 of document 02: the operands of kinds 15 to 18 too
 
 -- 32 bits that are a value of the type: 0 an integer ("from -2,147,483,647 to 2,147,483,647"), 1 a logic code, 2 a boolean
 unfoldable pub valueOk : ℕ → ℕ → Bool
@@ -58,7 +58,7 @@ covered M = eqb (endOf M (length (M .processes) - 1)) (length (M .statements))
 unfoldable pub driverOk : Model → DriverRecord → Bool
 driverOk M d = every (ltb (d .process) (length (M .processes)) ∷ ltb (d .signal) (length (M .signals)) ∷ d .zeros ∷ [])
 
--- the fields by the node's kind; operands of kinds 6 to 14 are left to 6
+-- the fields by the node's kind; operands of kinds 6 to 18 are left to 6
 unfoldable pub nodeOk : Model → NodeRecord → Bool
 nodeOk M d =
     d .kind is 1 ⇒ every (eqb (d .a) 0 ∷ eqb (d .b) 0 ∷ valueOk 0 (d .k) ∷ d .zeros ∷ [])
@@ -68,7 +68,7 @@ nodeOk M d =
     ∣ d .kind is 5 ⇒ every (ltb (d .a) (length (M .signals)) ∷ eqb (d .b) 0 ∷ leb (d .k) 31 ∷ d .zeros ∷ [])
     ∣ d .kind is 6 ⇒ every (eqb (d .b) 0 ∷ eqb (d .k) 0 ∷ d .zeros ∷ [])
     ∣ d .kind is 10 ⇒ every (eqb (d .b) 0 ∷ eqb (d .k) 0 ∷ d .zeros ∷ [])
-    ∣ every (leb 7 (d .kind) ∷ leb (d .kind) 14 ∷ eqb (d .k) 0 ∷ d .zeros ∷ [])
+    ∣ every (leb 7 (d .kind) ∷ leb (d .kind) 18 ∷ eqb (d .k) 0 ∷ d .zeros ∷ [])
 
 -- the process of statement n: the first that ends past it
 unfoldable pub ownerOf : Model → ℕ → ℕ

@@ -154,7 +154,7 @@ fn drivers_ok<'a>(m: &'a [u8], index: &'a Index, t: Totals) -> bool
     ok
 }
 
-// The fields by the node's kind; the operands of kinds 6 to 14 are left to rule 6.
+// The fields by the node's kind; the operands of kinds 6 to 18 are left to rule 6.
 fn node_ok(t: Totals, d: NodeRecord) -> bool
     ensures { λ r. ⌜ ((M : Model) → TotalsOf M t → r ≡ nodeOk M d) ⌝ }
 {
@@ -166,7 +166,7 @@ fn node_ok(t: Totals, d: NodeRecord) -> bool
         4 => (d.a < t.signals) & (d.b == 0) & (d.k == 0) & d.zeros,
         5 => (d.a < t.signals) & (d.b == 0) & (d.k <= 31) & d.zeros,
         6 | 10 => (d.b == 0) & (d.k == 0) & d.zeros,
-        7..=9 | 11..=14 => (d.k == 0) & d.zeros,
+        7..=9 | 11..=18 => (d.k == 0) & d.zeros,
         _ => false,
     }
 }

@@ -56,15 +56,15 @@ module _ (M : Model) (n : ℕ) (lower : lowerOk (nodeAt M n) n ≡ true) (known 
         | no e ↦ let t = logical (omega arith) h in (t .0, t .1 .1)
       ]
 
-  arithmetic : 11 ≤ kind → kind ≤ 12 → (typeOf M n ≡ integer) × ((typeA ≡ integer) × (typeB ≡ integer))
-  arithmetic l h =
-      integers-known typeA typeB (typeOf M n) known integer (type-arithmetic M n (nodeAt M n) refl (a-lower (omega arith)) (b-lower (omega arith) (λ e. omega arith)) l h)
+  arithmetic : 11 ≤ kind → (kind ≡ 13 → ⊥) → (kind ≡ 14 → ⊥) → (typeOf M n ≡ integer) × ((typeA ≡ integer) × (typeB ≡ integer))
+  arithmetic l f g =
+      integers-known typeA typeB (typeOf M n) known integer (type-arithmetic M n (nodeAt M n) refl (a-lower (omega arith)) (b-lower (omega arith) (λ e. omega arith)) l f g)
 
-  arithmetic-a : 10 ≤ kind → kind ≤ 12 → (typeOf M n ≡ integer) × (typeA ≡ integer)
-  arithmetic-a l h =
+  arithmetic-a : 10 ≤ kind → (kind ≡ 13 → ⊥) → (kind ≡ 14 → ⊥) → (typeOf M n ≡ integer) × (typeA ≡ integer)
+  arithmetic-a l f g =
       elim (ℕ-discrete kind 10) [
         | yes e ↦ let t = integers-known typeA typeA (typeOf M n) known integer (type-negate M n (nodeAt M n) refl (a-lower (omega arith)) e) in (t .0, t .1 .0)
-        | no e ↦ let t = arithmetic (omega arith) h in (t .0, t .1 .0)
+        | no e ↦ let t = arithmetic (omega arith) f g in (t .0, t .1 .0)
       ]
 
   equal : kind ≡ 13 → (typeOf M n ≡ boolean) × ((typeB ≡ typeA) × (typeA ≤ 1))
@@ -75,15 +75,15 @@ module _ (M : Model) (n : ℕ) (lower : lowerOk (nodeAt M n) n ≡ true) (known 
   less e =
       integers-known typeA typeB (typeOf M n) known boolean (type-less M n (nodeAt M n) refl (a-lower (omega arith)) (b-lower (omega arith) (λ f. omega arith)) e)
 
-  relation : kind ≤ 14 → 13 ≤ kind → (typeOf M n ≡ boolean) × (typeB ≡ typeA)
-  relation m l =
+  relation : 13 ≤ kind → kind ≤ 14 → (typeOf M n ≡ boolean) × (typeB ≡ typeA)
+  relation l m =
       elim (ℕ-discrete kind 13) [
         | yes e ↦ let t = equal e in (t .0, t .1 .0)
         | no e ↦ let t = less (omega arith) in (t .0, t .1 .1 ∙ sym (t .1 .0))
       ]
 
-  node-typed : kind ≤ 14 → NodeTyped M n
-  node-typed m =
+  node-typed : NodeTyped M n
+  node-typed =
       let d = nodeAt M n in
       record {
         known = known;
@@ -94,11 +94,11 @@ module _ (M : Model) (n : ℕ) (lower : lowerOk (nodeAt M n) n ≡ true) (known 
         logical = λ l h. logical-a l h .1;
         logicalA = λ l h. logical-a l h .0;
         logicalB = λ l h. logical l h .1 .0;
-        arithmetic = λ l h. arithmetic-a l h .0;
-        arithmeticA = λ l h. arithmetic-a l h .1;
-        arithmeticB = λ l h. arithmetic l h .1 .1;
-        relation = λ l. relation m l .0;
-        relationB = λ l. relation m l .1;
+        arithmetic = λ l f g. arithmetic-a l f g .0;
+        arithmeticA = λ l f g. arithmetic-a l f g .1;
+        arithmeticB = λ l f g. arithmetic l f g .1 .1;
+        relation = λ l m. relation l m .0;
+        relationB = λ l m. relation l m .1;
         equal = λ e. equal e .1 .1;
         less = λ e. less e .1 .0;
       }
@@ -179,7 +179,7 @@ module _ (M : Model) (h : Accepted M) where
         rise = rise M (h .owners);
         single = one-driver;
         node = node-fits;
-        typed = λ n l. node-typed M n (lower-ok M (h .trees) n l) (types-known n l) (kind-most M (nodeAt M n) (node-ok M (h .fields) n l));
+        typed = λ n l. node-typed M n (lower-ok M (h .trees) n l) (types-known n l);
         reads = λ p n l. reads M p n (lower-ok M (h .trees) n l);
         statement = statement;
       }

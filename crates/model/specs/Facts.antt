@@ -40,7 +40,7 @@ pub record PairsRise (M : Model) (i j : ℕ) : Type 0 where
 -- node n: its kind, what it names, its operands and its tree
 pub record NodeFits (M : Model) (n : ℕ) : Type 0 where
   pub kindLeast : 1 ≤ nodeAt M n .kind
-  pub kindMost : nodeAt M n .kind ≤ 14
+  pub kindMost : nodeAt M n .kind ≤ 18
   pub constant : nodeAt M n .kind ≤ 2 → valueOk (typeOf M n) (nodeAt M n .k) ≡ true
   pub variable : nodeAt M n .kind ≡ 3 → nodeAt M n .a < length (M .variables)
   pub signal : 4 ≤ nodeAt M n .kind → nodeAt M n .kind ≤ 5 → nodeAt M n .a < length (M .signals)
@@ -59,11 +59,12 @@ pub record NodeTyped (M : Model) (n : ℕ) : Type 0 where
   pub logical : 6 ≤ nodeAt M n .kind → nodeAt M n .kind ≤ 9 → 1 ≤ typeOf M n
   pub logicalA : 6 ≤ nodeAt M n .kind → nodeAt M n .kind ≤ 9 → typeOf M (nodeAt M n .a) ≡ typeOf M n
   pub logicalB : 7 ≤ nodeAt M n .kind → nodeAt M n .kind ≤ 9 → typeOf M (nodeAt M n .b) ≡ typeOf M n
-  pub arithmetic : 10 ≤ nodeAt M n .kind → nodeAt M n .kind ≤ 12 → typeOf M n ≡ integer
-  pub arithmeticA : 10 ≤ nodeAt M n .kind → nodeAt M n .kind ≤ 12 → typeOf M (nodeAt M n .a) ≡ integer
-  pub arithmeticB : 11 ≤ nodeAt M n .kind → nodeAt M n .kind ≤ 12 → typeOf M (nodeAt M n .b) ≡ integer
-  pub relation : 13 ≤ nodeAt M n .kind → typeOf M n ≡ boolean
-  pub relationB : 13 ≤ nodeAt M n .kind → typeOf M (nodeAt M n .b) ≡ typeOf M (nodeAt M n .a)
+  -- 10 to 12 and 15 to 18, between which the two relations stand
+  pub arithmetic : 10 ≤ nodeAt M n .kind → (nodeAt M n .kind ≡ 13 → ⊥) → (nodeAt M n .kind ≡ 14 → ⊥) → typeOf M n ≡ integer
+  pub arithmeticA : 10 ≤ nodeAt M n .kind → (nodeAt M n .kind ≡ 13 → ⊥) → (nodeAt M n .kind ≡ 14 → ⊥) → typeOf M (nodeAt M n .a) ≡ integer
+  pub arithmeticB : 11 ≤ nodeAt M n .kind → (nodeAt M n .kind ≡ 13 → ⊥) → (nodeAt M n .kind ≡ 14 → ⊥) → typeOf M (nodeAt M n .b) ≡ integer
+  pub relation : 13 ≤ nodeAt M n .kind → nodeAt M n .kind ≤ 14 → typeOf M n ≡ boolean
+  pub relationB : 13 ≤ nodeAt M n .kind → nodeAt M n .kind ≤ 14 → typeOf M (nodeAt M n .b) ≡ typeOf M (nodeAt M n .a)
   pub equal : nodeAt M n .kind ≡ 13 → typeOf M (nodeAt M n .a) ≤ 1
   pub less : nodeAt M n .kind ≡ 14 → typeOf M (nodeAt M n .a) ≡ integer
 

@@ -1,9 +1,9 @@
 -- What an effect of a process can be: `EffectFits`. Assumes nothing.
 use mathlib.Core.Path.{_≡_, refl}
 use mathlib.Core.Bool.{true}
-use Prim.Native.Nat.{ℕ, _<_}
+use Prim.Native.Nat.{ℕ, _≤_, _<_}
 use native.Mathlib.Omega.{arith}
-use lib.Dec.{eqb}
+use lib.Dec.{eqb, lit≤}
 use lib.ListN.{length}
 use lib.IntN.{pos, natAbs}
 use lib.Signed.{ltZ}
@@ -31,24 +31,28 @@ use Rattle.rules.specs.Invariant.{EffectFits, ScheduleFits, Reachable}
 use Rattle.rules.proofs.Evaluation.{Typed, EnvironmentFits, value-typed}
 use Rattle.rules.proofs.Signed.{below-half, not-negative}
 
--- what holds after any value of the type, and of the stop with fault 1, holds after a value
-value-then : (P : Effect → Type 0) (ty : ℕ) (v : Value) (next : ℕ → Effect) → Typed ty v → P (Stop 1) → ((x : ℕ) → valueOk ty x ≡ true → P (next x)) → P (withValue v next)
+-- what a stop with any fault has
+abbrev Stops : (Effect → Type 0) → Type 0
+Stops P = (f : ℕ) → f ≤ 4 → P (Stop f)
+
+-- what holds after any value of the type, and of a stop, holds after a value
+value-then : (P : Effect → Type 0) (ty : ℕ) (v : Value) (next : ℕ → Effect) → Typed ty v → Stops P → ((x : ℕ) → valueOk ty x ≡ true → P (next x)) → P (withValue v next)
 value-then P ty (Of x) next h s g = g x h
-value-then P ty (Fault f) next h s g = rw h s
+value-then P ty (Fault f) next h s g = s f h
 
 -- the same after a delay
-delay-then : (P : Effect → Type 0) (v : Value) (next : ℕ → Effect) → Typed integer v → P (Stop 1) → P (Stop 2) → ((d : ℕ) → d < 2147483648 → P (next d)) → P (withDelay v next)
+delay-then : (P : Effect → Type 0) (v : Value) (next : ℕ → Effect) → Typed integer v → Stops P → ((d : ℕ) → d < 2147483648 → P (next d)) → P (withDelay v next)
 unfolding withDelay
-delay-then P v next h s t g =
-    value-then P integer v _ h s (λ x _. by-test P (ltZ (int x) (pos 0)) _ _ (λ e. t) (λ e. g (natAbs (int x)) (rw (not-negative x e) (below-half x e))))
+delay-then P v next h s g =
+    value-then P integer v _ h s (λ x _. by-test P (ltZ (int x) (pos 0)) _ _ (λ e. s 2 (lit≤ tt)) (λ e. g (natAbs (int x)) (rw (not-negative x e) (below-half x e))))
 
 module _ (M : Model) (fs : Facts M) (p : ℕ) where
   module _ (e : Environment) (ok : EnvironmentFits M e) where
-    expression : (P : Effect → Type 0) (ty n : ℕ) (next : ℕ → Effect) → Expression M p ty n → P (Stop 1) → ((x : ℕ) → valueOk ty x ≡ true → P (next x)) → P (withValue (evalOf M e n) next)
+    expression : (P : Effect → Type 0) (ty n : ℕ) (next : ℕ → Effect) → Expression M p ty n → Stops P → ((x : ℕ) → valueOk ty x ≡ true → P (next x)) → P (withValue (evalOf M e n) next)
     expression P ty n next x s g = value-then P ty (evalOf M e n) next (rw (x .type) at (value-typed M fs e ok n (x .node))) s g
 
-    delay : (P : Effect → Type 0) (n : ℕ) (next : ℕ → Effect) → Expression M p integer n → P (Stop 1) → P (Stop 2) → ((d : ℕ) → d < 2147483648 → P (next d)) → P (withDelay (evalOf M e n) next)
-    delay P n next x s t g = delay-then P (evalOf M e n) next (rw (x .type) at (value-typed M fs e ok n (x .node))) s t g
+    delay : (P : Effect → Type 0) (n : ℕ) (next : ℕ → Effect) → Expression M p integer n → Stops P → ((d : ℕ) → d < 2147483648 → P (next d)) → P (withDelay (evalOf M e n) next)
+    delay P n next x s g = delay-then P (evalOf M e n) next (rw (x .type) at (value-typed M fs e ok n (x .node))) s g
 
     module _ (s : StatementRecord) (f : StatementFits M p s) where
       abbrev Fits : Effect → Type 0
@@ -67,7 +71,7 @@ module _ (M : Model) (fs : Facts M) (p : ℕ) where
       waits : Facts.Wait M p s → EffectFits M p 5 (eqb (s .c) absent ⇒ Wait ∣ withDelay (evalOf M e (s .c)) WaitFor)
       waits g =
           by-test (EffectFits M p 5) (eqb (s .c) absent) _ _ (λ t. refl)
-          (λ t. delay (EffectFits M p 5) (s .c) WaitFor (g .delay (eqb-false (s .c) absent t)) (omega arith) (omega arith) (λ d l. (refl, l)))
+          (λ t. delay (EffectFits M p 5) (s .c) WaitFor (g .delay (eqb-false (s .c) absent t)) (λ f h. h) (λ d l. (refl, l)))
 
       -- what a statement of process p does
       pub effect-by : Fits (effectBy M e p s)
@@ -76,17 +80,17 @@ module _ (M : Model) (fs : Facts M) (p : ℕ) where
           among (λ k. s .kind ≡ k → Fits (effectBy M e p s)) 0 7 (s .kind)
           ((λ k. rw k tt)
           and (λ k. let g = f .variableAssignment k in
-          rw k (expression (EffectFits M p 1) _ (s .b) _ (g .value) (omega arith) (λ v h. record { variable = g .variable; own = g .own; value = h })))
+          rw k (expression (EffectFits M p 1) _ (s .b) _ (g .value) (λ f h. h) (λ v h. record { variable = g .variable; own = g .own; value = h })))
           and (λ k. let g = f .signalAssignment k in
-          rw k (expression (EffectFits M p 2) _ (s .b) _ (g .value) (omega arith)
-          (λ v h. delay (EffectFits M p 2) (s .c) _ (g .delay) (omega arith) (omega arith) (λ d l. assigned g v d h l))))
+          rw k (expression (EffectFits M p 2) _ (s .b) _ (g .value) (λ f h. h)
+          (λ v h. delay (EffectFits M p 2) (s .c) _ (g .delay) (λ f h. h) (λ d l. assigned g v d h l))))
           and (λ k. let g = f .branch k in
-          rw k (expression (EffectFits M p 3) _ (s .b) _ (g .condition) (omega arith)
+          rw k (expression (EffectFits M p 3) _ (s .b) _ (g .condition) (λ f h. h)
           (λ v h. by-test (EffectFits M p 3) (eqb v 0) _ _ (λ t. g .target) (λ t. tt))))
           and (λ k. rw k (f .jump k))
           and (λ k. rw k (waits (f .wait k)))
           and (λ k. let g = f .nullAssignment k in
-          rw k (delay (EffectFits M p 6) (s .c) _ (g .delay) (omega arith) (omega arith) (λ d l. released g d l)))
+          rw k (delay (EffectFits M p 6) (s .c) _ (g .delay) (λ f h. h) (λ d l. released g d l)))
           and tt)
           (omega arith) (omega (arith, f .kind)) refl
 

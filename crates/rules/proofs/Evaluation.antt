@@ -5,9 +5,9 @@ use mathlib.Core.Bool.{Bool, true, false, not}
 use Prim.Native.Nat.{ℕ, zero, suc, _+_, _≤_, _<_}
 use native.Mathlib.Omega.{arith}
 use native.Mathlib.Nat.{not-suc-le-zero}
-use lib.Dec.{eqb, ltb}
+use lib.Dec.{eqb, ltb, lit≤}
 use lib.ListN.{length, getD}
-use lib.IntN.{ℤ, pos, negsuc, natAbs, negℤ, _+ℤ_, _-ℤ_}
+use lib.IntN.{ℤ, pos, negsuc, natAbs, negℤ, _+ℤ_, _-ℤ_, _*ℤ_}
 use lib.Signed.{ltZ}
 use mir.Syntax.{w32}
 use mir.Val.{ofZ}
@@ -17,6 +17,7 @@ use Rattle.base.proofs.Cases.{by-test}
 use Rattle.base.proofs.Below.{Each, _and_, among, split}
 use Rattle.base.proofs.Course.{earlier}
 use Rattle.values.specs.Operators.{notOf, andOf, orOf, xorOf}
+use Rattle.integers.specs.Division.{quotient, rem, modulo}
 use Rattle.values.proofs.Operators.{not-below, and-below, or-below, xor-below}
 use Rattle.blocks.specs.Records.{Model, nodeAt, variableAt, signalAt}
 use Rattle.blocks.specs.declared.records.NodeRecord.{NodeRecord}
@@ -26,7 +27,7 @@ use Rattle.model.specs.Owners.{readsOwn}
 use Rattle.model.specs.Facts.{Facts, NodeFits, NodeTyped}
 use Rattle.rules.specs.declared.value.Value.{Value}
 use Rattle.rules.specs.declared.value.Value.the-variants.{Of, Fault}
-use Rattle.rules.specs.Evaluation.{Environment, truth, int, one, two, unlessFirst, notBy, andBy, orBy, xorBy, ranged, negateOf, sumOf, differenceOf, equalOf, lessOf, valueBy, nextValue, evalOf}
+use Rattle.rules.specs.Evaluation.{Environment, truth, int, one, two, unlessFirst, notBy, andBy, orBy, xorBy, ranged, negateOf, sumOf, differenceOf, equalOf, lessOf, productOf, divided, quotientOf, moduloOf, remOf, valueBy, nextValue, evalOf}
 
 -- node d is read in the same way with e, p and q as with e', p' and q': where its kind reads them they are the same
 pub record Alike (d : NodeRecord) (e e' : Environment) (p p' q q' : Value) : Type 0 where
@@ -41,14 +42,14 @@ module _ (d : NodeRecord) (ty : ℕ) (e e' : Environment) (p p' q q' : Value) (s
   SameBoth = valueBy e d ty p q ≡ valueBy e' d ty p' q'
 
   -- by the kind
-  pub same-value : 1 ≤ d .kind → d .kind ≤ 14 → SameBoth
+  pub same-value : 1 ≤ d .kind → d .kind ≤ 18 → SameBoth
   unfolding valueBy
-  same-value l m = among (λ k. d .kind ≡ k → SameBoth) 1 14 (d .kind) cases l (omega arith) refl
+  same-value l m = among (λ k. d .kind ≡ k → SameBoth) 1 18 (d .kind) cases l (omega arith) refl
     where
       both : (k : ℕ) → 7 ≤ k → (k ≡ 10 → ⊥) → d .kind ≡ k → q ≡ q'
       both k l n e = s .second (omega arith) (λ t. n (sym e ∙ t))
 
-      cases : Each (λ k. d .kind ≡ k → SameBoth) 1 14
+      cases : Each (λ k. d .kind ≡ k → SameBoth) 1 18
       cases =
           (λ k. rw k)
           and (λ k. rw k)
@@ -64,6 +65,10 @@ module _ (d : NodeRecord) (ty : ℕ) (e e' : Environment) (p p' q q' : Value) (s
           and (λ k. rw (k, s .first (omega arith), both 12 (omega arith) (λ t. omega arith) k))
           and (λ k. rw (k, s .first (omega arith), both 13 (omega arith) (λ t. omega arith) k))
           and (λ k. rw (k, s .first (omega arith), both 14 (omega arith) (λ t. omega arith) k))
+          and (λ k. rw (k, s .first (omega arith), both 15 (omega arith) (λ t. omega arith) k))
+          and (λ k. rw (k, s .first (omega arith), both 16 (omega arith) (λ t. omega arith) k))
+          and (λ k. rw (k, s .first (omega arith), both 17 (omega arith) (λ t. omega arith) k))
+          and (λ k. rw (k, s .first (omega arith), both 18 (omega arith) (λ t. omega arith) k))
           and tt
 
 module _ (M : Model) (e : Environment) (n : ℕ) (f : NodeFits M n) where
@@ -153,10 +158,10 @@ module _ (M : Model) (fs : Facts M) (e e' : Environment) where
       → (n : ℕ) → n < length (M .nodes) → evalOf M e n ≡ evalOf M e' n
   agree-all same vs n h = agree-on (λ n. Unit {0}) same (λ n h r k. vs (nodeAt M n .a) (fs .node n h .variable k)) (λ n h r k. tt) (λ n h r k t. tt) n h tt
 
--- a fault 1, or a value of the type
+-- a fault, or a value of the type
 abbrev pub Typed : ℕ → Value → Type 0
 Typed ty (Of v) = valueOk ty v ≡ true
-Typed ty (Fault f) = f ≡ 1
+Typed ty (Fault f) = f ≤ 4
 
 one-typed : (s t : ℕ) (p : Value) (f : ℕ → Value) → Typed s p → ((x : ℕ) → valueOk s x ≡ true → Typed t (f x)) → Typed t (one p f)
 one-typed s t (Of x) f h g = g x h
@@ -182,11 +187,14 @@ ranged-typed : (z : ℤ) → Typed integer (ranged z)
 unfolding valueOk ranged
 ranged-typed z =
     by-test (Typed integer) (ltb (natAbs z) 2147483648) _ _
-    (λ e. rw (ne-eqb (ofZ w32 z) 2147483648 (apart z (ltb-true (natAbs z) 2147483648 e)))) (λ e. refl)
+    (λ e. rw (ne-eqb (ofZ w32 z) 2147483648 (apart z (ltb-true (natAbs z) 2147483648 e)))) (λ e. lit≤ tt)
   where
     apart : (z : ℤ) → natAbs z < 2147483648 → ofZ w32 z ≡ 2147483648 → ⊥
     apart (pos n) l e = omega arith
     apart (negsuc n) l e = omega arith
+
+divided-typed : (f : ℤ → ℤ → ℤ) (x y : ℕ) → Typed integer (divided f x y)
+divided-typed f x y = by-test (Typed integer) (eqb y 0) _ _ (λ e. lit≤ tt) (λ e. ranged-typed (f (int x) (int y)))
 
 -- the operators of a type that is logic or boolean
 module _ (ty : ℕ) (known : 1 ≤ ty) (most : ty ≤ 2) (p q : Value) (hp : Typed ty p) (hq : Typed ty q) where
@@ -256,15 +264,26 @@ module _ (M : Model) (fs : Facts M) (e : Environment) (ok : EnvironmentFits M e)
           bq : {k : ℕ} → 7 ≤ k → nodeAt M n .kind ≡ k → Typed (typeOf M n) q
           bq g e = let s : 7 ≤ nodeAt M n .kind = omega arith in rw (t .logicalB s m) at (hq s (λ z. omega arith))
 
-      numbers : 10 ≤ nodeAt M n .kind → nodeAt M n .kind ≤ 14 → TypedHere
-      unfolding valueBy negateOf sumOf differenceOf equalOf lessOf
+      -- f of two integers, where the node's kind is no relation, and of two operands where it is one
+      number : 11 ≤ nodeAt M n .kind → (nodeAt M n .kind ≡ 13 → ⊥) → (nodeAt M n .kind ≡ 14 → ⊥) → (f : ℕ → ℕ → Value) → ((x y : ℕ) → Typed integer (f x y)) → Typed (typeOf M n) (two p q f)
+      number l e g f h = rw (t .arithmetic (omega arith) e g) (two-typed _ _ integer p q f (hp (omega arith)) (hq (omega arith) (λ z. omega arith)) h)
+
+      relation : 13 ≤ nodeAt M n .kind → nodeAt M n .kind ≤ 14 → (f : ℕ → ℕ → Value) → ((x y : ℕ) → Typed boolean (f x y)) → Typed (typeOf M n) (two p q f)
+      relation l m f h = rw (t .relation l m) (two-typed _ _ boolean p q f (hp (omega arith)) (hq (omega arith) (λ z. omega arith)) h)
+
+      numbers : 10 ≤ nodeAt M n .kind → nodeAt M n .kind ≤ 18 → TypedHere
+      unfolding valueBy negateOf sumOf differenceOf equalOf lessOf productOf quotientOf moduloOf remOf
       numbers l m =
-          among (λ k. nodeAt M n .kind ≡ k → TypedHere) 10 5 (nodeAt M n .kind)
-          ((λ k. rw (k, t .arithmetic l (omega arith)) (one-typed _ integer p _ (hp (omega arith)) (λ x v. ranged-typed (negℤ (int x)))))
-          and (λ k. rw (k, t .arithmetic l (omega arith)) (two-typed _ _ integer p q _ (hp (omega arith)) (hq (omega arith) (λ z. omega arith)) (λ x y. ranged-typed (int x +ℤ int y))))
-          and (λ k. rw (k, t .arithmetic l (omega arith)) (two-typed _ _ integer p q _ (hp (omega arith)) (hq (omega arith) (λ z. omega arith)) (λ x y. ranged-typed (int x -ℤ int y))))
-          and (λ k. rw (k, t .relation (omega arith)) (two-typed _ _ boolean p q _ (hp (omega arith)) (hq (omega arith) (λ z. omega arith)) (λ x y. truth-typed (eqb x y))))
-          and (λ k. rw (k, t .relation (omega arith)) (two-typed _ _ boolean p q _ (hp (omega arith)) (hq (omega arith) (λ z. omega arith)) (λ x y. truth-typed (ltZ (int x) (int y)))))
+          among (λ k. nodeAt M n .kind ≡ k → TypedHere) 10 9 (nodeAt M n .kind)
+          ((λ k. rw (k, t .arithmetic l (λ z. omega arith) (λ z. omega arith)) (one-typed _ integer p _ (hp (omega arith)) (λ x v. ranged-typed (negℤ (int x)))))
+          and (λ k. rw k (number (omega arith) (λ z. omega arith) (λ z. omega arith) sumOf (λ x y. ranged-typed (int x +ℤ int y))))
+          and (λ k. rw k (number (omega arith) (λ z. omega arith) (λ z. omega arith) differenceOf (λ x y. ranged-typed (int x -ℤ int y))))
+          and (λ k. rw k (relation (omega arith) (omega arith) equalOf (λ x y. truth-typed (eqb x y))))
+          and (λ k. rw k (relation (omega arith) (omega arith) lessOf (λ x y. truth-typed (ltZ (int x) (int y)))))
+          and (λ k. rw k (number (omega arith) (λ z. omega arith) (λ z. omega arith) productOf (λ x y. ranged-typed (int x *ℤ int y))))
+          and (λ k. rw k (number (omega arith) (λ z. omega arith) (λ z. omega arith) quotientOf (divided-typed quotient)))
+          and (λ k. rw k (number (omega arith) (λ z. omega arith) (λ z. omega arith) moduloOf (divided-typed modulo)))
+          and (λ k. rw k (number (omega arith) (λ z. omega arith) (λ z. omega arith) remOf (divided-typed rem)))
           and tt)
           l (omega arith) refl
 
@@ -283,6 +302,6 @@ module _ (M : Model) (fs : Facts M) (e : Environment) (ok : EnvironmentFits M e)
       (λ k. let f = fs .node n h .lowerA k in typed-below m (nodeAt M n .a) (omega arith) (omega arith))
       (λ k t. let f = fs .node n h .lowerB k t in typed-below m (nodeAt M n .b) (omega arith) (omega arith)))
 
-  -- where what is read is of its type, a node's value is fault 1 or of the node's type
+  -- where what is read is of its type, a node's value is a fault or of the node's type
   pub value-typed : (n : ℕ) → n < length (M .nodes) → Typed (typeOf M n) (evalOf M e n)
   value-typed n h = typed-below (suc n) n (omega arith) h

@@ -1,10 +1,11 @@
--- Signed arithmetic: what the machine's sums ask, from bounds on the operands, and the two ways between a word and its integer.
+-- Signed arithmetic: what the machine's sums, products and divisions ask, from bounds on the operands, and the two ways between a word and its integer.
 -- Assumes nothing.
-use mathlib.Core.Path.{_≡_, refl, sym, _∙_}
+use mathlib.Core.Path.{_≡_, refl, sym, ap, _∙_}
 use mathlib.Core.Bool.{true, false, true≢false, false≢true}
-use Prim.Native.Nat.{ℕ, zero, suc, _+_, _<_, _≤_, _^_}
+use Prim.Native.Nat.{ℕ, suc, _<_, _≤_}
+use native.Mathlib.Nat.{mul-le-mul}
 use native.Mathlib.Omega.{arith}
-use lib.IntN.{ℤ, pos, negsuc, natAbs, negℤ, subℕ, +ℤ-idl, _+ℤ_, _-ℤ_}
+use lib.IntN.{ℤ, pos, negsuc, natAbs, negℤ, pos-ne-negsuc, +ℤ-idl, _+ℤ_, _-ℤ_, _*ℤ_}
 use lib.Signed.{ltZ, nonNeg}
 use lib.Dec.{T, ltb}
 use borrow.Author.Tests.{ltb-true, ltb-false, le-ltb, lt-ltb}
@@ -12,6 +13,10 @@ use mir.Syntax.{w32, w64}
 use mir.Val.{Fits, SFits, toZ, ofZ}
 use mir.Facts.{toZ-ofZ, toZ-pos, sfits-toZ, sfits-widen, fits-ofZ}
 use Rattle.base.proofs.Cases.{either-way}
+use Rattle.integers.specs.Division.{quotient, rem, modulo}
+use Rattle.integers.specs.Laws.{Divisible}
+use Rattle.integers.proofs.Division.{quotient-size, rem-leaves, mod-leaves}
+use Rattle.integers.proofs.Sizes.{neg-abs, add-abs, abs-times, small}
 use Rattle.rules.specs.Evaluation.{int}
 
 -- what `in_range` tests
@@ -27,26 +32,7 @@ pub inside : (z : ℤ) → ltZ z (negsuc 2147483646) ≡ false → ltZ (pos 2147
 inside (pos n) e f = omega (arith, ltb-false 2147483647 n f)
 inside (negsuc n) e f = omega (arith, ltb-false 2147483646 n e)
 
--- the size of a sum and of a negation
-sub-abs : (m n : ℕ) → natAbs (subℕ m n) ≤ m + n
-sub-abs m n = either-way (ltb m n) (λ e. rw e (omega (arith, ltb-true m n e))) (λ e. rw e (omega arith))
-
-add-abs : (x y : ℤ) → natAbs (x +ℤ y) ≤ natAbs x + natAbs y
-add-abs (pos m) (pos n) = omega arith
-add-abs (pos m) (negsuc n) = sub-abs m (suc n)
-add-abs (negsuc m) (pos n) = omega (arith, sub-abs n (suc m))
-add-abs (negsuc m) (negsuc n) = omega arith
-
-neg-abs : (x : ℤ) → natAbs (negℤ x) ≡ natAbs x
-neg-abs (pos zero) = refl
-neg-abs (pos (suc n)) = refl
-neg-abs (negsuc n) = refl
-
 -- from a size to a fit, and back
-small : (z : ℤ) → natAbs z < 2 ^ 63 → SFits w64 z
-small (pos n) h = record { sfits = h }
-small (negsuc n) h = record { sfits = omega arith }
-
 small32 : (z : ℤ) → natAbs z < 2147483648 → SFits w32 z
 small32 (pos n) h = record { sfits = h }
 small32 (negsuc n) h = record { sfits = omega arith }
@@ -58,6 +44,10 @@ size (negsuc n) h = omega (arith, h .sfits)
 -- the integer of 32 bits fits 64 bits
 pub int-fits : (x : ℕ) → Fits w32 x → SFits w64 (int x)
 int-fits x h = sfits-widen tt (sfits-toZ h)
+
+-- the 32 bits of 0
+pub int-zero : (y : ℕ) → int y ≡ pos 0 → y ≡ 0
+int-zero y e = either-way (ltb y 2147483648) (λ t. ap natAbs (rw t at e)) (λ t. absurd (pos-ne-negsuc 0 _ (sym (rw t at e))))
 
 -- r and s being what `int` returned for x and y: what the machine reads of r, and its negation, sum and difference, which fit
 -- 64 bits, are those of the integers
@@ -103,6 +93,31 @@ module _ (x : ℕ) (h : x < 4294967296) {r : ℤ} (e : r ≡ int x) where
 
     pub difference-is : read (read r -ℤ read s) ≡ int x -ℤ int y
     difference-is = toZ-ofZ difference-fits ∙ rw (int-read, other-read)
+
+    pub product-fits : SFits w64 (read r *ℤ read s)
+    product-fits =
+        rw (int-read, other-read)
+        (small (int x *ℤ int y) (omega (arith, abs-times (int x) (int y), mul-le-mul small-int small-other)))
+
+    pub product-is : read (read r *ℤ read s) ≡ int x *ℤ int y
+    product-is = toZ-ofZ product-fits ∙ rw (int-read, other-read)
+
+    -- a divisor whose 32 bits are not 0
+    pub divisible : (y ≡ 0 → ⊥) → Divisible (read r) (read s)
+    divisible h = rw (int-read, other-read) record { dividend = small-int; divisor = small-other; nonzero = λ e. h (int-zero y e) }
+
+    -- v being what a division f returned for r and s: what the machine reads of v
+    division-is : (f : ℤ → ℤ → ℤ) {v : ℤ} → v ≡ f (read r) (read s) → natAbs (f (int x) (int y)) ≤ 2147483648 → read v ≡ f (int x) (int y)
+    division-is f e l = rw (e, int-read, other-read) (toZ-ofZ (small (f (int x) (int y)) (omega arith)))
+
+    pub quotient-is : {v : ℤ} → (y ≡ 0 → ⊥) → v ≡ quotient (read r) (read s) → read v ≡ quotient (int x) (int y)
+    quotient-is h e = division-is quotient e (omega (arith, quotient-size (int x) (int y), small-int))
+
+    pub modulo-is : {v : ℤ} → (y ≡ 0 → ⊥) → v ≡ modulo (read r) (read s) → read v ≡ modulo (int x) (int y)
+    modulo-is h e = division-is modulo e (omega (arith, mod-leaves (int x) (int y) (λ z. h (int-zero y z)) .leaves .size, small-other))
+
+    pub rem-is : {v : ℤ} → (y ≡ 0 → ⊥) → v ≡ rem (read r) (read s) → read v ≡ rem (int x) (int y)
+    rem-is h e = division-is rem e (omega (arith, rem-leaves (int x) (int y) (λ z. h (int-zero y z)) .size, small-other))
 
     pub less-is : ltZ (read r) (read s) ≡ ltZ (int x) (int y)
     less-is = rw (int-read, other-read)

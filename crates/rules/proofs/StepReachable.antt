@@ -32,7 +32,7 @@ next-place M fs p h i s =
 
 -- a ready process, and what an effect makes of it
 module _ (M : Model) (p t : ℕ) (q : ProcessState) (f : ProcessValid M p t q) where
-  pub stopped-valid : (n : ℕ) → n ≤ 3 → ProcessValid M p t (stops q n)
+  pub stopped-valid : (n : ℕ) → n ≤ 4 → ProcessValid M p t (stops q n)
   stopped-valid n h =
       record {
         from = f .from;

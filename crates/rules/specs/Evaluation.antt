@@ -1,18 +1,20 @@
--- The value of an expression: node kinds 1 to 14.
+-- The value of an expression: node kinds 1 to 18.
 -- "1 integer k; 2 logic k; 3 variable a; 4 signal a; 5 signal a delayed by k, 0 to 31; 6 not a; 7 and; 8 or; 9 xor; 10 negate
--- a; 11 a + b; 12 a - b; 13 equal; 14 less."
+-- a; 11 a + b; 12 a - b; 13 equal; 14 less." "Node kinds 15 to 18 are product, quotient, mod and rem on integers" (document 02, item 2).
+use mathlib.Core.Path.{_≡_}
 use mathlib.Core.Bool.{Bool, true, false, not, _&&_}
 use mathlib.Core.List.{List}
-use Prim.Native.Nat.{ℕ}
+use Prim.Native.Nat.{ℕ, _≤_}
 use lib.Dec.{eqb, ltb}
 use lib.ListN.{getD}
-use lib.IntN.{ℤ, natAbs, negℤ, _+ℤ_, _-ℤ_}
+use lib.IntN.{ℤ, natAbs, negℤ, _+ℤ_, _-ℤ_, _*ℤ_}
 use lib.Signed.{ltZ}
 use mir.Syntax.{w32}
 use mir.Val.{toZ, ofZ}
 use Rattle.base.specs.Cases.{_∣_, _⇒_, _is_⇒_}
 use Rattle.base.specs.Course.{course}
 use Rattle.values.specs.Operators.{notOf, andOf, orOf, xorOf}
+use Rattle.integers.specs.Division.{quotient, rem, modulo}
 use Rattle.blocks.specs.Records.{Model, nodeAt}
 use Rattle.blocks.specs.declared.records.NodeRecord.{NodeRecord}
 use Rattle.trees.specs.Trees.{boolean, typeOf}
@@ -56,6 +58,33 @@ equalOf x y = Of (truth (eqb x y))
 
 unfoldable pub lessOf : ℕ → ℕ → Value
 lessOf x y = Of (truth (ltZ (int x) (int y)))
+
+-- "A product out of range is fault 1"
+unfoldable pub productOf : ℕ → ℕ → Value
+productOf x y = ranged (int x *ℤ int y)
+
+-- "A divisor of 0 is the new fault 4": f of two operands, the second other than 0
+abbrev pub divided : (ℤ → ℤ → ℤ) → ℕ → ℕ → Value
+divided f x y = eqb y 0 ⇒ Fault 4 ∣ ranged (f (int x) (int y))
+
+unfoldable pub quotientOf : ℕ → ℕ → Value
+quotientOf x y = divided quotient x y
+
+unfoldable pub moduloOf : ℕ → ℕ → Value
+moduloOf x y = divided modulo x y
+
+unfoldable pub remOf : ℕ → ℕ → Value
+remOf x y = divided rem x y
+
+-- an integer "from -2,147,483,647 to 2,147,483,647"
+abbrev pub InRange : ℕ → Type 0
+InRange x = natAbs (int x) ≤ 2147483647
+
+-- the range has both ends alike, so that quotient, mod and rem of two integers in it never leave it
+pub record DivisionStays : Type 0 where
+  pub quotient : (x y : ℕ) → InRange x → InRange y → (y ≡ 0 → ⊥) → quotientOf x y ≡ Of (ofZ w32 (quotient (int x) (int y)))
+  pub modulo : (x y : ℕ) → InRange x → InRange y → (y ≡ 0 → ⊥) → moduloOf x y ≡ Of (ofZ w32 (modulo (int x) (int y)))
+  pub rem : (x y : ℕ) → InRange x → InRange y → (y ≡ 0 → ⊥) → remOf x y ≡ Of (ofZ w32 (rem (int x) (int y)))
 
 -- "a before b": f of one operand, or its fault
 abbrev pub one : Value → (ℕ → Value) → Value
@@ -105,6 +134,10 @@ valueBy e d ty p q =
     ∣ d .kind is 12 ⇒ two p q differenceOf
     ∣ d .kind is 13 ⇒ two p q equalOf
     ∣ d .kind is 14 ⇒ two p q lessOf
+    ∣ d .kind is 15 ⇒ two p q productOf
+    ∣ d .kind is 16 ⇒ two p q quotientOf
+    ∣ d .kind is 17 ⇒ two p q moduloOf
+    ∣ d .kind is 18 ⇒ two p q remOf
     ∣ Of 0
 
 unfoldable pub nextValue : Model → Environment → ℕ → List Value → Value

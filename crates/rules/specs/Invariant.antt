@@ -52,7 +52,7 @@ pub record ProcessValid (M : Model) (p t : ℕ) (q : ProcessState) : Type 0 wher
   pub from : processAt M p .first ≤ q .place
   pub within : q .place < endOf M p
   pub standing : q .standing ≤ 2
-  pub fault : q .fault ≤ 3
+  pub fault : q .fault ≤ 4
   -- it waits at a wait
   pub at-wait : q .standing ≡ waiting → statementAt M (q .place) .kind ≡ 5
   -- a ready process has no deadline
@@ -87,7 +87,7 @@ pub record ScheduleFits (M : Model) (p k d : ℕ) (v : Driven) : Type 0 where
   pub delay : d < 2147483648
   pub value : Carries (signalAt M (driverAt M k .signal)) v
 
--- a jump to a statement of p; a wait at a wait, kind being that of the statement; a fault 1 or 2
+-- a jump to a statement of p; a wait at a wait, kind being that of the statement; a fault 1, 2 or 4
 abbrev pub EffectFits : Model → ℕ → ℕ → Effect → Type 0
 EffectFits M p kind Skip = Unit {0}
 EffectFits M p kind (Store a v) = StoreFits M p a v
@@ -95,4 +95,4 @@ EffectFits M p kind (Schedule k d v) = ScheduleFits M p k d v
 EffectFits M p kind (Jump a) = Spans M p a
 EffectFits M p kind Wait = kind ≡ 5
 EffectFits M p kind (WaitFor d) = (kind ≡ 5) × (d < 2147483648)
-EffectFits M p kind (Stop f) = f ≤ 2
+EffectFits M p kind (Stop f) = f ≤ 4

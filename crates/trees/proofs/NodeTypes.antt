@@ -5,7 +5,7 @@ use mathlib.Core.List.{List}
 use mathlib.Core.Logic.{⊎-elim, _⊎_}
 use Prim.Native.Nat.{ℕ, _+_, _≤_, _<_}
 use native.Mathlib.Omega.{arith}
-use borrow.Author.Tests.{eqb-true, eq-eqb, lt-ltb, le-ltb}
+use borrow.Author.Tests.{eqb-true, eq-eqb, ne-eqb, lt-ltb, le-ltb, lt-leb}
 use lib.Dec.{eqb, leb, ltb}
 use lib.ListN.{getD, List·getD-eq-default}
 use Rattle.base.specs.Cases.{_∣_, _⇒_}
@@ -32,6 +32,27 @@ equalType p q = eqb p q && (eqb p integer || eqb p logic) ⇒ boolean ∣ mistyp
 
 abbrev pub lessType : ℕ → ℕ → ℕ
 lessType p q = eqb p integer && eqb q integer ⇒ boolean ∣ mistyped
+
+-- every kind from 11 on but the two relations
+arithmetic-by : (M : Model) (d : NodeRecord) (p q : ℕ) → 11 ≤ d .kind → (d .kind ≡ 13 → ⊥) → (d .kind ≡ 14 → ⊥) → arithmeticType p q ≡ typeBy M d p q
+unfolding typeBy
+arithmetic-by M d p q l e f =
+    let k = d .kind in
+    rw (
+      ne-eqb k 1 (omega arith),
+      ne-eqb k 2 (omega arith),
+      ne-eqb k 3 (omega arith),
+      ne-eqb k 4 (omega arith),
+      ne-eqb k 5 (omega arith),
+      ne-eqb k 6 (omega arith),
+      ne-eqb k 10 (omega arith),
+      ne-eqb k 13 e,
+      ne-eqb k 14 f,
+      lt-leb k 9 (omega arith),
+    )
+
+pub arithmetic-high : (M : Model) (d : NodeRecord) (p q : ℕ) → 13 ≤ d .kind → (d .kind ≡ 13 → ⊥) → (d .kind ≡ 14 → ⊥) → arithmeticType p q ≡ typeBy M d p q
+arithmetic-high M d p q l = arithmetic-by M d p q (omega arith)
 
 module _ (M : Model) (n : ℕ) where
   -- what is said of node m where those below n are known
@@ -100,10 +121,8 @@ module _ (M : Model) (n : ℕ) where
         type-logical l h =
             among (λ k. d .kind ≡ k → typeOf M n ≡ logicalType (typeOf M (d .a)) (typeOf M (d .b))) 7 3 (d .kind) ((λ e. rw e at both), ((λ e. rw e at both), ((λ e. rw e at both), tt))) l (omega arith) refl
 
-        pub type-arithmetic : 11 ≤ d .kind → d .kind ≤ 12 → typeOf M n ≡ arithmeticType (typeOf M (d .a)) (typeOf M (d .b))
-        unfolding typeBy
-        type-arithmetic l h =
-            among (λ k. d .kind ≡ k → typeOf M n ≡ arithmeticType (typeOf M (d .a)) (typeOf M (d .b))) 11 2 (d .kind) ((λ e. rw e at both), ((λ e. rw e at both), tt)) l (omega arith) refl
+        pub type-arithmetic : 11 ≤ d .kind → (d .kind ≡ 13 → ⊥) → (d .kind ≡ 14 → ⊥) → typeOf M n ≡ arithmeticType (typeOf M (d .a)) (typeOf M (d .b))
+        type-arithmetic l e f = both ∙ sym (arithmetic-by M d (typeOf M (d .a)) (typeOf M (d .b)) l e f)
 
         pub type-equal : d .kind ≡ 13 → typeOf M n ≡ equalType (typeOf M (d .a)) (typeOf M (d .b))
         unfolding typeBy
@@ -126,7 +145,7 @@ module _ (p q t : ℕ) (known : t ≤ 2) where
       let h : p ≡ q = eqb-true p q (and-left (eqb p q) _ g) in
       (sym f, (omega arith, ⊎-elim (λ u. omega (arith, eqb-true p logic u)) (λ u. omega (arith, eqb-true p boolean u)) (or-cases (eqb p logic) _ (and-right (eqb p q) _ g))))
 
-  -- a sum, a difference or a comparison, x being its type
+  -- two integers, x being what they give
   pub integers-known : (x : ℕ) → t ≡ (eqb p integer && eqb q integer ⇒ x ∣ mistyped) → (t ≡ x) × ((p ≡ integer) × (q ≡ integer))
   integers-known x e =
       let g = passed (eqb p integer && eqb q integer) x (rw e at known) in

@@ -69,7 +69,8 @@ abbrev pub mistyped : ℕ
 mistyped = 3
 
 -- "6 to 9 take logic or boolean, both alike, and give that type; 10 to 12 take and give integers; 13 takes two integers or two
--- logic values, 14 two integers, both give boolean": the type of a node, p and q being those of its operands
+-- logic values, 14 two integers, both give boolean"; 15 to 18 have operands "as those of kinds 10 to 12" (document 02, item 2):
+-- the type of a node, p and q being those of its operands
 unfoldable pub typeBy : Model → NodeRecord → ℕ → ℕ → ℕ
 typeBy M d p q =
     d .kind is 1 ⇒ integer

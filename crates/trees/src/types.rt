@@ -86,7 +86,9 @@ fn type_by<'a>(m: &'a [u8], index: &'a Index, d: NodeRecord, p: usize, q: usize)
             BOOLEAN,
             MISTYPED,
         ),
-        _ => choose((p == INTEGER) & (q == INTEGER), BOOLEAN, MISTYPED),
+        14 => choose((p == INTEGER) & (q == INTEGER), BOOLEAN, MISTYPED),
+        15..=18 => choose((p == INTEGER) & (q == INTEGER), INTEGER, MISTYPED),
+        _ => MISTYPED,
     }
 }
 

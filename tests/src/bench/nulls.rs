@@ -1,6 +1,7 @@
 //! Bus and register signals and null transactions.
 
 use super::*;
+use crate::integers::TOP;
 use crate::values::LETTERS;
 
 const LINES: [u8; 2] = [BUS, REGISTER];
@@ -181,8 +182,6 @@ fn fault_order_of_a_null() {
         assert_eq!(c.drivers[0].wave.len(), 8);
     }
 }
-
-const TOP: i32 = 2_147_483_647;
 
 #[test]
 fn the_past_of_a_line() {

@@ -16,16 +16,16 @@
 //! same end: a failure at that time, or a stop by `--stop-delta`. Fault 3 is
 //! foreign to VHDL: such a run is compared up to the time before, and left out
 //! if no signal changes before. The exit code is 1 on any difference, where too
-//! few models show what guarded signals and null transactions do before their
-//! last settled values, and with the feature `session` also where the proved
+//! few models show what the features of document 02 do before their last settled
+//! values, and with the feature `session` also where the proved
 //! kernel played too few: a run of more than 4,096 orders is the second kernel's,
 //! one lively model in ten at most.
 
 use second_kernel::builder::Builder;
 use second_kernel::cycle::{Config, Step, DELTA_LIMIT, NINTH, TIME_LIMIT};
+use second_kernel::features::{self, arithmetic, nulls, Seen, FEATURES};
 use second_kernel::gen;
 use second_kernel::model::{self, Model, ABSENT, BUS, INTEGER, LOGIC, PLAIN, REGISTER};
-use second_kernel::nulls::{self, Seen};
 use second_kernel::numbers::Counts;
 use second_kernel::tally;
 use second_kernel::vhdl::{self, Form};
@@ -40,7 +40,9 @@ const TIME_STEPS: usize = 60;
 /// then one has made the number that the translation allows.
 const PICKS: usize = 16 * vhdl::STEPS;
 
-const NULL_DUE: [&str; 2] = [nulls::DUE_ON_BUS, nulls::DUE_ON_REGISTER];
+/// What many models must show: nulls that come due in one lively model of five,
+/// operators that are done in one of ten.
+const OFTEN: [(&[&str], u64); 2] = [(&nulls::DUE, 5), (&arithmetic::OPERATORS, 10)];
 
 /// Signal values at a time.
 type Row = (u64, Vec<i32>);
@@ -62,7 +64,7 @@ struct Run {
     rows: Vec<Row>,
     /// The orders of the run, with reads of all signals where a row is taken.
     orders: Vec<[u8; 4]>,
-    /// What it shows of bus, register and null up to the last row.
+    /// What it shows of the features up to the last row.
     shown: Seen,
     end: End,
     /// The time up to which GHDL is to run.
@@ -129,7 +131,7 @@ fn run(m: &Model) -> Run {
         End::TimeSteps | End::Ninth => rows.last().map_or(0, |r| r.0),
         _ => c.time,
     };
-    let shown = nulls::of_session(m, &orders[..compared].concat());
+    let shown = features::of_session(m, &orders[..compared].concat());
     Run {
         rows,
         orders,
@@ -205,9 +207,10 @@ enum Outcome {
 
 /// What GHDL says where the model faults or never waits: the translation's own
 /// words, and GHDL's for an overflow at run time and in a constant expression.
-const FAILURES: [&str; 5] = [
+const FAILURES: [&str; 6] = [
     "fault 1",
     "fault 2",
+    "fault 4",
     "no wait",
     "overflow detected",
     "bound check failure",
@@ -291,7 +294,7 @@ struct Case {
     lively: bool,
     stop: u64,
     changes: Vec<Row>,
-    /// What the run shows of bus, register and null up to the last row.
+    /// What the run shows of the features up to the last row.
     shown: Seen,
     end: End,
 }
@@ -319,9 +322,9 @@ impl Case {
         }
     }
 
-    /// Does a null come due on a bus or a register, settled values after it?
-    fn has_null_due(&self) -> bool {
-        NULL_DUE.iter().any(|what| self.shown.contains(what))
+    /// Does it show one of these, settled values after it?
+    fn shows(&self, names: &[&str]) -> bool {
+        names.iter().any(|what| self.shown.contains(what))
     }
 
     /// The model of `session_case`'s seed, if it is accepted.
@@ -441,15 +444,18 @@ fn show(seed: u64) {
     println!("-- end {end:?}, GHDL up to {stop}");
 }
 
-/// Err where too few of the models compared show what a null does: of n lively
-/// ones a null due on a bus or a register in every fifth, the others in every
-/// hundredth; in a small run nothing is due.
-fn guarded_due(shown: &Counts<&'static str>, n: u64) -> Result<(), String> {
+/// Err where too few of the models compared show what a feature does: beside
+/// `OFTEN` each thing in one of a hundred lively models; in a small run nothing is
+/// due.
+fn features_due(shown: &Counts<&'static str>, n: u64) -> Result<(), String> {
     if n < 100 {
         return Ok(());
     }
-    shown.require("models with", &NULL_DUE, n / 5)?;
-    shown.require("models with", nulls::SESSION, n / 100)
+    for (names, share) in OFTEN {
+        shown.require("models with", names, n / share)?;
+    }
+    let all: Vec<&str> = FEATURES.iter().flat_map(|f| (f.session)()).collect();
+    shown.require("models with", &all, n / 100)
 }
 
 /// Err where the proved kernel played too few of the lively models.
@@ -514,8 +520,10 @@ fn main() {
     for what in cases.iter().flat_map(|c| &c.shown) {
         shown.add(what);
     }
-    println!("bus, register and null in the models that are compared");
-    tally::print_shown(&shown, nulls::SESSION);
+    for feature in FEATURES {
+        println!("{} in the models that are compared", feature.name);
+        tally::print_shown(&shown, &(feature.session)());
+    }
     let dir = scratch();
     let bad = compare_all(&cases, &alter, &dir);
     for (name, e) in bad.iter().take(10) {
@@ -523,16 +531,18 @@ fn main() {
     }
     let rows: usize = cases.iter().map(|c| c.changes.len() - 1).sum();
     let proved = cases.iter().filter(|c| c.proved).count();
-    let nulls = cases.iter().filter(|c| c.has_null_due()).count();
+    let [nulls, operators] =
+        OFTEN.map(|(names, _)| cases.iter().filter(|c| c.shows(names)).count());
     println!(
-        "ghdlrun: {} models ({proved} played by the proved kernel, {nulls} with nulls that came due), \
-         {rows} changes of settled values, {} models differ",
+        "ghdlrun: {} models ({proved} played by the proved kernel, {nulls} with nulls that came due, \
+         {operators} with products, quotients, mods or rems), {rows} changes of settled values, \
+         {} models differ",
         cases.len(),
         bad.len()
     );
     let _ = std::fs::remove_dir_all(&dir);
     let mut wrong = !bad.is_empty();
-    for due in [guarded_due(&shown, n as u64), proved_due(&cases)] {
+    for due in [features_due(&shown, n as u64), proved_due(&cases)] {
         if let Err(e) = due {
             eprintln!("ghdlrun: {e}");
             wrong = true;

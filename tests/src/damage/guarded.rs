@@ -143,48 +143,10 @@ const OWNER_AND_NULL: &[Way] = &[
     }),
 ];
 
-/// The damages with the number that each comes to.
-const WAYS: &[(u32, &[Way])] = &[
+pub const GUARDED: Ways = Ways(&[
     (5, FIELD),
     (7, TYPE),
     (8, OWNER),
     (8, OWNER_AND_NULL),
     (20, NULL),
-];
-
-/// The number and the name of each way to damage bus, register and null.
-pub fn guarded_ways() -> Vec<(u32, &'static str)> {
-    let ways = WAYS.iter();
-    ways.flat_map(|&(rule, ways)| ways.iter().map(move |way| (rule, way.0)))
-        .collect()
-}
-
-/// A model damaged in one of these ways, each as likely: the number, how, and
-/// the bytes.
-pub fn guarded(rng: &mut Rng) -> (u32, &'static str, Vec<u8>) {
-    let ways: Vec<usize> = WAYS.iter().map(|(_, ways)| ways.len()).collect();
-    let (rule, ways) = WAYS[rng.weighted(&ways)];
-    let (name, op) = rng.choose(ways);
-    loop {
-        let mut s = subject(rng);
-        if op(rng, &mut s).is_some() {
-            return (rule, name, s.bytes(rng));
-        }
-    }
-}
-
-#[cfg(test)]
-mod tests {
-    use super::*;
-
-    #[test]
-    fn every_way_comes_out_as_made() {
-        let mut seen = std::collections::BTreeSet::new();
-        for seed in 0..8_000 {
-            let (rule, name, bytes) = guarded(&mut Rng::new(seed));
-            assert_eq!(judge(&bytes), rule, "{name}, seed {seed}");
-            seen.insert((rule, name));
-        }
-        assert_eq!(seen, guarded_ways().into_iter().collect());
-    }
-}
+]);

@@ -3,6 +3,7 @@
 use crate::builder::Builder;
 use crate::cases::{self, in_64_blocks, inverter, inverter_orders, largest, ADVANCE, READ, SETTLE};
 use crate::damage;
+use crate::features::FEATURES;
 use crate::gen;
 use crate::model::*;
 use crate::numbers;
@@ -98,9 +99,11 @@ fn damaged_models() -> Vec<Case> {
             }
         }
     }
-    for seed in 0..40 {
-        let (rule, what, model) = damage::guarded(&mut Rng::new(seed));
-        list.push(Case::new(what, &model, &inverter_orders(), rule));
+    for feature in FEATURES {
+        for seed in 0..40 {
+            let (rule, what, model) = feature.damages.damaged(&mut Rng::new(seed));
+            list.push(Case::new(what, &model, &inverter_orders(), rule));
+        }
     }
     list
 }

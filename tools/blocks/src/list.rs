@@ -40,7 +40,11 @@ fn expression(m: &Model, n: u16) -> String {
         11 => two("+"),
         12 => two("-"),
         13 => two("="),
-        _ => two("<"),
+        14 => two("<"),
+        15 => two("*"),
+        16 => two("/"),
+        17 => two("mod"),
+        _ => two("rem"),
     }
 }
 
@@ -128,7 +132,7 @@ mod tests {
     // uses is lost, so models that have one are passed over, and those that grow past a limit.
     #[test]
     fn a_listing_makes_a_model_that_does_the_same() {
-        let (mut compared, mut with_null) = (0, 0);
+        let (mut compared, mut with_null, mut with_division) = (0, 0, 0);
         for seed in 0..4_000 {
             let mut rng = Rng::new(seed);
             let m = gen::model(&mut rng);
@@ -140,10 +144,12 @@ mod tests {
                 assert_eq!(session::print(&ours, &orders), session::print(&theirs, &orders), "seed {seed}");
                 compared += 1;
                 with_null += m.statements.iter().any(|s| s.kind == 6) as usize;
+                with_division += m.nodes.iter().any(|d| (16..=18).contains(&d.kind)) as usize;
             }
         }
         assert!(compared > 500, "{compared} models compared");
         assert!(with_null > 100, "{with_null} of them with a null transaction");
+        assert!(with_division > 100, "{with_division} of them with a division");
     }
 
     #[test]

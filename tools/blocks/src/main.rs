@@ -37,14 +37,12 @@ fn run(words: &[&str]) -> Result<(), String> {
         }
         ["list", from] => {
             let bytes = read(from)?;
-            let model = second_kernel::model::load(&bytes)
-                .map_err(|n| format!("{from}: the kernel refuses this model with {n}"))?;
+            let model =
+                second_kernel::model::load(&bytes).map_err(|n| format!("{from}: the kernel refuses this model with {n}"))?;
             print!("{}", list::model(&model));
             Ok(())
         }
-        ["orders", from, to] => {
-            write(to, &text::orders(&read_text(from)?).map_err(|e| format!("{from}: {e}"))?)
-        }
+        ["orders", from, to] => write(to, &text::orders(&read_text(from)?).map_err(|e| format!("{from}: {e}"))?),
         ["show", from] => {
             print!("{}", list::orders(&read(from)?));
             Ok(())

@@ -13,16 +13,21 @@
 //!     wait [on SIGNAL, ..] [until EXPRESSION] [for EXPRESSION]
 //!
 //! TYPE is integer, logic or (variables) boolean. A signal without `bus` or `register` is plain; these two are for logic signals,
-//! and only they take null transactions (the kernel refuses others with 20). `null` is no name and no value.
+//! and only they take null transactions (the kernel refuses others with 20). `null` is no value. A process gets a driver for each
+//! signal that it assigns, also where it assigns only null.
 //!
 //! EXPRESSION: an integer, a logic value as '0' or 'U', a name, `SIGNAL delayed K`, `not e`, `- e`, `e OP e` with OP one of
-//! `and or xor = < + -`, and parentheses. `= <` bind weaker than `+ -`; `and or xor` weaker than those; equal ones group to the
-//! left. A process gets a driver for each signal that it assigns, also where it assigns only null.
+//! `and or xor = < + - * / mod rem`, and parentheses. As in VHDL, `not` binds strongest, then `* / mod rem`, `+ -`, `= <`, and
+//! `and or xor` weakest; those that bind alike group to the left. A minus sign binds as `+ -` do: `- a mod b` is `- (a mod b)`,
+//! and after `* / mod rem` a negative operand has parentheses, as in `a * (- b)`.
+//!
+//! The words `null not and or xor mod rem` are reserved: they name nothing.
 //!
 //! Orders: `pick P`, `advance`, `settle N`, `read S`, with numbers.
 
 use second_kernel::model::*;
 use std::collections::BTreeSet;
+use std::fmt;
 
 const CODES: &str = "UX01ZWLH-";
 
@@ -34,7 +39,40 @@ enum Token {
     Sign(&'static str),
 }
 
-const SIGNS: [&str; 11] = [":=", "<=", "(", ")", ",", ":", "=", "<", "+", "-", ";"];
+impl fmt::Display for Token {
+    fn fmt(&self, f: &mut fmt::Formatter) -> fmt::Result {
+        match self {
+            Token::Word(w) => write!(f, "`{w}`"),
+            Token::Number(n) => write!(f, "`{n}`"),
+            Token::Logic(c) => write!(f, "`'{}'`", CODES.as_bytes()[*c as usize] as char),
+            Token::Sign(s) => write!(f, "`{s}`"),
+        }
+    }
+}
+
+const SIGNS: [&str; 13] = [":=", "<=", "(", ")", ",", ":", "=", "<", "+", "-", "*", "/", ";"];
+
+/// The operators of two operands with their node kinds, those that bind alike on one level, the weakest first.
+const LEVELS: [&[(&str, u8)]; 4] = [
+    &[("and", 7), ("or", 8), ("xor", 9)],
+    &[("=", 13), ("<", 14)],
+    &[("+", 11), ("-", 12)],
+    &[("*", 15), ("/", 16), ("mod", 17), ("rem", 18)],
+];
+
+/// The level of `+` and `-`; a minus sign binds alike.
+const ADDING: usize = 2;
+
+fn is_reserved(word: &str) -> bool {
+    word == "null" || word == "not" || LEVELS.iter().any(|level| level.iter().any(|o| o.0 == word))
+}
+
+fn not_reserved(word: String) -> Result<String, String> {
+    if is_reserved(&word) {
+        return Err(format!("`{word}` is a reserved word, not a name"));
+    }
+    Ok(word)
+}
 
 fn tokens(line: &str) -> Result<Vec<Token>, String> {
     let line = line.split("--").next().unwrap_or("");
@@ -112,16 +150,13 @@ impl Reader {
     fn word(&mut self) -> Result<String, String> {
         match self.next()? {
             Token::Word(w) => Ok(w),
-            t => Err(format!("a name is expected, not {t:?}")),
+            t => Err(format!("a name is expected, not {t}")),
         }
     }
 
     /// The name of something new.
     fn new_name(&mut self) -> Result<String, String> {
-        match self.word()? {
-            w if w == "null" => Err("`null` is no name".to_string()),
-            w => Ok(w),
-        }
+        not_reserved(self.word()?)
     }
 
     fn signal(&self, name: &str) -> Result<u16, String> {
@@ -140,13 +175,14 @@ impl Reader {
             (Token::Number(n), INTEGER) if n <= i32::MAX as i64 => Ok(if minus { -(n as i32) } else { n as i32 }),
             (Token::Logic(c), LOGIC) if !minus => Ok(c as i32),
             (Token::Word(w), BOOLEAN) if w == "true" || w == "false" => Ok((w == "true") as i32),
-            (t, _) => Err(format!("{t:?} is no value of this type")),
+            (t, _) => Err(format!("{t} is no value of this type")),
         }
     }
 
     fn atom(&mut self) -> Result<u16, String> {
         match self.next()? {
             Token::Number(n) if n <= i32::MAX as i64 => Ok(self.node(1, 0, 0, n as i32)),
+            Token::Number(n) => Err(format!("{n} is out of range: integers go up to {}", i32::MAX)),
             Token::Logic(c) => Ok(self.node(2, 0, 0, c as i32)),
             Token::Sign("(") => {
                 let e = self.expression()?;
@@ -155,16 +191,13 @@ impl Reader {
                 }
                 Ok(e)
             }
-            Token::Sign("-") => {
-                let e = self.atom()?;
-                Ok(self.node(10, e, 0, 0))
-            }
+            Token::Sign("-") => Err("a minus sign has parentheses here: `(- ..)`".to_string()),
             Token::Word(w) if w == "not" => {
                 let e = self.atom()?;
                 Ok(self.node(6, e, 0, 0))
             }
             Token::Word(w) if w == "null" => Err("`null` is no value: it stands alone between `<=` and `after`".to_string()),
-            Token::Word(w) => {
+            Token::Word(w) if !is_reserved(&w) => {
                 if let Some(v) = self.variables.iter().rposition(|n| *n == w) {
                     return Ok(self.node(3, v as u16, 0, 0));
                 }
@@ -174,15 +207,14 @@ impl Reader {
                 }
                 match self.next()? {
                     Token::Number(k) if k <= 31 => Ok(self.node(5, s, 0, k as i32)),
-                    t => Err(format!("a delay is a number from 0 to 31, not {t:?}")),
+                    t => Err(format!("a delay is a number from 0 to 31, not {t}")),
                 }
             }
-            t => Err(format!("an expression cannot begin with {t:?}")),
+            t => Err(format!("an operand cannot begin with {t}")),
         }
     }
 
     fn operator(&mut self, level: usize) -> Option<u8> {
-        const LEVELS: [&[(&str, u8)]; 3] = [&[("and", 7), ("or", 8), ("xor", 9)], &[("=", 13), ("<", 14)], &[("+", 11), ("-", 12)]];
         let found = match self.peek()? {
             Token::Word(w) => LEVELS[level].iter().find(|o| o.0 == w),
             Token::Sign(s) => LEVELS[level].iter().find(|o| o.0 == *s),
@@ -192,13 +224,22 @@ impl Reader {
         Some(found.1)
     }
 
+    /// An operand of the operators of `level`.
+    fn operand(&mut self, level: usize) -> Result<u16, String> {
+        if level == ADDING && self.takes(&Token::Sign("-")) {
+            let e = self.operand(level)?;
+            return Ok(self.node(10, e, 0, 0));
+        }
+        self.level(level + 1)
+    }
+
     fn level(&mut self, level: usize) -> Result<u16, String> {
-        if level == 3 {
+        if level == LEVELS.len() {
             return self.atom();
         }
-        let mut left = self.level(level + 1)?;
+        let mut left = self.operand(level)?;
         while let Some(kind) = self.operator(level) {
-            let right = self.level(level + 1)?;
+            let right = self.operand(level)?;
             left = self.node(kind, left, right, 0);
         }
         Ok(left)
@@ -314,7 +355,7 @@ impl Reader {
                 self.jump(3, b, line)
             }
             "wait" => self.wait(),
-            name => self.assignment(name),
+            _ => self.assignment(&not_reserved(word)?),
         }
     }
 }
@@ -329,7 +370,7 @@ pub fn model(text: &str) -> Result<Vec<u8>, String> {
         if !r.items.is_empty() {
             r.item(i + 1).map_err(at)?;
             if let Some(t) = r.peek() {
-                return Err(at(format!("{t:?} is one too many")));
+                return Err(at(format!("{t} is one too many")));
             }
         }
     }
@@ -363,6 +404,7 @@ pub fn orders(text: &str) -> Result<Vec<u8>, String> {
 #[cfg(test)]
 mod tests {
     use super::*;
+    use crate::list;
 
     // Process card_b assigns only null, and has its driver all the same.
     #[test]
@@ -400,6 +442,137 @@ process card_b
         }
     }
 
+    const OPERANDS: &str = "\
+signal s0 integer 0
+process p0
+  variable v0 integer 0
+  variable v1 integer 0
+  variable v2 integer 0
+  variable v3 boolean false
+";
+
+    #[test]
+    fn products_quotients_and_remainders() {
+        for (operator, kind) in [("*", 15), ("/", 16), ("mod", 17), ("rem", 18)] {
+            let text = format!("{OPERANDS}v2 := v0 {operator} v1");
+            let m = load(&model(&text).expect("a model text")).expect("an accepted model");
+            let variable = |a| NodeRecord { kind: 3, a, b: 0, k: 0 };
+            assert_eq!(m.nodes, [variable(0), variable(1), NodeRecord { kind, a: 0, b: 1, k: 0 }], "{operator}");
+        }
+    }
+
+    // A listing shows each group in parentheses, and makes the same blocks.
+    #[test]
+    fn operators_group_as_in_vhdl() {
+        for (read, grouped) in [
+            ("v0 := v0 * v1 - v2", "v0 := ((v0 * v1) - v2)"),
+            ("v0 := v0 - v1 * v2", "v0 := (v0 - (v1 * v2))"),
+            ("v0 := v0 + v1 / v2", "v0 := (v0 + (v1 / v2))"),
+            ("v0 := v0 - v1 mod v2 + v0", "v0 := ((v0 - (v1 mod v2)) + v0)"),
+            ("v0 := v0 rem v1 + v2", "v0 := ((v0 rem v1) + v2)"),
+            ("v0 := v0 / v1 / v2", "v0 := ((v0 / v1) / v2)"),
+            ("v0 := v0 / (v1 / v2)", "v0 := (v0 / (v1 / v2))"),
+            ("v0 := v0*1000/v1", "v0 := ((v0 * 1000) / v1)"),
+            ("v0 := v0 / v1 * v2", "v0 := ((v0 / v1) * v2)"),
+            ("v0 := v0 mod v1 rem v2 mod 7", "v0 := (((v0 mod v1) rem v2) mod 7)"),
+            ("v0 := (v0)mod(v1 rem v2)", "v0 := (v0 mod (v1 rem v2))"),
+            ("v0 := (v0 - v1) * v2", "v0 := ((v0 - v1) * v2)"),
+            ("v0 := - v0 mod v1", "v0 := (- (v0 mod v1))"),
+            ("v0 := (- v0) mod v1", "v0 := ((- v0) mod v1)"),
+            ("v0 := - v0 + v1", "v0 := ((- v0) + v1)"),
+            ("v0 := v0 - - v1 * v2", "v0 := (v0 - (- (v1 * v2)))"),
+            ("v0 := - - v0", "v0 := (- (- v0))"),
+            ("v0 := 2147483647 * (- 2147483647)", "v0 := (2147483647 * (- 2147483647))"),
+            ("v0 := - 2147483647 / 2147483647", "v0 := (- (2147483647 / 2147483647))"),
+            ("v0 := s0 delayed 31 rem s0 delayed 0", "v0 := ((s0 delayed 31) rem (s0 delayed 0))"),
+            ("v3 := v0 * v1 < v2 + v0 rem v1", "v3 := ((v0 * v1) < (v2 + (v0 rem v1)))"),
+            ("v3 := v0 = - v1 / v2", "v3 := (v0 = (- (v1 / v2)))"),
+            ("v3 := not v3 and v0 mod v1 = 0", "v3 := ((not v3) and ((v0 mod v1) = 0))"),
+            ("s0 <= v0 / v1 after v0 mod 10", "s0 <= (v0 / v1) after (v0 mod 10)"),
+            ("wait until v0 rem v1 = 0 for v0 * v1", "wait until ((v0 rem v1) = 0) for (v0 * v1)"),
+        ] {
+            let blocks = model(&format!("{OPERANDS}{read}")).expect(read);
+            let listed = list::model(&load(&blocks).expect(read));
+            assert_eq!(listed.lines().last(), Some(format!("  {grouped}").as_str()), "{read}");
+            assert_eq!(model(&listed), Ok(blocks), "{read}");
+        }
+    }
+
+    // Like wrong types, this is the kernel's to refuse.
+    #[test]
+    fn division_is_for_integers() {
+        for operator in ["*", "/", "mod", "rem"] {
+            for (operands, number) in [(["v0", "v1"], 0), (["v0", "'1'"], 7), (["'1'", "v1"], 7), (["(v0 = v1)", "v2"], 7)] {
+                let text = format!("{OPERANDS}v2 := {} {operator} {}", operands[0], operands[1]);
+                assert_eq!(model(&text).map(|blocks| judge(&blocks)), Ok(number), "{text}");
+            }
+        }
+    }
+
+    #[test]
+    fn wrong_expressions_are_told() {
+        let missing = "something is missing at the end of the line";
+        let sign = "a minus sign has parentheses here: `(- ..)`";
+        let too_large = "2147483648 is out of range: integers go up to 2147483647";
+        for (expression, error) in [
+            ("* 3", "an operand cannot begin with `*`"),
+            ("/ v1", "an operand cannot begin with `/`"),
+            ("mod 3", "an operand cannot begin with `mod`"),
+            ("rem", "an operand cannot begin with `rem`"),
+            ("v0 *", missing),
+            ("v0 /", missing),
+            ("v0 mod", missing),
+            ("v0 rem", missing),
+            ("v0 ** 2", "an operand cannot begin with `*`"),
+            ("v0 /= 2", "an operand cannot begin with `=`"),
+            ("v0 mod rem 2", "an operand cannot begin with `rem`"),
+            ("v0 mod and", "an operand cannot begin with `and`"),
+            ("v0 / 'Z' 'L'", "`'L'` is one too many"),
+            ("v0 mod3", "`mod3` is one too many"),
+            ("v0 MOD 3", "`MOD` is one too many"),
+            ("v0 % 3", "`%` means nothing here"),
+            ("(v0 * 3", "`)` is missing"),
+            ("v0 * 3)", "`)` is one too many"),
+            ("v0 * - 3", sign),
+            ("v0 mod - v1", sign),
+            ("not - v0", sign),
+            ("v0 * 2147483648", too_large),
+            ("- 2147483648", too_large),
+            ("v0 * null", "`null` is no value: it stands alone between `<=` and `after`"),
+        ] {
+            assert_eq!(model(&format!("{OPERANDS}v0 := {expression}")), Err(format!("line 7: {error}")), "{expression}");
+        }
+    }
+
+    #[test]
+    fn starting_values_at_the_ends_of_the_range() {
+        let started = |value| {
+            model(&format!("signal s integer {value}\nprocess p\nwait"))
+                .and_then(|blocks| load(&blocks).map(|m| m.signals[0].start).map_err(|number| number.to_string()))
+        };
+        assert_eq!(started("2147483647"), Ok(2_147_483_647));
+        assert_eq!(started("- 2147483647"), Ok(-2_147_483_647));
+        let outside = Err("line 1: `2147483648` is no value of this type".to_string());
+        assert_eq!(started("2147483648"), outside);
+        assert_eq!(started("- 2147483648"), outside);
+    }
+
+    #[test]
+    fn operators_and_null_are_no_names() {
+        for word in ["mod", "rem", "and", "or", "xor", "not"] {
+            for text in ["signal W integer 0", "process W", "process p\nvariable W integer 0", "process p\nW:", "process p\nW := 3"]
+            {
+                let line = text.lines().count();
+                let error = format!("line {line}: `{word}` is a reserved word, not a name");
+                assert_eq!(model(&text.replace('W', word)), Err(error), "{word} in {text}");
+            }
+        }
+        for name in ["modulus", "rem_1", "remainder", "Mod"] {
+            let text = format!("signal {name} integer 7\nprocess p\n{name} <= {name} mod 3 after 0");
+            assert_eq!(model(&text).map(|blocks| judge(&blocks)), Ok(0), "{name}");
+        }
+    }
+
     #[test]
     fn wrong_texts_are_told_with_their_line() {
         let for_logic = "`bus` and `register` are for logic signals";
@@ -410,8 +583,8 @@ process card_b
             ("signal s boolean bus true", 1, for_logic),
             ("process p\nvariable v logic register '0'", 2, for_logic),
             ("process p\nvariable v integer bus 0", 2, for_logic),
-            ("signal s logic bus register 'Z'", 1, "Word(\"register\") is no value of this type"),
-            ("signal s logic 'Z' bus", 1, "Word(\"bus\") is one too many"),
+            ("signal s logic bus register 'Z'", 1, "`register` is no value of this type"),
+            ("signal s logic 'Z' bus", 1, "`bus` is one too many"),
             ("signal s logic bus", 1, "something is missing at the end of the line"),
             ("signal s logic bus 'Z'\nprocess p\ns <= null", 3, "`after` and a delay are missing"),
             ("signal s logic bus 'Z'\nprocess p\ns <= null after", 3, "something is missing at the end of the line"),
@@ -421,10 +594,10 @@ process card_b
             ("process p\nvariable v logic '0'\nv := null", 3, no_value),
             ("process p\nt <= null after 0", 2, "there is no signal `t`"),
             ("signal s logic bus 'Z'\ns <= null after 0", 2, "a statement stands before the first process"),
-            ("signal null logic bus 'Z'", 1, "`null` is no name"),
-            ("process p\nvariable null logic 'Z'", 2, "`null` is no name"),
-            ("process null", 1, "`null` is no name"),
-            ("process p\nnull:", 2, "Sign(\":\") is one too many"),
+            ("signal null logic bus 'Z'", 1, "`null` is a reserved word, not a name"),
+            ("process p\nvariable null logic 'Z'", 2, "`null` is a reserved word, not a name"),
+            ("process null", 1, "`null` is a reserved word, not a name"),
+            ("process p\nnull:", 2, "`:` is one too many"),
         ] {
             assert_eq!(model(text), Err(format!("line {line}: {error}")), "{text}");
         }

@@ -22,10 +22,14 @@ use Rattle.expressions.proofs.operators.decided.Reads as decided-reads
 use Rattle.expressions.proofs.operators.equal.Reads as equal-reads
 use Rattle.expressions.proofs.operators.less.Reads as less-reads
 use Rattle.expressions.proofs.operators.minus.Reads as minus-reads
+use Rattle.expressions.proofs.operators.modulo.Reads as modulo-reads
 use Rattle.expressions.proofs.operators.negate.Reads as negate-reads
 use Rattle.expressions.proofs.operators.not.Reads as not-reads
 use Rattle.expressions.proofs.operators.or.Reads as or-reads
 use Rattle.expressions.proofs.operators.plus.Reads as plus-reads
+use Rattle.expressions.proofs.operators.product.Reads as product-reads
+use Rattle.expressions.proofs.operators.quotient.Reads as quotient-reads
+use Rattle.expressions.proofs.operators.rem.Reads as rem-reads
 use Rattle.expressions.proofs.operators.xor.Reads as xor-reads
 use Rattle.expressions.proofs.eval.+eval.{statement}
 use Rattle.expressions.proofs.eval.+eval.Tie.{close}
@@ -72,6 +76,14 @@ unfolding valueBy
   equal-reads.Learnt,
   less-reads.Asked,
   less-reads.Learnt,
+  product-reads.Asked,
+  product-reads.Learnt,
+  quotient-reads.Asked,
+  quotient-reads.Learnt,
+  modulo-reads.Asked,
+  modulo-reads.Learnt,
+  rem-reads.Asked,
+  rem-reads.Learnt,
 )
     (eval-at t)
     eval.Post
@@ -181,6 +193,38 @@ unfolding valueBy
     call-b (h .before .before .before .pre) (h .before .node-at .ensures) (omega arith) (λ z. omega arith))
     -- less-requires
     (λ c κs. search needs)
+    -- eval-requires-17
+    (λ c κs. call-a (c .before .before .before .pre) (c .before .node-at .ensures) (omega arith))
+    -- eval-requires-18
+    (λ c κs.
+    let h = c .before in
+    call-b (h .before .before .before .pre) (h .before .node-at .ensures) (omega arith) (λ z. omega arith))
+    -- product-requires
+    (λ c κs. search needs)
+    -- eval-requires-19
+    (λ c κs. call-a (c .before .before .before .pre) (c .before .node-at .ensures) (omega arith))
+    -- eval-requires-20
+    (λ c κs.
+    let h = c .before in
+    call-b (h .before .before .before .pre) (h .before .node-at .ensures) (omega arith) (λ z. omega arith))
+    -- quotient-requires
+    (λ c κs. search needs)
+    -- eval-requires-21
+    (λ c κs. call-a (c .before .before .before .pre) (c .before .node-at .ensures) (omega arith))
+    -- eval-requires-22
+    (λ c κs.
+    let h = c .before in
+    call-b (h .before .before .before .pre) (h .before .node-at .ensures) (omega arith) (λ z. omega arith))
+    -- modulo-requires
+    (λ c κs. search needs)
+    -- eval-requires-23
+    (λ c κs. call-a (c .before .before .before .pre) (c .before .node-at .ensures) (omega arith))
+    -- eval-requires-24
+    (λ c κs.
+    let h = c .before in
+    call-b (h .before .before .before .pre) (h .before .node-at .ensures) (omega arith) (λ z. omega arith))
+    -- rem-requires
+    (λ c κs. search needs)
     -- returns-3
     (λ c. leaf-value (c .before .before .before .pre) (c .before .node-at .ensures) _ refl (λ p q. rw (c .match .keys1)))
     -- returns-4
@@ -238,4 +282,20 @@ unfolding valueBy
     let h = c .before .before .before in
     binary-value (h .before .before .before .pre) (h .before .node-at .ensures) _ refl (c .before .before .eval15 .ensures) (c .before .eval16 .ensures) (rw (h .match .keys14) (c .less .ensures)))
     -- returns-17
+    (λ c.
+    let h = c .before .before .before in
+    binary-value (h .before .before .before .pre) (h .before .node-at .ensures) _ refl (c .before .before .eval17 .ensures) (c .before .eval18 .ensures) (rw (h .match .keys15) (c .product .ensures)))
+    -- returns-18
+    (λ c.
+    let h = c .before .before .before in
+    binary-value (h .before .before .before .pre) (h .before .node-at .ensures) _ refl (c .before .before .eval19 .ensures) (c .before .eval20 .ensures) (rw (h .match .keys16) (c .quotient .ensures .0)))
+    -- returns-19
+    (λ c.
+    let h = c .before .before .before in
+    binary-value (h .before .before .before .pre) (h .before .node-at .ensures) _ refl (c .before .before .eval21 .ensures) (c .before .eval22 .ensures) (rw (h .match .keys17) (c .modulo .ensures)))
+    -- returns-20
+    (λ c.
+    let h = c .before .before .before in
+    binary-value (h .before .before .before .pre) (h .before .node-at .ensures) _ refl (c .before .before .eval23 .ensures) (c .before .eval24 .ensures) (rw (h .match .keys18) (c .rem .ensures)))
+    -- returns-21
     (λ c. no-other (c .before .before .before .pre) (c .before .node-at .ensures) (c .match .rest))

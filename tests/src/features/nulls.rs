@@ -1,14 +1,11 @@
 //! What models and sessions show of bus and register signals and of null
 //! transactions, by name. A session is played again pick by pick, and its
-//! drivers are looked at before and after. A large comparison must meet each:
-//! what is new is added here.
+//! drivers are looked at before and after.
 
+use super::{replay, Player, Seen};
 use crate::cycle::*;
 use crate::model::*;
 use crate::values;
-use std::collections::BTreeSet;
-
-pub type Seen = BTreeSet<&'static str>;
 
 /// A pending transaction.
 type Pending = (u64, Carried);
@@ -32,8 +29,8 @@ pub const MODEL: &[&str] = &[
     ONLY_NULLS,
 ];
 
-pub const DUE_ON_BUS: &str = "a null due on a bus";
-pub const DUE_ON_REGISTER: &str = "a null due on a register";
+const DUE_ON_BUS: &str = "a null due on a bus";
+const DUE_ON_REGISTER: &str = "a null due on a register";
 const NULL_AND_VALUE: &str = "a null and a value due at once";
 const NULL_AGAIN: &str = "a null after a null";
 const ON_AGAIN: &str = "a value after a null";
@@ -56,6 +53,9 @@ const EIGHT_WITH_NULL: &str = "eight pending, a null among them";
 const NULL_EIGHTH: &str = "a null as the eighth pending";
 const OFF_AT_END: &str = "a driver off at the end";
 const PENDING_AT_END: &str = "a null pending at the end";
+
+/// A null that comes due.
+pub const DUE: [&str; 2] = [DUE_ON_BUS, DUE_ON_REGISTER];
 
 /// What a played session can show, but for its faults.
 pub const SESSION: &[&str] = &[
@@ -136,22 +136,7 @@ pub fn of_session(m: &Model, orders: &[u8]) -> Seen {
         return Seen::new();
     }
     let mut play = Play::new(m);
-    for order in orders.chunks_exact(4) {
-        match *order {
-            [1, p, 0, 0] => play.pick(p as usize),
-            [2, 0, 0, 0] => play.advance(),
-            [3, 0, low, high] => {
-                for _ in 0..u16::from_le_bytes([low, high]) {
-                    let ready = |p: &Process| p.standing == READY;
-                    let Some(p) = play.c.processes.iter().position(ready) else {
-                        break;
-                    };
-                    play.pick(p);
-                }
-            }
-            _ => {}
-        }
-    }
+    replay(&mut play, orders);
     play.end();
     play.seen
 }
@@ -181,6 +166,12 @@ impl Play<'_> {
         if when {
             self.seen.insert(what);
         }
+    }
+}
+
+impl Player for Play<'_> {
+    fn config(&self) -> &Config {
+        &self.c
     }
 
     fn pick(&mut self, p: usize) {
@@ -249,7 +240,9 @@ impl Play<'_> {
             }
         }
     }
+}
 
+impl Play<'_> {
     /// Looks at an active bus or register after a delta step.
     fn line(
         &mut self,

@@ -1,0 +1,47 @@
+-- `modulo`: a divisor of 0 is fault 4; by any other the machine divides as the integers do. Assumes nothing.
+use mathlib.Core.Path.{ap, _∙_}
+use borrow.Author.Needs.{needs}
+use borrow.Author.Tests.{ne-eqb}
+use Rattle.rules.specs.Evaluation.{ranged, moduloOf}
+use Rattle.rules.proofs.Signed.{divisible, modulo-is}
+use Rattle.expressions.proofs.operators.modulo.Statement.{statement}
+use Rattle.expressions.proofs.operators.modulo.Tie as tie
+
+pub modulo-spec : {M : Type 1} → statement M
+unfolding moduloOf
+modulo-spec =
+    tie.close
+    (tie.spec
+    -- enum-known-p
+    (λ c. search needs)
+    -- enum-known-p-2
+    (λ c. search needs)
+    -- enum-known-q
+    (λ c. search needs)
+    -- enum-known-q-2
+    (λ c. search needs)
+    -- int-requires
+    (λ c κs. search needs)
+    -- int-requires-2
+    (λ c κs. search needs)
+    -- modulo-requires
+    (λ c κs.
+    let k = c .before .before .before in
+    divisible _ (k .before .before .before .known-told2 .given .0 .1) (c .before .int .ensures) _ (k .known-told4 .given .0 .1) (c .int2 .ensures) (c .before .before .if1 .left))
+    -- in-range-requires
+    (λ c κs. search needs)
+    -- returns
+    (λ c. rw (c .before .p .given .1))
+    -- returns-2
+    (λ c. rw (c .before .before .before .before .p2 .given .1, c .before .q .given .1))
+    -- returns-3
+    (λ c.
+    let k = c .before in
+    rw (k .before .before .before .before .p2 .given .1, k .before .q2 .given .1, c .if1 .taken))
+    -- returns-4
+    (λ c.
+    let i = c .before .before .before in
+    let k = i .before .before in
+    rw (k .before .before .before .before .p2 .given .1, k .before .q2 .given .1, ne-eqb _ 0 (i .before .if1 .left))
+    (c .in-range .ensures
+    ∙ ap ranged (modulo-is _ (k .before .before .before .known-told2 .given .0 .1) (i .int .ensures) _ (k .known-told4 .given .0 .1) (c .before .before .int2 .ensures) (i .before .if1 .left) (c .before .modulo .ensures)))))

@@ -1,0 +1,3 @@
+pub mod Sizes
+pub mod Division
+pub mod Machine
