@@ -535,6 +535,14 @@ fn sizes(m: &Model) -> Vec<usize> {
     list
 }
 
+fn set_operand(n: &mut NodeRecord, second: bool, operand: u16) {
+    if second {
+        n.b = operand;
+    } else {
+        n.a = operand;
+    }
+}
+
 fn not_lower(rng: &mut Rng, n: usize, total: usize) -> u16 {
     let any = n + rng.below(total - n);
     rng.choose(&[n, n, n + 1, total, any, 65_535]) as u16
@@ -596,11 +604,7 @@ fn wrong_operand(rng: &mut Rng, s: &mut Subject, second: bool) -> Option<()> {
     };
     let leaves = (0..n).filter(|&l| s.m.nodes[l].kind <= 5);
     let leaf = one_of(rng, leaves.filter(wrong))? as u16;
-    if second {
-        s.m.nodes[n].b = leaf;
-    } else {
-        s.m.nodes[n].a = leaf;
-    }
+    set_operand(&mut s.m.nodes[n], second, leaf);
     Some(())
 }
 
@@ -730,6 +734,13 @@ fn add_driver(m: &mut Model, process: u8, signal: u8) {
     m.drivers.sort_by_key(|d| (d.process, d.signal));
 }
 
+fn set_expression(s: &mut StatementRecord, role: Role, node: u16) {
+    match role {
+        Role::Delay | Role::NullDelay | Role::For => s.c = node,
+        _ => s.b = node,
+    }
+}
+
 const OWNER: &[Way] = &[
     ("drivers changed over", |rng, s| {
         if s.m.drivers.len() < 2 {
@@ -793,22 +804,12 @@ const OWNER: &[Way] = &[
     ("another process's variable read", |rng, s| {
         let types = node_types(&s.m)?;
         let readers = readers(&s.m);
-        let uses = |s: &StatementRecord| !roots(s).is_empty();
-        let n = some(rng, &s.m.statements, uses)?;
+        let n = some(rng, &s.m.statements, |s| !roots(s).is_empty())?;
         let own = 1u32 << process_of(&s.m, n);
-        let t = s.m.statements[n];
-        let second = t.kind == 2 && rng.chance(1, 2)
-            || t.kind == 6
-            || t.kind == 5 && t.b == ABSENT
-            || t.kind == 5 && t.c != ABSENT && rng.chance(1, 2);
-        let old = if second { t.c } else { t.b };
+        let (role, old) = rng.choose(&expressions(&s.m.statements[n]));
         let fits = |&x: &usize| types[x] == types[old as usize] && readers[x] & !own != 0;
         let new = one_of(rng, (0..types.len()).filter(fits))? as u16;
-        if second {
-            s.m.statements[n].c = new;
-        } else {
-            s.m.statements[n].b = new;
-        }
+        set_expression(&mut s.m.statements[n], role, new);
         Some(())
     }),
     ("a used variable moved", |rng, s| {
@@ -1022,199 +1023,6 @@ impl Limits {
             let number = if n < least || n > most { 4 } else { 0 };
             self.add(number, format!("{n} {what}"), b.encode());
         }
-    }
-}
-
-/// Signal 1 of the small model becomes a bus, and process 1 assigns null to it.
-fn null_on_bus(m: &mut Model) {
-    m.signals[1].kind = BUS;
-    m.statements[4] = StatementRecord {
-        kind: 6,
-        a: 1,
-        ..Default::default()
-    };
-}
-
-/// Bus and register signals, and a null on a bus.
-fn null_limits(list: &mut Limits) {
-    let whole = [(0, 0), (1, 5), (2, 5), (3, 5), (255, 5)];
-    list.field("integer signal of kind", &whole, |m, x| {
-        m.signals[0].kind = x as u8
-    });
-    let codes = [(0, 0), (1, 0), (2, 0), (3, 5), (4, 5), (128, 5), (255, 5)];
-    list.field("logic signal of kind", &codes, |m, x| {
-        m.signals[1].kind = x as u8
-    });
-    let codes = [(0, 20), (1, 0), (2, 0), (3, 5), (255, 5)];
-    list.field("a null on a signal of kind", &codes, |m, x| {
-        null_on_bus(m);
-        m.signals[1].kind = x as u8
-    });
-    let starts = [(0, 0), (4, 0), (8, 0), (9, 5)];
-    list.field("a bus starts at", &starts, |m, x| {
-        null_on_bus(m);
-        m.signals[1].start = x as i32
-    });
-    // Process 1 does not drive signal 0.
-    let signals = [(0, 8), (1, 0), (2, 5), (65_535, 5)];
-    list.field("a null on signal", &signals, |m, x| {
-        null_on_bus(m);
-        m.statements[4].a = x as u16
-    });
-    let unnamed = [(0, 0), (1, 5), (7, 5), (65_535, 5)];
-    list.field("a null with b", &unnamed, |m, x| {
-        null_on_bus(m);
-        m.statements[4].b = x as u16
-    });
-    // Node 1 is logic, node 6 boolean, node 2 reads process 0's variable.
-    let delays = [
-        (0, 0),
-        (1, 7),
-        (2, 8),
-        (3, 7),
-        (5, 8),
-        (6, 7),
-        (7, 5),
-        (65_535, 5),
-    ];
-    list.field("a null after node", &delays, |m, x| {
-        null_on_bus(m);
-        m.statements[4].c = x as u16
-    });
-    let sets = [(0, 0), (1, 5), (2, 5), (1 << 31, 5)];
-    list.field("a null with set", &sets, |m, x| {
-        null_on_bus(m);
-        m.statements[4].set = x as u32
-    });
-    let drivers = [(0, 8), (1, 8), (2, 8), (3, 0)];
-    list.field("a null with so many drivers left", &drivers, |m, x| {
-        null_on_bus(m);
-        m.drivers.truncate(x as usize)
-    });
-    // Statement 1 is an assignment to the integer signal.
-    fn null(m: &mut Model) {
-        m.statements[1].kind = 6;
-        m.statements[1].b = 0;
-    }
-    let name = "a null on an integer signal";
-    list.changed(20, name, |b| null(&mut b.m));
-    list.changed(8, "the same without its driver", |b| {
-        null(&mut b.m);
-        b.m.drivers.remove(0);
-    });
-    list.changed(5, "the same on an integer bus", |b| {
-        null(&mut b.m);
-        b.m.signals[0].kind = BUS;
-    });
-    list.changed(8, "the same and a foreign variable later", |b| {
-        null(&mut b.m);
-        b.m.statements[6] = StatementRecord {
-            kind: 1,
-            ..Default::default()
-        };
-    });
-    list.changed(7, "the same and a wrong type later", |b| {
-        null(&mut b.m);
-        b.m.statements[6].c = 1;
-    });
-    list.changed(20, "20 in the last statement", |b| {
-        null_on_bus(&mut b.m);
-        b.m.statements[6] = StatementRecord {
-            kind: 6,
-            a: 2,
-            ..Default::default()
-        };
-        b.signal(LOGIC, 2);
-        b.driver(1, 2);
-    });
-}
-
-/// Node 5 of the small model, the sum that statement 0 assigns, made product,
-/// quotient, mod or rem.
-fn arithmetic_limits(list: &mut Limits) {
-    let kinds = [
-        (11, 0),
-        (12, 0),
-        (13, 7),
-        (14, 7),
-        (15, 0),
-        (16, 0),
-        (17, 0),
-        (18, 0),
-        (19, 5),
-        (20, 5),
-        (32, 5),
-        (255, 5),
-    ];
-    list.field("a sum made node kind", &kinds, |m, x| {
-        m.nodes[5].kind = x as u8
-    });
-    for kind in integers::ARITHMETIC {
-        let name = |what: &str, x: i64| format!("node kind {kind} with {what} {x}");
-        let made = |b: &mut Builder| b.m.nodes[5].kind = kind;
-        for (k, number) in [(0, 0), (1, 5), (-1, 5), (256, 5), (i32::MIN, 5)] {
-            list.changed(number, name("k", k as i64), |b| {
-                made(b);
-                b.m.nodes[5].k = k;
-            });
-        }
-        // Nodes 1 and 4 are logic, 3 is boolean.
-        let operands = [
-            (0, 0),
-            (1, 7),
-            (2, 0),
-            (3, 7),
-            (4, 7),
-            (5, 6),
-            (6, 6),
-            (7, 6),
-            (65_535, 6),
-        ];
-        for (x, number) in operands {
-            list.changed(number, name("a", x as i64), |b| {
-                made(b);
-                b.m.nodes[5].a = x;
-            });
-            list.changed(number, name("b", x as i64), |b| {
-                made(b);
-                b.m.nodes[5].b = x;
-            });
-        }
-        for &byte in UNNAMED[4] {
-            let mut bytes = changed(made);
-            bytes[BLOCK * 4 + 4 + RECORD * 5 + byte] = 1;
-            repair(&mut bytes, 4);
-            list.add(5, name("byte", byte as i64), bytes);
-        }
-        for (size, number) in [(63, 0), (64, 0), (65, 6), (66, 6)] {
-            list.changed(number, name("nodes", size as i64), |b| {
-                let leaf = if size % 2 == 0 { b.unary(10, 0) } else { 0 };
-                let mut sizes = 1 + (size + 1) % 2;
-                let mut top = leaf;
-                while sizes < size {
-                    top = b.binary(kind, top, 0);
-                    sizes += 2;
-                }
-                b.m.statements[0].b = top;
-            });
-        }
-        let uses: [(&str, fn(&mut Model), u32); 4] = [
-            ("in unless", |m| m.statements[2].b = 5, 7),
-            ("in a wait's condition", |m| m.statements[3].b = 5, 7),
-            ("as a logic value", |m| m.statements[0].a = 1, 7),
-            ("in a delay", |m| m.statements[1].c = 5, 0),
-        ];
-        for (what, put, number) in uses {
-            list.changed(number, format!("node kind {kind} {what}"), |b| {
-                made(b);
-                put(&mut b.m);
-            });
-        }
-        let name = format!("node kind {kind} over a variable of the other process");
-        list.changed(8, name, |b| {
-            made(b);
-            b.m.statements[6].c = 5;
-        });
     }
 }
 
@@ -1506,8 +1314,8 @@ pub fn limits() -> Vec<(String, Vec<u8>, u32)> {
         }
     }
 
-    null_limits(&mut list);
-    arithmetic_limits(&mut list);
+    guarded::limits(&mut list);
+    arithmetic::limits(&mut list);
 
     // Drivers and variables.
     list.changed(8, "a driver twice", |b| b.driver(1, 1));

@@ -249,6 +249,10 @@ impl Maker<'_> {
     fn operator(&mut self, process: u8, budget: usize) -> (u8, u16) {
         let sums = [SUM, SUM, SUM, DIFFERENCE, DIFFERENCE, DIFFERENCE];
         let kind = self.rng.choose(&[&sums[..], &ARITHMETIC].concat());
+        let any = if self.wild { 4 } else { 20 };
+        if sums.contains(&kind) || self.rng.chance(1, any) {
+            return (kind, self.expression(INTEGER, process, budget));
+        }
         let k = match kind {
             PRODUCT => self.rng.range(-3, 3) as i32,
             _ => match self.constant() {
@@ -256,13 +260,7 @@ impl Maker<'_> {
                 k => k,
             },
         };
-        let any = if self.wild { 4 } else { 20 };
-        let b = if ARITHMETIC.contains(&kind) && !self.rng.chance(1, any) {
-            self.node(1, 0, 0, k)
-        } else {
-            self.expression(INTEGER, process, budget)
-        };
-        (kind, b)
+        (kind, self.node(1, 0, 0, k))
     }
 
     /// Grows a node's tree to 64 nodes over repeats.
@@ -324,7 +322,7 @@ impl Maker<'_> {
         if !self.wild || self.count() + 3 > 400 {
             return self.delay(process);
         }
-        match self.rng.weighted(&[12, 1, 2]) {
+        match self.rng.weighted(&[24, 3, 3]) {
             0 => self.delay(process),
             1 => self.node(1, 0, 0, -1),
             _ => {

@@ -5,7 +5,7 @@ use lib.IntN.{pos, negsuc, natAbs}
 use Rattle.values.specs.Bench as Values
 use Rattle.values.specs.Bench.{holds, Holds}
 use Rattle.integers.specs.Division.{quotient, rem, modulo}
-use Rattle.integers.proofs.Division.{division-laws}
+use Rattle.integers.proofs.Remainders.{division-laws}
 use Rattle.base.specs.Rules.{firstFailing}
 use Rattle.model.specs.Rules.{recordRules}
 use Rattle.cases.specs.Arithmetic.{signCases, endCases, faultCases, arithmeticRows, arithmeticRefusals, DivisionUsed}

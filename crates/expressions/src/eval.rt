@@ -8,20 +8,19 @@ ghost use Rattle.rules.specs.Evaluation.{evalOf};
 ghost use Rattle.expressions.specs.Reading.{arrays, Runs};
 use crate::operators::and;
 use crate::operators::decided;
+use crate::operators::divide;
 use crate::operators::equal;
 use crate::operators::less;
 use crate::operators::minus;
-use crate::operators::modulo;
 use crate::operators::negate;
 use crate::operators::not;
 use crate::operators::or;
 use crate::operators::plus;
 use crate::operators::product;
-use crate::operators::quotient;
-use crate::operators::rem;
 use crate::operators::xor;
 use blocks::index::Index;
 use blocks::index::node_at;
+use integers::division::Division;
 use rules::value::Value;
 use trees::types::type_at;
 
@@ -121,15 +120,23 @@ pub fn eval<'a>(
         }
         16 => {
             let p = eval(whole, index, variables, signals, a);
-            quotient(p, eval(whole, index, variables, signals, b))
+            divide(
+                Division::Quotient,
+                p,
+                eval(whole, index, variables, signals, b),
+            )
         }
         17 => {
             let p = eval(whole, index, variables, signals, a);
-            modulo(p, eval(whole, index, variables, signals, b))
+            divide(
+                Division::Modulo,
+                p,
+                eval(whole, index, variables, signals, b),
+            )
         }
         18 => {
             let p = eval(whole, index, variables, signals, a);
-            rem(p, eval(whole, index, variables, signals, b))
+            divide(Division::Rem, p, eval(whole, index, variables, signals, b))
         }
         _ => Value::Of(0),
     }

@@ -5,7 +5,9 @@ ghost use Prim.Native.Nat.{_<_};
 ghost use lib.IntN.{natAbs};
 ghost use mir.Syntax.{w32};
 ghost use mir.Val.{ofZ};
-ghost use Rattle.rules.specs.Evaluation.{truth, int, ranged, negateOf, sumOf, differenceOf, equalOf, lessOf, productOf, quotientOf, moduloOf, remOf, DivisionStays, one, two, decidedBy, notBy, andBy, orBy, xorBy};
+ghost use Rattle.integers.specs.Division.{divisionOf};
+ghost use Rattle.rules.specs.Evaluation.{truth, int, ranged, negateOf, sumOf, differenceOf, equalOf, lessOf, productOf, divided, DivisionStays, one, two, decidedBy, notBy, andBy, orBy, xorBy};
+use integers::division::Division;
 use rules::value::Value;
 
 // The integer that 32 bits hold.
@@ -119,9 +121,9 @@ pub(crate) fn product(p: Value, q: Value) -> Value
     }
 }
 
-// A divisor of 0 is fault 4.
-pub(crate) fn quotient(p: Value, q: Value) -> Value
-    ensures { λ r. ⌜ r ≡ two p q quotientOf ⌝ }
+// Quotient, mod or rem; a divisor of 0 is fault 4.
+pub(crate) fn divide(which: Division, p: Value, q: Value) -> Value
+    ensures { λ r. ⌜ r ≡ two p q (divided (divisionOf which)) ⌝ }
     ensures { λ r. ⌜ DivisionStays ⌝ }
 {
     match p {
@@ -132,43 +134,7 @@ pub(crate) fn quotient(p: Value, q: Value) -> Value
                 if y == 0 {
                     Value::Fault(4)
                 } else {
-                    in_range(integers::quotient(int(x), int(y)))
-                }
-            }
-        },
-    }
-}
-
-pub(crate) fn modulo(p: Value, q: Value) -> Value
-    ensures { λ r. ⌜ r ≡ two p q moduloOf ⌝ }
-{
-    match p {
-        Value::Fault(e) => Value::Fault(e),
-        Value::Of(x) => match q {
-            Value::Fault(e) => Value::Fault(e),
-            Value::Of(y) => {
-                if y == 0 {
-                    Value::Fault(4)
-                } else {
-                    in_range(integers::modulo(int(x), int(y)))
-                }
-            }
-        },
-    }
-}
-
-pub(crate) fn rem(p: Value, q: Value) -> Value
-    ensures { λ r. ⌜ r ≡ two p q remOf ⌝ }
-{
-    match p {
-        Value::Fault(e) => Value::Fault(e),
-        Value::Of(x) => match q {
-            Value::Fault(e) => Value::Fault(e),
-            Value::Of(y) => {
-                if y == 0 {
-                    Value::Fault(4)
-                } else {
-                    in_range(integers::rem(int(x), int(y)))
+                    in_range(integers::divide(which, int(x), int(y)))
                 }
             }
         },

@@ -1,3 +1,3 @@
 pub mod Sizes
-pub mod Division
+pub mod Remainders
 pub mod Machine

@@ -1,7 +1,7 @@
 -- What the machine's division asks of numbers that it may divide, and what it gives. Assumes nothing.
 use mathlib.Core.Path.{_≡_, refl, sym, _∙_}
 use mathlib.Core.Bool.{true, false, _||_, Bool·beq}
-use Prim.Native.Nat.{suc, _^_, _<_, zero-le}
+use Prim.Native.Nat.{suc, _^_, _≤_, _<_, zero-le}
 use native.Mathlib.Omega.{arith}
 use lib.Dec.{eqb}
 use lib.IntN.{ℤ, pos, negsuc, natAbs, _+ℤ_}
@@ -10,10 +10,12 @@ use borrow.Author.Tests.{le-ltb, ne-eqb}
 use mir.Syntax.{w64}
 use mir.Val.{SFits, toZ, ofZ}
 use mir.Facts.{toZ-ofZ}
-use Rattle.integers.specs.Division.{alike, quotient, rem, modulo}
+use Rattle.integers.specs.declared.division.Division.{Division}
+use Rattle.integers.specs.declared.division.Division.the-variants.{Quotient, Modulo, Rem}
+use Rattle.integers.specs.Division.{alike, quotient, rem, modulo, divisionOf}
 use Rattle.integers.specs.Laws.{Divisible}
 use Rattle.integers.proofs.Sizes.{add-abs, small, bits-some}
-use Rattle.integers.proofs.Division.{quotient-is, quotient-size, rem-is, rem-leaves}
+use Rattle.integers.proofs.Remainders.{quotient-is, quotient-size, rem-is, rem-leaves, mod-leaves}
 
 -- what the machine reads of a number
 abbrev read : ℤ → ℤ
@@ -30,6 +32,12 @@ alike-tests (negsuc m) (negsuc n) = refl
 zero-test : (z : ℤ) → natAbs z < 2 ^ 63 → eqb (ofZ w64 z) 0 ≡ eqb (natAbs z) 0
 zero-test (pos n) h = refl
 zero-test (negsuc n) h = rw (ne-eqb (ofZ w64 (negsuc n)) 0 (λ e. omega arith), ne-eqb (suc n) 0 (λ e. omega arith))
+
+-- what a division gives of numbers that may be divided is no larger than those may be
+pub division-size : (w : Division) (a b : ℤ) → Divisible a b → natAbs (divisionOf w a b) ≤ 2147483648
+division-size Quotient a b h = omega (arith, quotient-size a b, h .dividend)
+division-size Modulo a b h = omega (arith, mod-leaves a b (h .nonzero) .leaves .size, h .divisor)
+division-size Rem a b h = omega (arith, rem-leaves a b (h .nonzero) .size, h .divisor)
 
 module _ (a b : ℤ) (h : Divisible a b) where
   read-a : read a ≡ a
@@ -55,6 +63,10 @@ module _ (a b : ℤ) (h : Divisible a b) where
 
   pub rem-read : read (remZ (read a) (read b)) ≡ rem a b
   rem-read = rw (read-a, read-b, sym (rem-is a b)) (toZ-ofZ rem-fits)
+
+  -- v being what one of the divisions returned: what the machine reads of it
+  pub division-read : (w : Division) {v : ℤ} → v ≡ divisionOf w (read a) (read b) → read v ≡ divisionOf w a b
+  division-read w e = rw (e, read-a, read-b) (toZ-ofZ (small (divisionOf w a b) (omega (arith, division-size w a b h))))
 
   -- r being a rem b: what the machine reads of it, and b more
   module _ {r : ℤ} (e : r ≡ rem (read a) (read b)) where

@@ -4,6 +4,8 @@ use Prim.Native.Nat.{_/_}
 use lib.Dec.{eqb}
 use lib.IntN.{ℤ, pos, negsuc, natAbs, negℤ, _+ℤ_, _-ℤ_, _*ℤ_}
 use Rattle.base.specs.Cases.{_∣_, _⇒_}
+use Rattle.integers.specs.declared.division.Division.{Division}
+use Rattle.integers.specs.declared.division.Division.the-variants.{Quotient, Modulo, Rem}
 
 -- a and b are both negative, or neither is
 abbrev pub alike : ℤ → ℤ → Bool
@@ -23,3 +25,9 @@ rem a b = a -ℤ quotient a b *ℤ b
 -- "mod the sign of b": a rem b, and b more where that has the other sign
 unfoldable pub modulo : ℤ → ℤ → ℤ
 modulo a b = eqb (natAbs (rem a b)) 0 || alike (rem a b) b ⇒ rem a b ∣ (rem a b +ℤ b)
+
+-- each of the three
+abbrev pub divisionOf : Division → ℤ → ℤ → ℤ
+divisionOf Quotient = quotient
+divisionOf Modulo = modulo
+divisionOf Rem = rem

@@ -1,24 +1,26 @@
-// Quotient, rem and mod of integers.
-ghost use mathlib.Core.Path.{_≡_};
-ghost use Rattle.integers.specs.Division.{quotient, rem, modulo};
-ghost use Rattle.integers.specs.Laws.{DivisionLaws, Divisible};
+// Quotient, mod and rem of integers.
+pub mod division;
 
-pub fn quotient(a: i64, b: i64) -> i64
+ghost use mathlib.Core.Path.{_≡_};
+ghost use Rattle.integers.specs.Division.{quotient, rem, modulo, divisionOf};
+ghost use Rattle.integers.specs.Laws.{DivisionLaws, Divisible};
+use crate::division::Division;
+
+fn quotient(a: i64, b: i64) -> i64
     requires { ⌜ Divisible a b ⌝ }
     ensures { λ r. ⌜ r ≡ quotient a b ⌝ }
-    ensures { λ r. ⌜ DivisionLaws ⌝ }
 {
     a / b
 }
 
-pub fn rem(a: i64, b: i64) -> i64
+fn rem(a: i64, b: i64) -> i64
     requires { ⌜ Divisible a b ⌝ }
     ensures { λ r. ⌜ r ≡ rem a b ⌝ }
 {
     a % b
 }
 
-pub fn modulo(a: i64, b: i64) -> i64
+fn modulo(a: i64, b: i64) -> i64
     requires { ⌜ Divisible a b ⌝ }
     ensures { λ r. ⌜ r ≡ modulo a b ⌝ }
 {
@@ -27,5 +29,17 @@ pub fn modulo(a: i64, b: i64) -> i64
         r
     } else {
         r + b
+    }
+}
+
+pub fn divide(which: Division, a: i64, b: i64) -> i64
+    requires { ⌜ Divisible a b ⌝ }
+    ensures { λ r. ⌜ r ≡ divisionOf which a b ⌝ }
+    ensures { λ r. ⌜ DivisionLaws ⌝ }
+{
+    match which {
+        Division::Quotient => quotient(a, b),
+        Division::Modulo => modulo(a, b),
+        Division::Rem => rem(a, b),
     }
 }

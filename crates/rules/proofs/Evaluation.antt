@@ -27,7 +27,7 @@ use Rattle.model.specs.Owners.{readsOwn}
 use Rattle.model.specs.Facts.{Facts, NodeFits, NodeTyped}
 use Rattle.rules.specs.declared.value.Value.{Value}
 use Rattle.rules.specs.declared.value.Value.the-variants.{Of, Fault}
-use Rattle.rules.specs.Evaluation.{Environment, truth, int, one, two, unlessFirst, notBy, andBy, orBy, xorBy, ranged, negateOf, sumOf, differenceOf, equalOf, lessOf, productOf, divided, quotientOf, moduloOf, remOf, valueBy, nextValue, evalOf}
+use Rattle.rules.specs.Evaluation.{Environment, truth, int, one, two, unlessFirst, notBy, andBy, orBy, xorBy, ranged, negateOf, sumOf, differenceOf, equalOf, lessOf, productOf, divided, valueBy, nextValue, evalOf}
 
 -- node d is read in the same way with e, p and q as with e', p' and q': where its kind reads them they are the same
 pub record Alike (d : NodeRecord) (e e' : Environment) (p p' q q' : Value) : Type 0 where
@@ -194,6 +194,7 @@ ranged-typed z =
     apart (negsuc n) l e = omega arith
 
 divided-typed : (f : ℤ → ℤ → ℤ) (x y : ℕ) → Typed integer (divided f x y)
+unfolding divided
 divided-typed f x y = by-test (Typed integer) (eqb y 0) _ _ (λ e. lit≤ tt) (λ e. ranged-typed (f (int x) (int y)))
 
 -- the operators of a type that is logic or boolean
@@ -272,7 +273,7 @@ module _ (M : Model) (fs : Facts M) (e : Environment) (ok : EnvironmentFits M e)
       relation l m f h = rw (t .relation l m) (two-typed _ _ boolean p q f (hp (omega arith)) (hq (omega arith) (λ z. omega arith)) h)
 
       numbers : 10 ≤ nodeAt M n .kind → nodeAt M n .kind ≤ 18 → TypedHere
-      unfolding valueBy negateOf sumOf differenceOf equalOf lessOf productOf quotientOf moduloOf remOf
+      unfolding valueBy negateOf sumOf differenceOf equalOf lessOf productOf
       numbers l m =
           among (λ k. nodeAt M n .kind ≡ k → TypedHere) 10 9 (nodeAt M n .kind)
           ((λ k. rw (k, t .arithmetic l (λ z. omega arith) (λ z. omega arith)) (one-typed _ integer p _ (hp (omega arith)) (λ x v. ranged-typed (negℤ (int x)))))
@@ -281,9 +282,9 @@ module _ (M : Model) (fs : Facts M) (e : Environment) (ok : EnvironmentFits M e)
           and (λ k. rw k (relation (omega arith) (omega arith) equalOf (λ x y. truth-typed (eqb x y))))
           and (λ k. rw k (relation (omega arith) (omega arith) lessOf (λ x y. truth-typed (ltZ (int x) (int y)))))
           and (λ k. rw k (number (omega arith) (λ z. omega arith) (λ z. omega arith) productOf (λ x y. ranged-typed (int x *ℤ int y))))
-          and (λ k. rw k (number (omega arith) (λ z. omega arith) (λ z. omega arith) quotientOf (divided-typed quotient)))
-          and (λ k. rw k (number (omega arith) (λ z. omega arith) (λ z. omega arith) moduloOf (divided-typed modulo)))
-          and (λ k. rw k (number (omega arith) (λ z. omega arith) (λ z. omega arith) remOf (divided-typed rem)))
+          and (λ k. rw k (number (omega arith) (λ z. omega arith) (λ z. omega arith) (divided quotient) (divided-typed quotient)))
+          and (λ k. rw k (number (omega arith) (λ z. omega arith) (λ z. omega arith) (divided modulo) (divided-typed modulo)))
+          and (λ k. rw k (number (omega arith) (λ z. omega arith) (λ z. omega arith) (divided rem) (divided-typed rem)))
           and tt)
           l (omega arith) refl
 

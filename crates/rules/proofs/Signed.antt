@@ -13,9 +13,10 @@ use mir.Syntax.{w32, w64}
 use mir.Val.{Fits, SFits, toZ, ofZ}
 use mir.Facts.{toZ-ofZ, toZ-pos, sfits-toZ, sfits-widen, fits-ofZ}
 use Rattle.base.proofs.Cases.{either-way}
-use Rattle.integers.specs.Division.{quotient, rem, modulo}
+use Rattle.integers.specs.declared.division.Division.{Division}
+use Rattle.integers.specs.Division.{divisionOf}
 use Rattle.integers.specs.Laws.{Divisible}
-use Rattle.integers.proofs.Division.{quotient-size, rem-leaves, mod-leaves}
+use Rattle.integers.proofs.Machine.{division-size}
 use Rattle.integers.proofs.Sizes.{neg-abs, add-abs, abs-times, small}
 use Rattle.rules.specs.Evaluation.{int}
 
@@ -103,21 +104,17 @@ module _ (x : ℕ) (h : x < 4294967296) {r : ℤ} (e : r ≡ int x) where
     product-is = toZ-ofZ product-fits ∙ rw (int-read, other-read)
 
     -- a divisor whose 32 bits are not 0
+    numbers : (y ≡ 0 → ⊥) → Divisible (int x) (int y)
+    numbers h = record { dividend = small-int; divisor = small-other; nonzero = λ e. h (int-zero y e) }
+
     pub divisible : (y ≡ 0 → ⊥) → Divisible (read r) (read s)
-    divisible h = rw (int-read, other-read) record { dividend = small-int; divisor = small-other; nonzero = λ e. h (int-zero y e) }
+    divisible h = rw (int-read, other-read) (numbers h)
 
-    -- v being what a division f returned for r and s: what the machine reads of v
-    division-is : (f : ℤ → ℤ → ℤ) {v : ℤ} → v ≡ f (read r) (read s) → natAbs (f (int x) (int y)) ≤ 2147483648 → read v ≡ f (int x) (int y)
-    division-is f e l = rw (e, int-read, other-read) (toZ-ofZ (small (f (int x) (int y)) (omega arith)))
-
-    pub quotient-is : {v : ℤ} → (y ≡ 0 → ⊥) → v ≡ quotient (read r) (read s) → read v ≡ quotient (int x) (int y)
-    quotient-is h e = division-is quotient e (omega (arith, quotient-size (int x) (int y), small-int))
-
-    pub modulo-is : {v : ℤ} → (y ≡ 0 → ⊥) → v ≡ modulo (read r) (read s) → read v ≡ modulo (int x) (int y)
-    modulo-is h e = division-is modulo e (omega (arith, mod-leaves (int x) (int y) (λ z. h (int-zero y z)) .leaves .size, small-other))
-
-    pub rem-is : {v : ℤ} → (y ≡ 0 → ⊥) → v ≡ rem (read r) (read s) → read v ≡ rem (int x) (int y)
-    rem-is h e = division-is rem e (omega (arith, rem-leaves (int x) (int y) (λ z. h (int-zero y z)) .size, small-other))
+    -- v being what a division returned for r and s: what the machine reads of it
+    pub division-is : (w : Division) {v : ℤ} → (y ≡ 0 → ⊥) → v ≡ divisionOf w (read r) (read s) → read v ≡ divisionOf w (int x) (int y)
+    division-is w h e =
+        rw (e, int-read, other-read)
+        (toZ-ofZ (small (divisionOf w (int x) (int y)) (omega (arith, division-size w (int x) (int y) (numbers h)))))
 
     pub less-is : ltZ (read r) (read s) ≡ ltZ (int x) (int y)
     less-is = rw (int-read, other-read)

@@ -14,7 +14,8 @@ use mir.Val.{toZ, ofZ}
 use Rattle.base.specs.Cases.{_∣_, _⇒_, _is_⇒_}
 use Rattle.base.specs.Course.{course}
 use Rattle.values.specs.Operators.{notOf, andOf, orOf, xorOf}
-use Rattle.integers.specs.Division.{quotient, rem, modulo}
+use Rattle.integers.specs.declared.division.Division.{Division}
+use Rattle.integers.specs.Division.{quotient, rem, modulo, divisionOf}
 use Rattle.blocks.specs.Records.{Model, nodeAt}
 use Rattle.blocks.specs.declared.records.NodeRecord.{NodeRecord}
 use Rattle.trees.specs.Trees.{boolean, typeOf}
@@ -63,28 +64,19 @@ lessOf x y = Of (truth (ltZ (int x) (int y)))
 unfoldable pub productOf : ℕ → ℕ → Value
 productOf x y = ranged (int x *ℤ int y)
 
--- "A divisor of 0 is the new fault 4": f of two operands, the second other than 0
-abbrev pub divided : (ℤ → ℤ → ℤ) → ℕ → ℕ → Value
+-- "A divisor of 0 is the new fault 4": the division f of two operands
+unfoldable pub divided : (ℤ → ℤ → ℤ) → ℕ → ℕ → Value
 divided f x y = eqb y 0 ⇒ Fault 4 ∣ ranged (f (int x) (int y))
-
-unfoldable pub quotientOf : ℕ → ℕ → Value
-quotientOf x y = divided quotient x y
-
-unfoldable pub moduloOf : ℕ → ℕ → Value
-moduloOf x y = divided modulo x y
-
-unfoldable pub remOf : ℕ → ℕ → Value
-remOf x y = divided rem x y
 
 -- an integer "from -2,147,483,647 to 2,147,483,647"
 abbrev pub InRange : ℕ → Type 0
 InRange x = natAbs (int x) ≤ 2147483647
 
 -- the range has both ends alike, so that quotient, mod and rem of two integers in it never leave it
-pub record DivisionStays : Type 0 where
-  pub quotient : (x y : ℕ) → InRange x → InRange y → (y ≡ 0 → ⊥) → quotientOf x y ≡ Of (ofZ w32 (quotient (int x) (int y)))
-  pub modulo : (x y : ℕ) → InRange x → InRange y → (y ≡ 0 → ⊥) → moduloOf x y ≡ Of (ofZ w32 (modulo (int x) (int y)))
-  pub rem : (x y : ℕ) → InRange x → InRange y → (y ≡ 0 → ⊥) → remOf x y ≡ Of (ofZ w32 (rem (int x) (int y)))
+abbrev pub DivisionStays : Type 0
+DivisionStays =
+    (w : Division) (x y : ℕ) → InRange x → InRange y → (y ≡ 0 → ⊥)
+    → divided (divisionOf w) x y ≡ Of (ofZ w32 (divisionOf w (int x) (int y)))
 
 -- "a before b": f of one operand, or its fault
 abbrev pub one : Value → (ℕ → Value) → Value
@@ -135,9 +127,9 @@ valueBy e d ty p q =
     ∣ d .kind is 13 ⇒ two p q equalOf
     ∣ d .kind is 14 ⇒ two p q lessOf
     ∣ d .kind is 15 ⇒ two p q productOf
-    ∣ d .kind is 16 ⇒ two p q quotientOf
-    ∣ d .kind is 17 ⇒ two p q moduloOf
-    ∣ d .kind is 18 ⇒ two p q remOf
+    ∣ d .kind is 16 ⇒ two p q (divided quotient)
+    ∣ d .kind is 17 ⇒ two p q (divided modulo)
+    ∣ d .kind is 18 ⇒ two p q (divided rem)
     ∣ Of 0
 
 unfoldable pub nextValue : Model → Environment → ℕ → List Value → Value

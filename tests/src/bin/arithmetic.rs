@@ -1,7 +1,7 @@
 //! Holds product, quotient, mod and rem of many operand pairs by GHDL against the
 //! second kernel and, with the feature `session`, against the proved one:
 //!
-//!     arithmetic [N [SEED]]    N pairs, by default 250,000 from seed 1
+//!     arithmetic [N [SEED]]    N pairs, by default 200,000 from seed 1
 //!
 //! A kernel gets each operator on two constants in an assignment to a variable of
 //! its own, in models as full as can be: 64 that are done, or 16 with a fault, one
@@ -298,7 +298,7 @@ fn run() -> Result<(), String> {
         Some(text) => text.parse().map_err(|_| "use: arithmetic [N [SEED]]"),
         None => Ok(default),
     };
-    let pairs = operands::pairs(number(0, 250_000)? as usize, number(1, 1)?);
+    let pairs = operands::pairs(number(0, 200_000)? as usize, number(1, 1)?);
     let sorts: Vec<&str> = SORTS.iter().map(|s| s.0).collect();
     let counts = count(&pairs);
     println!("operand pairs");

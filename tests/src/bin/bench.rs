@@ -44,6 +44,32 @@ fn busy(turns: i32) -> Builder {
     b
 }
 
+/// The same with a product, a quotient, a mod and a rem, seven statements a turn.
+fn dividing(turns: i32) -> Builder {
+    let mut b = Builder::new();
+    let p = b.process();
+    let [count, product, quotient, rest] = [0; 4].map(|start| b.variable(INTEGER, p, start));
+    let flag = b.variable(BOOLEAN, p, 0);
+    let [one, thousand, metres, limit] = [1, 1_000, 37, turns].map(|k| b.integer(k));
+    let (read_count, read_product) = (b.read_variable(count), b.read_variable(product));
+    let more = b.binary(11, read_count, one);
+    let pulses = b.binary(17, read_count, thousand);
+    let times = b.binary(15, pulses, thousand);
+    let divided = b.binary(16, read_product, metres);
+    let left = b.binary(18, read_product, metres);
+    let below = b.binary(14, read_count, limit);
+    let read_flag = b.read_variable(flag);
+    b.assign(count, more);
+    b.assign(product, times);
+    b.assign(quotient, divided);
+    b.assign(rest, left);
+    b.assign(flag, below);
+    b.unless(read_flag, 7);
+    b.go(0);
+    b.wait(0, ABSENT, ABSENT);
+    b
+}
+
 /// A clock and fifteen processes that each assign a signal on every edge.
 fn fan() -> Builder {
     let mut b = Builder::new();
@@ -219,10 +245,17 @@ struct Design {
     long: u64,
 }
 
-const DESIGNS: [Design; 3] = [
+const DESIGNS: [Design; 4] = [
     Design {
         name: "loop",
         build: |n| busy(n as i32),
+        stop: |_| 0,
+        orders: 32,
+        long: 10_000_000,
+    },
+    Design {
+        name: "divide",
+        build: |n| dividing(n as i32),
         stop: |_| 0,
         orders: 32,
         long: 10_000_000,

@@ -17,9 +17,9 @@
 //! foreign to VHDL: such a run is compared up to the time before, and left out
 //! if no signal changes before. The exit code is 1 on any difference, where too
 //! few models show what the features of document 02 do before their last settled
-//! values, and with the feature `session` also where the proved
-//! kernel played too few: a run of more than 4,096 orders is the second kernel's,
-//! one lively model in ten at most.
+//! values, and with the feature `session` also where the proved kernel played too
+//! few: a run of more than 4,096 orders is the second kernel's, one lively model in
+//! ten at most.
 
 use second_kernel::builder::Builder;
 use second_kernel::cycle::{Config, Step, DELTA_LIMIT, NINTH, TIME_LIMIT};

@@ -1,7 +1,6 @@
-//! Damages of the nodes of product, quotient, mod and rem.
+//! Damages of the nodes of product, quotient, mod and rem, and their limits.
 
 use super::*;
-use crate::integers;
 
 fn is_operator(n: &NodeRecord) -> bool {
     integers::ARITHMETIC.contains(&n.kind)
@@ -15,19 +14,10 @@ fn a_kind(rng: &mut Rng) -> u8 {
     rng.choose(&integers::ARITHMETIC)
 }
 
-/// Gives an operator another operand.
-fn set_operand(s: &mut Subject, n: usize, second: bool, operand: u16) {
-    let field = match second {
-        true => &mut s.m.nodes[n].b,
-        false => &mut s.m.nodes[n].a,
-    };
-    *field = operand;
-}
-
 fn not_lower_operand(rng: &mut Rng, s: &mut Subject, second: bool) -> Option<()> {
     let n = an_operator(rng, s)?;
     let operand = not_lower(rng, n, s.m.nodes.len());
-    set_operand(s, n, second, operand);
+    set_operand(&mut s.m.nodes[n], second, operand);
     Some(())
 }
 
@@ -37,7 +27,7 @@ fn operand_of(rng: &mut Rng, s: &mut Subject, second: bool, ty: u8) -> Option<()
     let n = an_operator(rng, s)?;
     let leaves = (0..n).filter(|&l| s.m.nodes[l].kind <= 5 && types[l] == ty);
     let leaf = one_of(rng, leaves)? as u16;
-    set_operand(s, n, second, leaf);
+    set_operand(&mut s.m.nodes[n], second, leaf);
     Some(())
 }
 
@@ -70,10 +60,7 @@ fn foreign_operand(rng: &mut Rng, s: &mut Subject, second: bool) -> Option<()> {
         BOOLEAN => new = node(&mut s.m, 14, new, own),
         _ => return None,
     }
-    match role {
-        Role::Delay | Role::NullDelay | Role::For => s.m.statements[n].c = new,
-        _ => s.m.statements[n].b = new,
-    }
+    set_expression(&mut s.m.statements[n], role, new);
     Some(())
 }
 
@@ -179,3 +166,101 @@ const OWNER: &[Way] = &[
 ];
 
 pub const ARITHMETIC: Ways = Ways(&[(5, FIELD), (6, OPERAND), (7, TYPE), (8, OWNER)]);
+
+/// The small model's sum, node 5, made product, quotient, mod or rem. Statement 0
+/// assigns it; nodes 1 and 4 are logic, node 3 is boolean.
+pub fn limits(list: &mut Limits) {
+    let kinds = [
+        (11, 0),
+        (12, 0),
+        (13, 7),
+        (14, 7),
+        (15, 0),
+        (16, 0),
+        (17, 0),
+        (18, 0),
+        (19, 5),
+        (20, 5),
+        (32, 5),
+        (255, 5),
+    ];
+    list.field("a sum made node kind", &kinds, |m, x| {
+        m.nodes[5].kind = x as u8
+    });
+    for kind in integers::ARITHMETIC {
+        field_limits(list, kind);
+        operand_limits(list, kind);
+        tree_limits(list, kind);
+        use_limits(list, kind);
+    }
+}
+
+/// The small model with its sum made this kind, after a change.
+fn made(list: &mut Limits, number: u32, kind: u8, what: String, change: impl Fn(&mut Model)) {
+    list.changed(number, format!("node kind {kind} {what}"), |b| {
+        b.m.nodes[5].kind = kind;
+        change(&mut b.m);
+    });
+}
+
+fn field_limits(list: &mut Limits, kind: u8) {
+    for (k, number) in [(0, 0), (1, 5), (-1, 5), (256, 5), (i32::MIN, 5)] {
+        made(list, number, kind, format!("with k {k}"), |m| {
+            m.nodes[5].k = k
+        });
+    }
+    for &byte in UNNAMED[4] {
+        let mut bytes = changed(|b| b.m.nodes[5].kind = kind);
+        bytes[BLOCK * 4 + 4 + RECORD * 5 + byte] = 1;
+        repair(&mut bytes, 4);
+        list.add(5, format!("node kind {kind} with byte {byte}"), bytes);
+    }
+}
+
+fn operand_limits(list: &mut Limits, kind: u8) {
+    let operands = [
+        (0, 0),
+        (1, 7),
+        (2, 0),
+        (3, 7),
+        (4, 7),
+        (5, 6),
+        (6, 6),
+        (7, 6),
+        (65_535, 6),
+    ];
+    for (x, number) in operands {
+        for (second, name) in [(false, "a"), (true, "b")] {
+            made(list, number, kind, format!("with {name} {x}"), |m| {
+                set_operand(&mut m.nodes[5], second, x)
+            });
+        }
+    }
+}
+
+/// Trees that grow by the node itself and a constant, from a constant or a negated
+/// one.
+fn tree_limits(list: &mut Limits, kind: u8) {
+    for (size, number) in [(63, 0), (64, 0), (65, 6), (66, 6)] {
+        made(list, number, kind, format!("in a tree of {size}"), |m| {
+            let first = if size % 2 == 0 { node(m, 10, 0, 0) } else { 0 };
+            let top = (0..(size - 1) / 2).fold(first, |top, _| node(m, kind, top, 0));
+            m.statements[0].b = top;
+        });
+    }
+}
+
+fn use_limits(list: &mut Limits, kind: u8) {
+    let uses: [(u32, &str, fn(&mut Model)); 5] = [
+        (7, "in unless", |m| m.statements[2].b = 5),
+        (7, "in a wait's condition", |m| m.statements[3].b = 5),
+        (7, "as a logic value", |m| m.statements[0].a = 1),
+        (0, "in a delay", |m| m.statements[1].c = 5),
+        (8, "over a variable of the other process", |m| {
+            m.statements[6].c = 5
+        }),
+    ];
+    for (number, what, change) in uses {
+        made(list, number, kind, what.into(), change);
+    }
+}

@@ -353,7 +353,7 @@ impl Play<'_> {
             (n.kind, a),
             (7, Ok(Value::Boolean(false))) | (8, Ok(Value::Boolean(true)))
         );
-        if operands(&n).len() == 2 && decided {
+        if decided {
             let skipped = self.number(n.b) == Err(DIVISOR_ZERO);
             self.see(SKIPPED, skipped);
         } else if operands(&n).len() == 2 && a.is_ok() {

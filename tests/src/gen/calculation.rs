@@ -62,8 +62,8 @@ pub fn model(rng: &mut Rng) -> Model {
 }
 
 impl Maker<'_> {
-    /// A process of a few calculations, one unit apart in time or not, and a fault
-    /// or none.
+    /// A process of a few calculations, a pause of one unit or none, and a fault or
+    /// none.
     fn body(&mut self, pause: bool, faults: bool, roles: &[Role]) {
         self.process = self.b.process();
         self.result = self.b.variable(INTEGER, self.process, 0);
@@ -101,11 +101,10 @@ impl Maker<'_> {
             }
             1 if self.b.m.signals.len() < 32 => {
                 let s = self.b.signal(INTEGER, value);
-                let ago = self.rng.below(32) as i32;
-                let past = self.rng.chance(1, 2);
-                match past {
-                    true => self.b.delayed(s, ago),
-                    false => self.b.read_signal(s),
+                if self.rng.chance(1, 2) {
+                    self.b.read_signal(s)
+                } else {
+                    self.b.delayed(s, self.rng.below(32) as i32)
                 }
             }
             _ => self.b.integer(value),
@@ -187,7 +186,8 @@ impl Maker<'_> {
         self.b.binary(kind, a, b)
     }
 
-    /// A condition over an integer; now and then it decides the rest without it.
+    /// A condition that compares an integer; now and then it is the second operand
+    /// of `and` or `or`, which may skip it.
     fn condition(&mut self, node: u16) -> u16 {
         let k = self.leaf(0);
         let asks = self.b.binary(14, node, k);
@@ -199,7 +199,8 @@ impl Maker<'_> {
         self.b.binary(kind, decides, asks)
     }
 
-    /// Puts an integer expression into a statement, in this role.
+    /// Puts an integer expression into a statement, in this role; behind a value
+    /// with a fault the delay may have one too.
     fn put(&mut self, role: Role, node: u16, fault: bool) {
         let (s, next) = (self.signal(), self.b.m.statements.len() as u16 + 1);
         let soon = self.rng.below(3) as i32;
@@ -231,8 +232,7 @@ impl Maker<'_> {
         };
     }
 
-    /// The delay behind a value that has a fault: mostly one that would have
-    /// another.
+    /// The delay behind a value that has a fault: mostly one with a fault of its own.
     fn late(&mut self, soon: u16) -> u16 {
         match self.rng.weighted(&[1, 4, 4, 7]) {
             0 => soon,

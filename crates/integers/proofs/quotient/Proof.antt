@@ -1,5 +1,4 @@
 -- `quotient`: the machine's quotient fits, and is that of the integers. Assumes nothing.
-use Rattle.integers.proofs.Division.{division-laws}
 use Rattle.integers.proofs.Machine.{divides, quotient-read}
 use Rattle.integers.proofs.quotient.Statement.{statement}
 use Rattle.integers.proofs.quotient.Tie as tie
@@ -11,4 +10,4 @@ quotient-spec =
     -- div-result
     (λ c. divides (c .args .a) (c .args .b) (c .pre))
     -- returns
-    (λ c. (quotient-read (c .args .a) (c .args .b) (c .pre), division-laws)))
+    (λ c. quotient-read (c .args .a) (c .args .b) (c .pre)))

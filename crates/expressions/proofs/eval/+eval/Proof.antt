@@ -19,17 +19,15 @@ use Rattle.expressions.proofs.eval.signal_of.Reads as signal-of-reads
 use Rattle.expressions.proofs.eval.variable_of.Reads as variable-of-reads
 use Rattle.expressions.proofs.operators.and.Reads as and-reads
 use Rattle.expressions.proofs.operators.decided.Reads as decided-reads
+use Rattle.expressions.proofs.operators.divide.Reads as divide-reads
 use Rattle.expressions.proofs.operators.equal.Reads as equal-reads
 use Rattle.expressions.proofs.operators.less.Reads as less-reads
 use Rattle.expressions.proofs.operators.minus.Reads as minus-reads
-use Rattle.expressions.proofs.operators.modulo.Reads as modulo-reads
 use Rattle.expressions.proofs.operators.negate.Reads as negate-reads
 use Rattle.expressions.proofs.operators.not.Reads as not-reads
 use Rattle.expressions.proofs.operators.or.Reads as or-reads
 use Rattle.expressions.proofs.operators.plus.Reads as plus-reads
 use Rattle.expressions.proofs.operators.product.Reads as product-reads
-use Rattle.expressions.proofs.operators.quotient.Reads as quotient-reads
-use Rattle.expressions.proofs.operators.rem.Reads as rem-reads
 use Rattle.expressions.proofs.operators.xor.Reads as xor-reads
 use Rattle.expressions.proofs.eval.+eval.{statement}
 use Rattle.expressions.proofs.eval.+eval.Tie.{close}
@@ -78,12 +76,8 @@ unfolding valueBy
   less-reads.Learnt,
   product-reads.Asked,
   product-reads.Learnt,
-  quotient-reads.Asked,
-  quotient-reads.Learnt,
-  modulo-reads.Asked,
-  modulo-reads.Learnt,
-  rem-reads.Asked,
-  rem-reads.Learnt,
+  divide-reads.Asked,
+  divide-reads.Learnt,
 )
     (eval-at t)
     eval.Post
@@ -207,7 +201,7 @@ unfolding valueBy
     (λ c κs.
     let h = c .before in
     call-b (h .before .before .before .pre) (h .before .node-at .ensures) (omega arith) (λ z. omega arith))
-    -- quotient-requires
+    -- divide-requires
     (λ c κs. search needs)
     -- eval-requires-21
     (λ c κs. call-a (c .before .before .before .pre) (c .before .node-at .ensures) (omega arith))
@@ -215,7 +209,7 @@ unfolding valueBy
     (λ c κs.
     let h = c .before in
     call-b (h .before .before .before .pre) (h .before .node-at .ensures) (omega arith) (λ z. omega arith))
-    -- modulo-requires
+    -- divide-requires-2
     (λ c κs. search needs)
     -- eval-requires-23
     (λ c κs. call-a (c .before .before .before .pre) (c .before .node-at .ensures) (omega arith))
@@ -223,7 +217,7 @@ unfolding valueBy
     (λ c κs.
     let h = c .before in
     call-b (h .before .before .before .pre) (h .before .node-at .ensures) (omega arith) (λ z. omega arith))
-    -- rem-requires
+    -- divide-requires-3
     (λ c κs. search needs)
     -- returns-3
     (λ c. leaf-value (c .before .before .before .pre) (c .before .node-at .ensures) _ refl (λ p q. rw (c .match .keys1)))
@@ -288,14 +282,14 @@ unfolding valueBy
     -- returns-18
     (λ c.
     let h = c .before .before .before in
-    binary-value (h .before .before .before .pre) (h .before .node-at .ensures) _ refl (c .before .before .eval19 .ensures) (c .before .eval20 .ensures) (rw (h .match .keys16) (c .quotient .ensures .0)))
+    binary-value (h .before .before .before .pre) (h .before .node-at .ensures) _ refl (c .before .before .eval19 .ensures) (c .before .eval20 .ensures) (rw (h .match .keys16) (c .divide .ensures .0)))
     -- returns-19
     (λ c.
     let h = c .before .before .before in
-    binary-value (h .before .before .before .pre) (h .before .node-at .ensures) _ refl (c .before .before .eval21 .ensures) (c .before .eval22 .ensures) (rw (h .match .keys17) (c .modulo .ensures)))
+    binary-value (h .before .before .before .pre) (h .before .node-at .ensures) _ refl (c .before .before .eval21 .ensures) (c .before .eval22 .ensures) (rw (h .match .keys17) (c .divide2 .ensures .0)))
     -- returns-20
     (λ c.
     let h = c .before .before .before in
-    binary-value (h .before .before .before .pre) (h .before .node-at .ensures) _ refl (c .before .before .eval23 .ensures) (c .before .eval24 .ensures) (rw (h .match .keys18) (c .rem .ensures)))
+    binary-value (h .before .before .before .pre) (h .before .node-at .ensures) _ refl (c .before .before .eval23 .ensures) (c .before .eval24 .ensures) (rw (h .match .keys18) (c .divide3 .ensures .0)))
     -- returns-21
     (λ c. no-other (c .before .before .before .pre) (c .before .node-at .ensures) (c .match .rest))

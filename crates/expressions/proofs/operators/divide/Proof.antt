@@ -1,16 +1,16 @@
--- `quotient`: a divisor of 0 is fault 4; by any other the machine divides as the integers do. Assumes nothing.
+-- `divide`: a divisor of 0 is fault 4; by any other the machine divides as the integers do. Assumes nothing.
 use mathlib.Core.Path.{ap, _∙_}
 use borrow.Author.Needs.{needs}
 use borrow.Author.Tests.{ne-eqb}
-use Rattle.rules.specs.Evaluation.{ranged, quotientOf}
+use Rattle.rules.specs.Evaluation.{ranged, divided}
 use Rattle.rules.proofs.Ranges.{division-stays}
-use Rattle.rules.proofs.Signed.{divisible, quotient-is}
-use Rattle.expressions.proofs.operators.quotient.Statement.{statement}
-use Rattle.expressions.proofs.operators.quotient.Tie as tie
+use Rattle.rules.proofs.Signed.{divisible, division-is}
+use Rattle.expressions.proofs.operators.divide.Statement.{statement}
+use Rattle.expressions.proofs.operators.divide.Tie as tie
 
-pub quotient-spec : {M : Type 1} → statement M
-unfolding quotientOf
-quotient-spec =
+pub divide-spec : {M : Type 1} → statement M
+unfolding divided
+divide-spec =
     tie.close
     (tie.spec
     -- enum-known-p
@@ -25,7 +25,7 @@ quotient-spec =
     (λ c κs. search needs)
     -- int-requires-2
     (λ c κs. search needs)
-    -- quotient-requires
+    -- divide-requires
     (λ c κs.
     let k = c .before .before .before in
     divisible _ (k .before .before .before .known-told2 .given .0 .1) (c .before .int .ensures) _ (k .known-told4 .given .0 .1) (c .int2 .ensures) (c .before .before .if1 .left))
@@ -45,6 +45,6 @@ quotient-spec =
     let k = i .before .before in (
       rw (k .before .before .before .before .p2 .given .1, k .before .q2 .given .1, ne-eqb _ 0 (i .before .if1 .left))
           (c .in-range .ensures
-          ∙ ap ranged (quotient-is _ (k .before .before .before .known-told2 .given .0 .1) (i .int .ensures) _ (k .known-told4 .given .0 .1) (c .before .before .int2 .ensures) (i .before .if1 .left) (c .before .quotient .ensures .0))),
+          ∙ ap ranged (division-is _ (k .before .before .before .known-told2 .given .0 .1) (i .int .ensures) _ (k .known-told4 .given .0 .1) (c .before .before .int2 .ensures) (k .before .before .before .before .before .before .args .which) (i .before .if1 .left) (c .before .divide .ensures .0))),
       division-stays,
     )))

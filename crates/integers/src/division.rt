@@ -1,0 +1,6 @@
+// The three divisions of integers.
+pub enum Division {
+    Quotient,
+    Modulo,
+    Rem,
+}
