@@ -1,12 +1,12 @@
 // The operators of expressions on values and faults.
 ghost use mathlib.Core.Path.{_≡_};
 ghost use mathlib.Core.Bool.{false};
-ghost use Prim.Native.Nat.{_<_};
+ghost use Prim.Native.Nat.{_≤_};
 ghost use lib.IntN.{natAbs};
 ghost use mir.Syntax.{w32};
 ghost use mir.Val.{ofZ};
 ghost use Rattle.integers.specs.Division.{divisionOf};
-ghost use Rattle.rules.specs.Evaluation.{truth, int, ranged, negateOf, sumOf, differenceOf, equalOf, lessOf, productOf, divided, DivisionStays, one, two, decidedBy, notBy, andBy, orBy, xorBy};
+ghost use Rattle.rules.specs.Evaluation.{truth, int, ranged, negateOf, sumOf, differenceOf, equalOf, lessOf, productOf, divided, one, two, decidedBy, notBy, andBy, orBy, xorBy};
 use integers::division::Division;
 use rules::value::Value;
 
@@ -21,9 +21,9 @@ pub(crate) fn int(x: u32) -> i64
     }
 }
 
-// The 32 bits of an integer in range.
+// The 32 bits of an integer of at most 2 to the 31.
 fn bits_of(z: i64) -> u32
-    requires { ⌜ natAbs z < 2147483648 ⌝ }
+    requires { ⌜ natAbs z ≤ 2147483648 ⌝ }
     ensures { λ r. ⌜ r ≡ ofZ w32 z ⌝ }
 {
     if z < 0 {
@@ -124,7 +124,6 @@ pub(crate) fn product(p: Value, q: Value) -> Value
 // Quotient, mod or rem; a divisor of 0 is fault 4.
 pub(crate) fn divide(which: Division, p: Value, q: Value) -> Value
     ensures { λ r. ⌜ r ≡ two p q (divided (divisionOf which)) ⌝ }
-    ensures { λ r. ⌜ DivisionStays ⌝ }
 {
     match p {
         Value::Fault(e) => Value::Fault(e),
@@ -134,7 +133,7 @@ pub(crate) fn divide(which: Division, p: Value, q: Value) -> Value
                 if y == 0 {
                     Value::Fault(4)
                 } else {
-                    in_range(integers::divide(which, int(x), int(y)))
+                    Value::Of(bits_of(integers::divide(which, int(x), int(y))))
                 }
             }
         },

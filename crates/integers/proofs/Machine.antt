@@ -11,11 +11,10 @@ use mir.Syntax.{w64}
 use mir.Val.{SFits, toZ, ofZ}
 use mir.Facts.{toZ-ofZ}
 use Rattle.integers.specs.declared.division.Division.{Division}
-use Rattle.integers.specs.declared.division.Division.the-variants.{Quotient, Modulo, Rem}
 use Rattle.integers.specs.Division.{alike, quotient, rem, modulo, divisionOf}
 use Rattle.integers.specs.Laws.{Divisible}
 use Rattle.integers.proofs.Sizes.{add-abs, small, bits-some}
-use Rattle.integers.proofs.Remainders.{quotient-is, quotient-size, rem-is, rem-leaves, mod-leaves}
+use Rattle.integers.proofs.Remainders.{quotient-is, quotient-size, rem-is, rem-leaves, stays}
 
 -- what the machine reads of a number
 abbrev read : ℤ → ℤ
@@ -35,9 +34,7 @@ zero-test (negsuc n) h = rw (ne-eqb (ofZ w64 (negsuc n)) 0 (λ e. omega arith), 
 
 -- what a division gives of numbers that may be divided is no larger than those may be
 pub division-size : (w : Division) (a b : ℤ) → Divisible a b → natAbs (divisionOf w a b) ≤ 2147483648
-division-size Quotient a b h = omega (arith, quotient-size a b, h .dividend)
-division-size Modulo a b h = omega (arith, mod-leaves a b (h .nonzero) .leaves .size, h .divisor)
-division-size Rem a b h = omega (arith, rem-leaves a b (h .nonzero) .size, h .divisor)
+division-size w a b h = stays w a b 2147483648 (h .nonzero) (h .dividend) (h .divisor)
 
 module _ (a b : ℤ) (h : Divisible a b) where
   read-a : read a ≡ a

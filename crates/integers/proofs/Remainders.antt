@@ -11,7 +11,9 @@ use lib.Signed.{quotZ, remZ}
 use borrow.Author.Tests.{ltb-true, lt-ltb, le-ltb, eqb-true, eq-eqb}
 use Rattle.base.proofs.Below.{or-cases}
 use Rattle.base.proofs.Cases.{either-way}
-use Rattle.integers.specs.Division.{alike, quotient, rem, modulo}
+use Rattle.integers.specs.declared.division.Division.{Division}
+use Rattle.integers.specs.declared.division.Division.the-variants.{Quotient, Modulo, Rem}
+use Rattle.integers.specs.Division.{alike, quotient, rem, modulo, divisionOf}
 use Rattle.integers.specs.Laws.{Leaves, LeavesMod, DivisionLaws}
 use Rattle.integers.proofs.Sizes.{neg-abs, abs-times, abs-some, abs-none}
 
@@ -203,5 +205,11 @@ module _ (s a b q r q' r' : ℤ) (l : Leaves s a b q r) (l' : Leaves s a b q' r'
   only =
       (sym (-ℤ-+ℤ-cancel q q') ∙ ap (λ y. y +ℤ q') none ∙ +ℤ-idl q', sym (+ℤ-idl r) ∙ ap (λ y. y +ℤ r) (sym (zero-*ℤ b) ∙ ap (λ y. y *ℤ b) (sym none)) ∙ apart)
 
+-- a quotient is no larger than a, a remainder smaller than b
+pub stays : (w : Division) (a b : ℤ) (m : ℕ) → (b ≡ pos 0 → ⊥) → natAbs a ≤ m → natAbs b ≤ m → natAbs (divisionOf w a b) ≤ m
+stays Quotient a b m h l g = omega (arith, quotient-size a b)
+stays Modulo a b m h l g = omega (arith, mod-leaves a b h .leaves .size)
+stays Rem a b m h l g = omega (arith, rem-leaves a b h .size)
+
 pub division-laws : DivisionLaws
-division-laws = record { rem = rem-leaves; modulo = mod-leaves; only = only; quotient-size = quotient-size }
+division-laws = record { rem = rem-leaves; modulo = mod-leaves; only = only; stays = stays }

@@ -3,9 +3,10 @@
 use mathlib.Core.Path.{_≡_}
 use mathlib.Core.Bool.{true}
 use mathlib.Core.Logic.{_⊎_}
-use Prim.Native.Nat.{_≤_, _<_}
+use Prim.Native.Nat.{ℕ, _≤_, _<_}
 use lib.IntN.{ℤ, pos, natAbs, _+ℤ_, _*ℤ_}
-use Rattle.integers.specs.Division.{alike, quotient, rem, modulo}
+use Rattle.integers.specs.declared.division.Division.{Division}
+use Rattle.integers.specs.Division.{alike, quotient, rem, modulo, divisionOf}
 
 -- b goes into a q times and leaves r, which is 0 or has the sign of s, and is smaller than b
 pub record Leaves (s a b q r : ℤ) : Type 0 where
@@ -24,8 +25,8 @@ pub record DivisionLaws : Type 0 where
   pub modulo : (a b : ℤ) → (b ≡ pos 0 → ⊥) → LeavesMod a b
   -- no two remainders of one sign
   pub only : (s a b q r q' r' : ℤ) → Leaves s a b q r → Leaves s a b q' r' → (q ≡ q') × (r ≡ r')
-  -- a quotient is no larger than a; so it never leaves the range of integers, which is symmetric
-  pub quotient-size : (a b : ℤ) → natAbs (quotient a b) ≤ natAbs a
+  -- a range with both ends alike, -m and m, is never left
+  pub stays : (w : Division) (a b : ℤ) (m : ℕ) → (b ≡ pos 0 → ⊥) → natAbs a ≤ m → natAbs b ≤ m → natAbs (divisionOf w a b) ≤ m
 
 -- what the machine divides: numbers of at most 2 to the 31, by one other than 0
 pub record Divisible (a b : ℤ) : Type 0 where

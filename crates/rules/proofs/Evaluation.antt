@@ -11,13 +11,16 @@ use lib.IntN.{ℤ, pos, negsuc, natAbs, negℤ, _+ℤ_, _-ℤ_, _*ℤ_}
 use lib.Signed.{ltZ}
 use mir.Syntax.{w32}
 use mir.Val.{ofZ}
-use borrow.Author.Tests.{ltb-true, le-leb, ne-eqb}
+use borrow.Author.Tests.{ltb-true, le-leb, ne-eqb, eqb-false}
 use Rattle.base.specs.Course.{upTo, course}
 use Rattle.base.proofs.Cases.{by-test}
 use Rattle.base.proofs.Below.{Each, _and_, among, split}
 use Rattle.base.proofs.Course.{earlier}
 use Rattle.values.specs.Operators.{notOf, andOf, orOf, xorOf}
-use Rattle.integers.specs.Division.{quotient, rem, modulo}
+use Rattle.integers.specs.declared.division.Division.{Division}
+use Rattle.integers.specs.declared.division.Division.the-variants.{Quotient, Modulo, Rem}
+use Rattle.integers.specs.Division.{quotient, rem, modulo, divisionOf}
+use Rattle.integers.proofs.Remainders.{stays}
 use Rattle.values.proofs.Operators.{not-below, and-below, or-below, xor-below}
 use Rattle.blocks.specs.Records.{Model, nodeAt, variableAt, signalAt}
 use Rattle.blocks.specs.declared.records.NodeRecord.{NodeRecord}
@@ -28,6 +31,7 @@ use Rattle.model.specs.Facts.{Facts, NodeFits, NodeTyped}
 use Rattle.rules.specs.declared.value.Value.{Value}
 use Rattle.rules.specs.declared.value.Value.the-variants.{Of, Fault}
 use Rattle.rules.specs.Evaluation.{Environment, truth, int, one, two, unlessFirst, notBy, andBy, orBy, xorBy, ranged, negateOf, sumOf, differenceOf, equalOf, lessOf, productOf, divided, valueBy, nextValue, evalOf}
+use Rattle.rules.proofs.Signed.{int-zero, int-size}
 
 -- node d is read in the same way with e, p and q as with e', p' and q': where its kind reads them they are the same
 pub record Alike (d : NodeRecord) (e e' : Environment) (p p' q q' : Value) : Type 0 where
@@ -167,8 +171,12 @@ one-typed : (s t : ℕ) (p : Value) (f : ℕ → Value) → Typed s p → ((x : 
 one-typed s t (Of x) f h g = g x h
 one-typed s t (Fault e) f h g = h
 
+operands-typed : (s s' t : ℕ) (p q : Value) (f : ℕ → ℕ → Value) → Typed s p → Typed s' q → ((x y : ℕ) → valueOk s x ≡ true → valueOk s' y ≡ true → Typed t (f x y))
+    → Typed t (two p q f)
+operands-typed s s' t p q f h k g = one-typed s t p (λ x. one q (λ y. f x y)) h (λ x v. one-typed s' t q (λ y. f x y) k (λ y w. g x y v w))
+
 two-typed : (s s' t : ℕ) (p q : Value) (f : ℕ → ℕ → Value) → Typed s p → Typed s' q → ((x y : ℕ) → Typed t (f x y)) → Typed t (two p q f)
-two-typed s s' t p q f h k g = one-typed s t p (λ x. one q (λ y. f x y)) h (λ x _. one-typed s' t q (λ y. f x y) k (λ y _. g x y))
+two-typed s s' t p q f h k g = operands-typed s s' t p q f h k (λ x y v w. g x y)
 
 unless-typed : (t decides : ℕ) (p q : Value) → Typed t p → Typed t q → Typed t (unlessFirst decides p q)
 unless-typed t decides p q h k = one-typed t t p _ h (λ x v. by-test (Typed t) (eqb x decides) _ _ (λ e. v) (λ e. k))
@@ -183,19 +191,26 @@ unfolding valueOk
 truth-typed true = refl
 truth-typed false = refl
 
-ranged-typed : (z : ℤ) → Typed integer (ranged z)
-unfolding valueOk ranged
-ranged-typed z =
-    by-test (Typed integer) (ltb (natAbs z) 2147483648) _ _
-    (λ e. rw (ne-eqb (ofZ w32 z) 2147483648 (apart z (ltb-true (natAbs z) 2147483648 e)))) (λ e. lit≤ tt)
+inside-typed : (z : ℤ) → natAbs z < 2147483648 → Typed integer (Of (ofZ w32 z))
+unfolding valueOk
+inside-typed z l = rw (ne-eqb (ofZ w32 z) 2147483648 (apart z l))
   where
     apart : (z : ℤ) → natAbs z < 2147483648 → ofZ w32 z ≡ 2147483648 → ⊥
     apart (pos n) l e = omega arith
     apart (negsuc n) l e = omega arith
 
-divided-typed : (f : ℤ → ℤ → ℤ) (x y : ℕ) → Typed integer (divided f x y)
+ranged-typed : (z : ℤ) → Typed integer (ranged z)
+unfolding ranged
+ranged-typed z =
+    by-test (Typed integer) (ltb (natAbs z) 2147483648) _ _
+    (λ e. inside-typed z (ltb-true (natAbs z) 2147483648 e)) (λ e. lit≤ tt)
+
+-- so is a quotient, a mod or a rem of two integers: each is in the range, as they are
+divided-typed : (w : Division) (x y : ℕ) → valueOk integer x ≡ true → valueOk integer y ≡ true → Typed integer (divided (divisionOf w) x y)
 unfolding divided
-divided-typed f x y = by-test (Typed integer) (eqb y 0) _ _ (λ e. lit≤ tt) (λ e. ranged-typed (f (int x) (int y)))
+divided-typed w x y h k =
+    by-test (Typed integer) (eqb y 0) _ _ (λ e. lit≤ tt)
+    (λ e. inside-typed (divisionOf w (int x) (int y)) (omega (arith, stays w (int x) (int y) 2147483647 (λ z. eqb-false y 0 e (int-zero y z)) (int-size x h) (int-size y k))))
 
 -- the operators of a type that is logic or boolean
 module _ (ty : ℕ) (known : 1 ≤ ty) (most : ty ≤ 2) (p q : Value) (hp : Typed ty p) (hq : Typed ty q) where
@@ -266,8 +281,11 @@ module _ (M : Model) (fs : Facts M) (e : Environment) (ok : EnvironmentFits M e)
           bq g e = let s : 7 ≤ nodeAt M n .kind = omega arith in rw (t .logicalB s m) at (hq s (λ z. omega arith))
 
       -- f of two integers, where the node's kind is no relation, and of two operands where it is one
-      number : 11 ≤ nodeAt M n .kind → (nodeAt M n .kind ≡ 13 → ⊥) → (nodeAt M n .kind ≡ 14 → ⊥) → (f : ℕ → ℕ → Value) → ((x y : ℕ) → Typed integer (f x y)) → Typed (typeOf M n) (two p q f)
-      number l e g f h = rw (t .arithmetic (omega arith) e g) (two-typed _ _ integer p q f (hp (omega arith)) (hq (omega arith) (λ z. omega arith)) h)
+      number : 11 ≤ nodeAt M n .kind → (nodeAt M n .kind ≡ 13 → ⊥) → (nodeAt M n .kind ≡ 14 → ⊥) → (f : ℕ → ℕ → Value)
+          → ((x y : ℕ) → valueOk integer x ≡ true → valueOk integer y ≡ true → Typed integer (f x y)) → Typed (typeOf M n) (two p q f)
+      number l e g f h =
+          rw (t .arithmetic (omega arith) e g)
+          (operands-typed integer integer integer p q f (rw (t .arithmeticA (omega arith) e g) at (hp (omega arith))) (rw (t .arithmeticB l e g) at (hq (omega arith) (λ z. omega arith))) h)
 
       relation : 13 ≤ nodeAt M n .kind → nodeAt M n .kind ≤ 14 → (f : ℕ → ℕ → Value) → ((x y : ℕ) → Typed boolean (f x y)) → Typed (typeOf M n) (two p q f)
       relation l m f h = rw (t .relation l m) (two-typed _ _ boolean p q f (hp (omega arith)) (hq (omega arith) (λ z. omega arith)) h)
@@ -277,14 +295,14 @@ module _ (M : Model) (fs : Facts M) (e : Environment) (ok : EnvironmentFits M e)
       numbers l m =
           among (λ k. nodeAt M n .kind ≡ k → TypedHere) 10 9 (nodeAt M n .kind)
           ((λ k. rw (k, t .arithmetic l (λ z. omega arith) (λ z. omega arith)) (one-typed _ integer p _ (hp (omega arith)) (λ x v. ranged-typed (negℤ (int x)))))
-          and (λ k. rw k (number (omega arith) (λ z. omega arith) (λ z. omega arith) sumOf (λ x y. ranged-typed (int x +ℤ int y))))
-          and (λ k. rw k (number (omega arith) (λ z. omega arith) (λ z. omega arith) differenceOf (λ x y. ranged-typed (int x -ℤ int y))))
+          and (λ k. rw k (number (omega arith) (λ z. omega arith) (λ z. omega arith) sumOf (λ x y v w. ranged-typed (int x +ℤ int y))))
+          and (λ k. rw k (number (omega arith) (λ z. omega arith) (λ z. omega arith) differenceOf (λ x y v w. ranged-typed (int x -ℤ int y))))
           and (λ k. rw k (relation (omega arith) (omega arith) equalOf (λ x y. truth-typed (eqb x y))))
           and (λ k. rw k (relation (omega arith) (omega arith) lessOf (λ x y. truth-typed (ltZ (int x) (int y)))))
-          and (λ k. rw k (number (omega arith) (λ z. omega arith) (λ z. omega arith) productOf (λ x y. ranged-typed (int x *ℤ int y))))
-          and (λ k. rw k (number (omega arith) (λ z. omega arith) (λ z. omega arith) (divided quotient) (divided-typed quotient)))
-          and (λ k. rw k (number (omega arith) (λ z. omega arith) (λ z. omega arith) (divided modulo) (divided-typed modulo)))
-          and (λ k. rw k (number (omega arith) (λ z. omega arith) (λ z. omega arith) (divided rem) (divided-typed rem)))
+          and (λ k. rw k (number (omega arith) (λ z. omega arith) (λ z. omega arith) productOf (λ x y v w. ranged-typed (int x *ℤ int y))))
+          and (λ k. rw k (number (omega arith) (λ z. omega arith) (λ z. omega arith) (divided quotient) (divided-typed Quotient)))
+          and (λ k. rw k (number (omega arith) (λ z. omega arith) (λ z. omega arith) (divided modulo) (divided-typed Modulo)))
+          and (λ k. rw k (number (omega arith) (λ z. omega arith) (λ z. omega arith) (divided rem) (divided-typed Rem)))
           and tt)
           l (omega arith) refl
 

@@ -11,6 +11,5 @@ pub mod Outcomes
 pub mod Picks
 pub mod Settling
 pub mod Signed
-pub mod Ranges
 pub mod StepReachable
 pub mod Waves

@@ -1,23 +1,25 @@
--- Signed arithmetic: what the machine's sums, products and divisions ask, from bounds on the operands, and the two ways between a word and its integer.
--- Assumes nothing.
+-- Signed arithmetic: what the machine's sums, products and divisions ask, from bounds on the operands, and the two ways between a
+-- word and its integer. Assumes nothing.
 use mathlib.Core.Path.{_≡_, refl, sym, ap, _∙_}
 use mathlib.Core.Bool.{true, false, true≢false, false≢true}
-use Prim.Native.Nat.{ℕ, suc, _<_, _≤_}
+use Prim.Native.Nat.{ℕ, suc, _-_, _<_, _≤_}
 use native.Mathlib.Nat.{mul-le-mul}
 use native.Mathlib.Omega.{arith}
 use lib.IntN.{ℤ, pos, negsuc, natAbs, negℤ, pos-ne-negsuc, +ℤ-idl, _+ℤ_, _-ℤ_, _*ℤ_}
 use lib.Signed.{ltZ, nonNeg}
-use lib.Dec.{T, ltb}
-use borrow.Author.Tests.{ltb-true, ltb-false, le-ltb, lt-ltb}
+use lib.Dec.{T, eqb, ltb}
+use borrow.Author.Tests.{ltb-true, ltb-false, le-ltb, lt-ltb, eqb-false, not-true}
 use mir.Syntax.{w32, w64}
 use mir.Val.{Fits, SFits, toZ, ofZ}
-use mir.Facts.{toZ-ofZ, toZ-pos, sfits-toZ, sfits-widen, fits-ofZ}
+use mir.Facts.{toZ-ofZ, toZ-pos, sfits-toZ, sfits-widen}
 use Rattle.base.proofs.Cases.{either-way}
 use Rattle.integers.specs.declared.division.Division.{Division}
 use Rattle.integers.specs.Division.{divisionOf}
 use Rattle.integers.specs.Laws.{Divisible}
 use Rattle.integers.proofs.Machine.{division-size}
 use Rattle.integers.proofs.Sizes.{neg-abs, add-abs, abs-times, small}
+use Rattle.fields.specs.Fields.{valueOk}
+use Rattle.trees.specs.Trees.{integer}
 use Rattle.rules.specs.Evaluation.{int}
 
 -- what `in_range` tests
@@ -34,10 +36,6 @@ inside (pos n) e f = omega (arith, ltb-false 2147483647 n f)
 inside (negsuc n) e f = omega (arith, ltb-false 2147483646 n e)
 
 -- from a size to a fit, and back
-small32 : (z : ℤ) → natAbs z < 2147483648 → SFits w32 z
-small32 (pos n) h = record { sfits = h }
-small32 (negsuc n) h = record { sfits = omega arith }
-
 size : (z : ℤ) → SFits w32 z → natAbs z ≤ 2147483648
 size (pos n) h = omega (arith, h .sfits)
 size (negsuc n) h = omega (arith, h .sfits)
@@ -49,6 +47,16 @@ int-fits x h = sfits-widen tt (sfits-toZ h)
 -- the 32 bits of 0
 pub int-zero : (y : ℕ) → int y ≡ pos 0 → y ≡ 0
 int-zero y e = either-way (ltb y 2147483648) (λ t. ap natAbs (rw t at e)) (λ t. absurd (pos-ne-negsuc 0 _ (sym (rw t at e))))
+
+-- the integer of 32 bits that are an integer is in the range
+pub int-size : (x : ℕ) → valueOk integer x ≡ true → natAbs (int x) ≤ 2147483647
+unfolding valueOk
+int-size x h =
+    either-way (ltb x 2147483648) (λ t. rw t (omega (arith, ltb-true x 2147483648 t)))
+    (λ t. rw t (other x (ltb-false x 2147483648 t) (eqb-false x 2147483648 (not-true (eqb x 2147483648) h))))
+  where
+    other : (x : ℕ) → 2147483648 ≤ x → (x ≡ 2147483648 → ⊥) → suc (4294967296 - suc x) ≤ 2147483647
+    other x l n = omega arith
 
 -- r and s being what `int` returned for x and y: what the machine reads of r, and its negation, sum and difference, which fit
 -- 64 bits, are those of the integers
@@ -116,6 +124,9 @@ module _ (x : ℕ) (h : x < 4294967296) {r : ℤ} (e : r ≡ int x) where
         rw (e, int-read, other-read)
         (toZ-ofZ (small (divisionOf w (int x) (int y)) (omega (arith, division-size w (int x) (int y) (numbers h)))))
 
+    pub division-small : (w : Division) {v : ℤ} → (y ≡ 0 → ⊥) → v ≡ divisionOf w (read r) (read s) → natAbs (read v) ≤ 2147483648
+    division-small w h e = rw (division-is w h e) (division-size w (int x) (int y) (numbers h))
+
     pub less-is : ltZ (read r) (read s) ≡ ltZ (int x) (int y)
     less-is = rw (int-read, other-read)
 
@@ -138,7 +149,7 @@ int-high x g h =
     rw p (simp (lt-ltb x 4294967296 l, le-ltb x 2147483648 g))
 
 -- `word_of`: the integer, or that 2 ^ 32 above it, is the word
-lifted : (z : ℤ) → ltZ z (pos 0) ≡ true → natAbs z < 2147483648 → z +ℤ pos 4294967296 ≡ pos (ofZ w32 z)
+lifted : (z : ℤ) → ltZ z (pos 0) ≡ true → natAbs z ≤ 2147483648 → z +ℤ pos 4294967296 ≡ pos (ofZ w32 z)
 lifted (pos n) e h = absurd (omega (arith, ltb-true n 0 e))
 lifted (negsuc n) e h = simp (le-ltb 4294967296 (suc n) (omega arith))
 
@@ -146,7 +157,12 @@ kept : (z : ℤ) → ltZ z (pos 0) ≡ false → z ≡ pos (ofZ w32 z)
 kept (pos n) e = refl
 kept (negsuc n) e = absurd (true≢false e)
 
-module _ (z : ℤ) (f : SFits w64 z) (h : natAbs z < 2147483648) where
+-- a word holds a number of at most 2 to the 31
+word-fits : (z : ℤ) → natAbs z ≤ 2147483648 → Fits w32 (ofZ w32 z)
+word-fits (pos n) h = record { fits = omega arith }
+word-fits (negsuc n) h = record { fits = omega arith }
+
+module _ (z : ℤ) (f : SFits w64 z) (h : natAbs z ≤ 2147483648) where
   pub lift-fits : SFits w64 (toZ w64 (ofZ w64 z) +ℤ pos 4294967296)
   lift-fits = rw (toZ-ofZ f) (small (z +ℤ pos 4294967296) (omega (arith, add-abs z (pos 4294967296))))
 
@@ -157,4 +173,4 @@ module _ (z : ℤ) (f : SFits w64 z) (h : natAbs z < 2147483648) where
   keep-word e = toZ-ofZ f ∙ kept z (simp (toZ-ofZ f) at e)
 
   pub cast-word : (y : ℤ) → y ≡ pos (ofZ w32 z) → T (nonNeg y) × Fits w32 (natAbs y)
-  cast-word y e = rw e (tt, fits-ofZ (small32 z h))
+  cast-word y e = rw e (tt, word-fits z h)

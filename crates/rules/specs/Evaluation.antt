@@ -1,10 +1,9 @@
 -- The value of an expression: node kinds 1 to 18.
 -- "1 integer k; 2 logic k; 3 variable a; 4 signal a; 5 signal a delayed by k, 0 to 31; 6 not a; 7 and; 8 or; 9 xor; 10 negate
 -- a; 11 a + b; 12 a - b; 13 equal; 14 less." "Node kinds 15 to 18 are product, quotient, mod and rem on integers" (document 02, item 2).
-use mathlib.Core.Path.{_≡_}
 use mathlib.Core.Bool.{Bool, true, false, not, _&&_}
 use mathlib.Core.List.{List}
-use Prim.Native.Nat.{ℕ, _≤_}
+use Prim.Native.Nat.{ℕ}
 use lib.Dec.{eqb, ltb}
 use lib.ListN.{getD}
 use lib.IntN.{ℤ, natAbs, negℤ, _+ℤ_, _-ℤ_, _*ℤ_}
@@ -14,8 +13,7 @@ use mir.Val.{toZ, ofZ}
 use Rattle.base.specs.Cases.{_∣_, _⇒_, _is_⇒_}
 use Rattle.base.specs.Course.{course}
 use Rattle.values.specs.Operators.{notOf, andOf, orOf, xorOf}
-use Rattle.integers.specs.declared.division.Division.{Division}
-use Rattle.integers.specs.Division.{quotient, rem, modulo, divisionOf}
+use Rattle.integers.specs.Division.{quotient, rem, modulo}
 use Rattle.blocks.specs.Records.{Model, nodeAt}
 use Rattle.blocks.specs.declared.records.NodeRecord.{NodeRecord}
 use Rattle.trees.specs.Trees.{boolean, typeOf}
@@ -64,19 +62,10 @@ lessOf x y = Of (truth (ltZ (int x) (int y)))
 unfoldable pub productOf : ℕ → ℕ → Value
 productOf x y = ranged (int x *ℤ int y)
 
--- "A divisor of 0 is the new fault 4": the division f of two operands
+-- "A divisor of 0 is the new fault 4": the division f of two operands. It never leaves the range, which has both ends alike
+-- (`integers/specs/Laws`).
 unfoldable pub divided : (ℤ → ℤ → ℤ) → ℕ → ℕ → Value
-divided f x y = eqb y 0 ⇒ Fault 4 ∣ ranged (f (int x) (int y))
-
--- an integer "from -2,147,483,647 to 2,147,483,647"
-abbrev pub InRange : ℕ → Type 0
-InRange x = natAbs (int x) ≤ 2147483647
-
--- the range has both ends alike, so that quotient, mod and rem of two integers in it never leave it
-abbrev pub DivisionStays : Type 0
-DivisionStays =
-    (w : Division) (x y : ℕ) → InRange x → InRange y → (y ≡ 0 → ⊥)
-    → divided (divisionOf w) x y ≡ Of (ofZ w32 (divisionOf w (int x) (int y)))
+divided f x y = eqb y 0 ⇒ Fault 4 ∣ Of (ofZ w32 (f (int x) (int y)))
 
 -- "a before b": f of one operand, or its fault
 abbrev pub one : Value → (ℕ → Value) → Value

@@ -282,14 +282,14 @@ unfolding valueBy
     -- returns-18
     (λ c.
     let h = c .before .before .before in
-    binary-value (h .before .before .before .pre) (h .before .node-at .ensures) _ refl (c .before .before .eval19 .ensures) (c .before .eval20 .ensures) (rw (h .match .keys16) (c .divide .ensures .0)))
+    binary-value (h .before .before .before .pre) (h .before .node-at .ensures) _ refl (c .before .before .eval19 .ensures) (c .before .eval20 .ensures) (rw (h .match .keys16) (c .divide .ensures)))
     -- returns-19
     (λ c.
     let h = c .before .before .before in
-    binary-value (h .before .before .before .pre) (h .before .node-at .ensures) _ refl (c .before .before .eval21 .ensures) (c .before .eval22 .ensures) (rw (h .match .keys17) (c .divide2 .ensures .0)))
+    binary-value (h .before .before .before .pre) (h .before .node-at .ensures) _ refl (c .before .before .eval21 .ensures) (c .before .eval22 .ensures) (rw (h .match .keys17) (c .divide2 .ensures)))
     -- returns-20
     (λ c.
     let h = c .before .before .before in
-    binary-value (h .before .before .before .pre) (h .before .node-at .ensures) _ refl (c .before .before .eval23 .ensures) (c .before .eval24 .ensures) (rw (h .match .keys18) (c .divide3 .ensures .0)))
+    binary-value (h .before .before .before .pre) (h .before .node-at .ensures) _ refl (c .before .before .eval23 .ensures) (c .before .eval24 .ensures) (rw (h .match .keys18) (c .divide3 .ensures)))
     -- returns-21
     (λ c. no-other (c .before .before .before .pre) (c .before .node-at .ensures) (c .match .rest))

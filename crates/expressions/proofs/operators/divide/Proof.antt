@@ -2,9 +2,11 @@
 use mathlib.Core.Path.{ap, _∙_}
 use borrow.Author.Needs.{needs}
 use borrow.Author.Tests.{ne-eqb}
-use Rattle.rules.specs.Evaluation.{ranged, divided}
-use Rattle.rules.proofs.Ranges.{division-stays}
-use Rattle.rules.proofs.Signed.{divisible, division-is}
+use mir.Syntax.{w32}
+use mir.Val.{ofZ}
+use Rattle.rules.specs.declared.value.Value.the-variants.{Of}
+use Rattle.rules.specs.Evaluation.{divided}
+use Rattle.rules.proofs.Signed.{divisible, division-is, division-small}
 use Rattle.expressions.proofs.operators.divide.Statement.{statement}
 use Rattle.expressions.proofs.operators.divide.Tie as tie
 
@@ -29,22 +31,22 @@ divide-spec =
     (λ c κs.
     let k = c .before .before .before in
     divisible _ (k .before .before .before .known-told2 .given .0 .1) (c .before .int .ensures) _ (k .known-told4 .given .0 .1) (c .int2 .ensures) (c .before .before .if1 .left))
-    -- in-range-requires
-    (λ c κs. search needs)
+    -- bits-of-requires
+    (λ c κs.
+    let i = c .before .before in
+    let k = i .before .before in
+    division-small _ (k .before .before .before .known-told2 .given .0 .1) (i .int .ensures) _ (k .known-told4 .given .0 .1) (c .before .int2 .ensures) (k .before .before .before .before .before .before .args .which) (i .before .if1 .left) (c .divide .ensures .0))
     -- returns
-    (λ c. (rw (c .before .p .given .1), division-stays))
+    (λ c. rw (c .before .p .given .1))
     -- returns-2
-    (λ c. (rw (c .before .before .before .before .p2 .given .1, c .before .q .given .1), division-stays))
+    (λ c. rw (c .before .before .before .before .p2 .given .1, c .before .q .given .1))
     -- returns-3
-    (λ c.
-    let k = c .before in
-    (rw (k .before .before .before .before .p2 .given .1, k .before .q2 .given .1, c .if1 .taken), division-stays))
+    (λ c. let k = c .before in rw (k .before .before .before .before .p2 .given .1, k .before .q2 .given .1, c .if1 .taken))
     -- returns-4
     (λ c.
     let i = c .before .before .before in
-    let k = i .before .before in (
-      rw (k .before .before .before .before .p2 .given .1, k .before .q2 .given .1, ne-eqb _ 0 (i .before .if1 .left))
-          (c .in-range .ensures
-          ∙ ap ranged (division-is _ (k .before .before .before .known-told2 .given .0 .1) (i .int .ensures) _ (k .known-told4 .given .0 .1) (c .before .before .int2 .ensures) (k .before .before .before .before .before .before .args .which) (i .before .if1 .left) (c .before .divide .ensures .0))),
-      division-stays,
-    )))
+    let k = i .before .before in
+    rw (k .before .before .before .before .p2 .given .1, k .before .q2 .given .1, ne-eqb _ 0 (i .before .if1 .left))
+    (ap Of
+    (c .bits-of .ensures
+    ∙ ap (ofZ w32) (division-is _ (k .before .before .before .known-told2 .given .0 .1) (i .int .ensures) _ (k .known-told4 .given .0 .1) (c .before .before .int2 .ensures) (k .before .before .before .before .before .before .args .which) (i .before .if1 .left) (c .before .divide .ensures .0))))))

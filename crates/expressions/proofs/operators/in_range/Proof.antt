@@ -1,5 +1,6 @@
 -- `in_range`: its two tests are that of `ranged`. Assumes nothing.
 use mathlib.Core.Path.{ap, _∙_}
+use native.Mathlib.Nat.{le-of-lt}
 use mir.Syntax.{w32}
 use mir.Val.{ofZ}
 use mir.Facts.{toZ-ofZ}
@@ -20,7 +21,7 @@ in-range-spec =
     -- returns-2
     (λ c. simp (too-high (c .before .before .args .z) (simp (toZ-ofZ (c .before .before .fits .z)) at (c .if2 .taken))))
     -- bits-of-requires
-    (λ c κs. rw (toZ-ofZ (c .before .before .fits .z)) (inside (c .before .before .args .z) (simp (toZ-ofZ (c .before .before .fits .z)) at (c .before .if1 .left)) (simp (toZ-ofZ (c .before .before .fits .z)) at (c .if2 .left))))
+    (λ c κs. rw (toZ-ofZ (c .before .before .fits .z)) (le-of-lt (inside (c .before .before .args .z) (simp (toZ-ofZ (c .before .before .fits .z)) at (c .before .if1 .left)) (simp (toZ-ofZ (c .before .before .fits .z)) at (c .if2 .left)))))
     -- returns-3
     (λ c.
     let s = c .before .before .before in
