@@ -11,7 +11,7 @@ use mir.Syntax.{w64}
 use mir.Val.{SFits, toZ, ofZ}
 use mir.Facts.{toZ-ofZ}
 use Rattle.integers.specs.declared.division.Division.{Division}
-use Rattle.integers.specs.Division.{alike, quotient, rem, modulo, divisionOf}
+use Rattle.integers.specs.Division.{sameSign, quotient, rem, modulo, divisionOf}
 use Rattle.integers.specs.Laws.{Divisible}
 use Rattle.integers.proofs.Sizes.{add-abs, small, bits-some}
 use Rattle.integers.proofs.Remainders.{quotient-is, quotient-size, rem-is, rem-leaves, stays}
@@ -21,12 +21,12 @@ abbrev read : ℤ → ℤ
 read z = toZ w64 (ofZ w64 z)
 
 -- the machine's tests: two numbers have one sign, and a number is 0
-alike-tests : (a b : ℤ) → Bool·beq (ltZ a (pos 0)) (ltZ b (pos 0)) ≡ alike a b
+same-sign-tests : (a b : ℤ) → Bool·beq (ltZ a (pos 0)) (ltZ b (pos 0)) ≡ sameSign a b
 unfolding Bool·beq
-alike-tests (pos m) (pos n) = rw (le-ltb m 0 zero-le, le-ltb n 0 zero-le)
-alike-tests (pos m) (negsuc n) = rw (le-ltb m 0 zero-le)
-alike-tests (negsuc m) (pos n) = rw (le-ltb n 0 zero-le)
-alike-tests (negsuc m) (negsuc n) = refl
+same-sign-tests (pos m) (pos n) = rw (le-ltb m 0 zero-le, le-ltb n 0 zero-le)
+same-sign-tests (pos m) (negsuc n) = rw (le-ltb m 0 zero-le)
+same-sign-tests (negsuc m) (pos n) = rw (le-ltb n 0 zero-le)
+same-sign-tests (negsuc m) (negsuc n) = refl
 
 zero-test : (z : ℤ) → natAbs z < 2 ^ 63 → eqb (ofZ w64 z) 0 ≡ eqb (natAbs z) 0
 zero-test (pos n) h = refl
@@ -76,8 +76,8 @@ module _ (a b : ℤ) (h : Divisible a b) where
     result-size : natAbs r < natAbs b
     result-size = rw result-is rem-size
 
-    test-is : (eqb (ofZ w64 r) 0 || Bool·beq (ltZ (read r) (pos 0)) (ltZ (read b) (pos 0))) ≡ (eqb (natAbs r) 0 || alike r b)
-    test-is = rw (result-read, read-b, zero-test r (omega (arith, result-size, h .divisor)), alike-tests r b)
+    test-is : (eqb (ofZ w64 r) 0 || Bool·beq (ltZ (read r) (pos 0)) (ltZ (read b) (pos 0))) ≡ (eqb (natAbs r) 0 || sameSign r b)
+    test-is = rw (result-read, read-b, zero-test r (omega (arith, result-size, h .divisor)), same-sign-tests r b)
 
     pub raised-fits : SFits w64 (read r +ℤ read b)
     raised-fits = rw (result-read, read-b) (small (r +ℤ b) (omega (arith, add-abs r b, result-size, h .divisor)))

@@ -13,7 +13,7 @@ use Rattle.base.proofs.Below.{or-cases}
 use Rattle.base.proofs.Cases.{either-way}
 use Rattle.integers.specs.declared.division.Division.{Division}
 use Rattle.integers.specs.declared.division.Division.the-variants.{Quotient, Modulo, Rem}
-use Rattle.integers.specs.Division.{alike, quotient, rem, modulo, divisionOf}
+use Rattle.integers.specs.Division.{sameSign, quotient, rem, modulo, divisionOf}
 use Rattle.integers.specs.Laws.{Leaves, LeavesMod, DivisionLaws}
 use Rattle.integers.proofs.Sizes.{neg-abs, abs-times, abs-some, abs-none}
 
@@ -60,7 +60,7 @@ rem-is (negsuc m) (negsuc n) =
 pub quotient-size : (a b : ℤ) → natAbs (quotient a b) ≤ natAbs a
 unfolding quotient
 quotient-size a b =
-    either-way (alike a b) (λ e. rw e (div-le-self (natAbs a) (natAbs b)))
+    either-way (sameSign a b) (λ e. rw e (div-le-self (natAbs a) (natAbs b)))
     (λ e. rw (e, neg-abs (pos (natAbs a / natAbs b))) (div-le-self (natAbs a) (natAbs b)))
 
 -- what rem leaves
@@ -68,11 +68,11 @@ rem-equation : (a b : ℤ) → a ≡ quotient a b *ℤ b +ℤ rem a b
 unfolding rem
 rem-equation a b = let k = quotient a b *ℤ b in sym (+ℤ-comm k (a -ℤ k) ∙ -ℤ-+ℤ-cancel a k)
 
-rem-sign : (a b : ℤ) → (remZ a b ≡ pos 0) ⊎ (alike (remZ a b) a ≡ true)
+rem-sign : (a b : ℤ) → (remZ a b ≡ pos 0) ⊎ (sameSign (remZ a b) a ≡ true)
 rem-sign (pos m) b = inr refl
 rem-sign (negsuc m) b = negated (suc m % natAbs b)
   where
-    negated : (x : ℕ) → (negℤ (pos x) ≡ pos 0) ⊎ (alike (negℤ (pos x)) (negsuc m) ≡ true)
+    negated : (x : ℕ) → (negℤ (pos x) ≡ pos 0) ⊎ (sameSign (negℤ (pos x)) (negsuc m) ≡ true)
     negated zero = inl refl
     negated (suc x) = inr refl
 
@@ -89,7 +89,7 @@ rem-leaves a b h =
     }
 
 -- a remainder of the other sign than b's, and b more
-raised : (r b : ℤ) → (natAbs r ≡ 0 → ⊥) → alike r b ≡ false → natAbs r < natAbs b → (alike (r +ℤ b) b ≡ true) × (natAbs (r +ℤ b) < natAbs b)
+raised : (r b : ℤ) → (natAbs r ≡ 0 → ⊥) → sameSign r b ≡ false → natAbs r < natAbs b → (sameSign (r +ℤ b) b ≡ true) × (natAbs (r +ℤ b) < natAbs b)
 raised (pos m) (pos n) h e l = absurd (true≢false e)
 raised (pos m) (negsuc n) h e l = rw (lt-ltb m (suc n) l) (refl, omega arith)
 raised (negsuc m) (pos n) h e l = rw (le-ltb n (suc m) (omega arith)) (refl, omega arith)
@@ -114,7 +114,7 @@ module _ (a b : ℤ) (h : b ≡ pos 0 → ⊥) where
   leaves : Leaves a a b (quotient a b) r
   leaves = rem-leaves a b h
 
-  kept : (eqb (natAbs r) 0 || alike r b) ≡ true → LeavesMod a b
+  kept : (eqb (natAbs r) 0 || sameSign r b) ≡ true → LeavesMod a b
   unfolding modulo
   kept e =
       record {
@@ -123,15 +123,15 @@ module _ (a b : ℤ) (h : b ≡ pos 0 → ⊥) where
             rw e
             record {
               equation = leaves .equation;
-              sign = ⊎-elim (λ (z : eqb (natAbs r) 0 ≡ true). inl (abs-none r (eqb-true (natAbs r) 0 z))) (λ (z : alike r b ≡ true). inr z) (or-cases (eqb (natAbs r) 0) (alike r b) e);
+              sign = ⊎-elim (λ (z : eqb (natAbs r) 0 ≡ true). inl (abs-none r (eqb-true (natAbs r) 0 z))) (λ (z : sameSign r b ≡ true). inr z) (or-cases (eqb (natAbs r) 0) (sameSign r b) e);
               size = leaves .size;
             };
       }
 
-  more : (eqb (natAbs r) 0 || alike r b) ≡ false → LeavesMod a b
+  more : (eqb (natAbs r) 0 || sameSign r b) ≡ false → LeavesMod a b
   unfolding modulo
   more e =
-      let none = not-or (eqb (natAbs r) 0) (alike r b) e in
+      let none = not-or (eqb (natAbs r) 0) (sameSign r b) e in
       let g = raised r b (λ z. absurd (true≢false (sym (eq-eqb (natAbs r) 0 z) ∙ none .0))) (none .1) (leaves .size) in
       record {
         times = predℤ (quotient a b);
@@ -139,20 +139,20 @@ module _ (a b : ℤ) (h : b ≡ pos 0 → ⊥) where
       }
 
   pub mod-leaves : LeavesMod a b
-  mod-leaves = either-way (eqb (natAbs r) 0 || alike r b) kept more
+  mod-leaves = either-way (eqb (natAbs r) 0 || sameSign r b) kept more
 
 -- no two remainders of one sign. Their difference is smaller than b
-difference-below : (s r r' : ℤ) (c : ℕ) → (r ≡ pos 0) ⊎ (alike r s ≡ true) → (r' ≡ pos 0) ⊎ (alike r' s ≡ true) → natAbs r < c → natAbs r' < c → natAbs (r' -ℤ r) < c
+difference-below : (s r r' : ℤ) (c : ℕ) → (r ≡ pos 0) ⊎ (sameSign r s ≡ true) → (r' ≡ pos 0) ⊎ (sameSign r' s ≡ true) → natAbs r < c → natAbs r' < c → natAbs (r' -ℤ r) < c
 difference-below (pos m) r r' c h h' l l' = rw (up r h, up r' h') (difference-small (natAbs r') (natAbs r) c l' l)
   where
-    up : (x : ℤ) → (x ≡ pos 0) ⊎ (alike x (pos m) ≡ true) → x ≡ pos (natAbs x)
+    up : (x : ℤ) → (x ≡ pos 0) ⊎ (sameSign x (pos m) ≡ true) → x ≡ pos (natAbs x)
     up (pos n) e = refl
     up (negsuc n) e = ⊎-elim (λ z. absurd (pos-ne-negsuc 0 n (sym z))) (λ z. absurd (true≢false (sym z))) e
 difference-below (negsuc m) r r' c h h' l l' =
     rw (down r h, down r' h', difference-negated (pos (natAbs r')) (pos (natAbs r)), neg-abs (pos (natAbs r') -ℤ pos (natAbs r)))
     (difference-small (natAbs r') (natAbs r) c l' l)
   where
-    down : (x : ℤ) → (x ≡ pos 0) ⊎ (alike x (negsuc m) ≡ true) → x ≡ negℤ (pos (natAbs x))
+    down : (x : ℤ) → (x ≡ pos 0) ⊎ (sameSign x (negsuc m) ≡ true) → x ≡ negℤ (pos (natAbs x))
     down (pos zero) e = refl
     down (pos (suc n)) e = ⊎-elim (λ z. absurd (omega (arith, ap natAbs z))) (λ z. absurd (true≢false (sym z))) e
     down (negsuc n) e = refl

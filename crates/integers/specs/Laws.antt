@@ -6,12 +6,12 @@ use mathlib.Core.Logic.{_⊎_}
 use Prim.Native.Nat.{ℕ, _≤_, _<_}
 use lib.IntN.{ℤ, pos, natAbs, _+ℤ_, _*ℤ_}
 use Rattle.integers.specs.declared.division.Division.{Division}
-use Rattle.integers.specs.Division.{alike, quotient, rem, modulo, divisionOf}
+use Rattle.integers.specs.Division.{sameSign, quotient, rem, modulo, divisionOf}
 
 -- b goes into a q times and leaves r, which is 0 or has the sign of s, and is smaller than b
 pub record Leaves (s a b q r : ℤ) : Type 0 where
   pub equation : a ≡ q *ℤ b +ℤ r
-  pub sign : (r ≡ pos 0) ⊎ (alike r s ≡ true)
+  pub sign : (r ≡ pos 0) ⊎ (sameSign r s ≡ true)
   pub size : natAbs r < natAbs b
 
 -- "mod the sign of b": it differs from a by some multiple of b
@@ -25,7 +25,7 @@ pub record DivisionLaws : Type 0 where
   pub modulo : (a b : ℤ) → (b ≡ pos 0 → ⊥) → LeavesMod a b
   -- no two remainders of one sign
   pub only : (s a b q r q' r' : ℤ) → Leaves s a b q r → Leaves s a b q' r' → (q ≡ q') × (r ≡ r')
-  -- a range with both ends alike, -m and m, is never left
+  -- a range with both ends sameSign, -m and m, is never left
   pub stays : (w : Division) (a b : ℤ) (m : ℕ) → (b ≡ pos 0 → ⊥) → natAbs a ≤ m → natAbs b ≤ m → natAbs (divisionOf w a b) ≤ m
 
 -- what the machine divides: numbers of at most 2 to the 31, by one other than 0
