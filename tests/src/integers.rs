@@ -1,5 +1,5 @@
 //! The integers: their range and the operators of node kinds 10 to 12 and 15 to
-//! 18 (document 01; document 02, item 2; IEEE 1076-1987, 7.2.4).
+//! 18 (document 01; document 02, item 2).
 
 use crate::cycle::{DIVISOR_ZERO, OUT_OF_RANGE};
 
