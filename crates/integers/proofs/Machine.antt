@@ -11,10 +11,11 @@ use mir.Syntax.{w64}
 use mir.Val.{SFits, toZ, ofZ}
 use mir.Facts.{toZ-ofZ}
 use Rattle.integers.specs.declared.division.Division.{Division}
+use Rattle.integers.specs.declared.division.Division.the-variants.{Quotient, Rem}
 use Rattle.integers.specs.Division.{sameSign, quotient, rem, modulo, divisionOf}
 use Rattle.integers.specs.Laws.{Divisible}
 use Rattle.integers.proofs.Sizes.{add-abs, small, bits-some}
-use Rattle.integers.proofs.Remainders.{quotient-is, quotient-size, rem-is, rem-leaves, stays}
+use Rattle.integers.proofs.Remainders.{quotient-is, rem-is, rem-leaves, stays}
 
 -- what the machine reads of a number
 abbrev read : ℤ → ℤ
@@ -43,38 +44,32 @@ module _ (a b : ℤ) (h : Divisible a b) where
   read-b : read b ≡ b
   read-b = toZ-ofZ (small b (omega (arith, h .divisor)))
 
-  quotient-fits : SFits w64 (quotient a b)
-  quotient-fits = small (quotient a b) (omega (arith, quotient-size a b, h .dividend))
-
-  rem-size : natAbs (rem a b) < natAbs b
-  rem-size = rem-leaves a b (h .nonzero) .size
-
-  rem-fits : SFits w64 (rem a b)
-  rem-fits = small (rem a b) (omega (arith, rem-size, h .divisor))
+  division-fits : (w : Division) → SFits w64 (divisionOf w a b)
+  division-fits w = small (divisionOf w a b) (omega (arith, division-size w a b h))
 
   pub divides : (0 < ofZ w64 b) × SFits w64 (quotZ (read a) (read b))
-  divides = (bits-some b (h .nonzero) (omega (arith, h .divisor)), rw (read-a, read-b) (rw (quotient-is a b) at quotient-fits))
+  divides = (bits-some b (h .nonzero) (omega (arith, h .divisor)), rw (read-a, read-b) (rw (quotient-is a b) at (division-fits Quotient)))
 
   pub quotient-read : read (quotZ (read a) (read b)) ≡ quotient a b
-  quotient-read = rw (read-a, read-b, sym (quotient-is a b)) (toZ-ofZ quotient-fits)
+  quotient-read = rw (read-a, read-b, sym (quotient-is a b)) (toZ-ofZ (division-fits Quotient))
 
   pub rem-read : read (remZ (read a) (read b)) ≡ rem a b
-  rem-read = rw (read-a, read-b, sym (rem-is a b)) (toZ-ofZ rem-fits)
+  rem-read = rw (read-a, read-b, sym (rem-is a b)) (toZ-ofZ (division-fits Rem))
 
   -- v being what one of the divisions returned: what the machine reads of it
   pub division-read : (w : Division) {v : ℤ} → v ≡ divisionOf w (read a) (read b) → read v ≡ divisionOf w a b
-  division-read w e = rw (e, read-a, read-b) (toZ-ofZ (small (divisionOf w a b) (omega (arith, division-size w a b h))))
+  division-read w e = rw (e, read-a, read-b) (toZ-ofZ (division-fits w))
 
   -- r being a rem b: what the machine reads of it, and b more
   module _ {r : ℤ} (e : r ≡ rem (read a) (read b)) where
     result-is : r ≡ rem a b
     result-is = e ∙ rw (read-a, read-b)
 
-    pub result-read : read r ≡ r
-    result-read = rw result-is (toZ-ofZ rem-fits)
+    result-read : read r ≡ r
+    result-read = rw result-is (toZ-ofZ (division-fits Rem))
 
     result-size : natAbs r < natAbs b
-    result-size = rw result-is rem-size
+    result-size = rw result-is (rem-leaves a b (h .nonzero) .size)
 
     test-is : (eqb (ofZ w64 r) 0 || Bool·beq (ltZ (read r) (pos 0)) (ltZ (read b) (pos 0))) ≡ (eqb (natAbs r) 0 || sameSign r b)
     test-is = rw (result-read, read-b, zero-test r (omega (arith, result-size, h .divisor)), same-sign-tests r b)

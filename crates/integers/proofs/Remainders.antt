@@ -57,7 +57,7 @@ rem-is (negsuc m) (pos n) =
 rem-is (negsuc m) (negsuc n) =
     difference-negated (pos (suc m)) (pos (suc m / suc n * suc n)) ∙ ap negℤ (difference (suc m) (suc m / suc n * suc n) (suc m % suc n) (div-add-mod' (suc m) (suc n)))
 
-pub quotient-size : (a b : ℤ) → natAbs (quotient a b) ≤ natAbs a
+quotient-size : (a b : ℤ) → natAbs (quotient a b) ≤ natAbs a
 unfolding quotient
 quotient-size a b =
     either-way (sameSign a b) (λ e. rw e (div-le-self (natAbs a) (natAbs b)))

@@ -28,7 +28,7 @@ use Rattle.rules.proofs.Waves.{driver-taken, driver-later}
 use Rattle.rules.proofs.Driving.{resolved-typed}
 use Rattle.rules.proofs.Earliest.{transactions-later, deadlines-later}
 use Rattle.rules.proofs.Effects.{own-statement, placed}
-use Rattle.rules.proofs.StepReachable.{next-place, stopped-valid}
+use Rattle.rules.proofs.StepReachable.{next-place, stopped-valid, expression-fault-most}
 
 -- a history of 32 values with another current value
 current-length : (v : ℕ) (h : List ℕ) → length h ≡ 32 → length (withCurrent v h) ≡ 32
@@ -119,7 +119,7 @@ module _ (M : Model) (fs : Facts M) (c : Configuration) (r : Reachable M c) wher
         }
 
     woken-by : (v : Value) → Typed boolean v → Valid (wokenBy M p q v)
-    woken-by (Fault f) t = stopped-valid M p (c .time) q (r .each-process p h) f (omega arith)
+    woken-by (Fault f) t = stopped-valid M p (c .time) q (r .each-process p h) f (expression-fault-most t)
     woken-by (Of x) t = by-test Valid (eqb x 1) _ _ (λ e. wakes-valid) (λ e. r .each-process p h)
 
     woken-if : s .kind ≡ 5 → Valid (wokenIf M p now s q)

@@ -1,9 +1,10 @@
 -- What an effect of a process can be: `EffectFits`. Assumes nothing.
 use mathlib.Core.Path.{_≡_, refl}
+use mathlib.Core.Logic.{_⊎_, inl, inr}
 use mathlib.Core.Bool.{true}
-use Prim.Native.Nat.{ℕ, _≤_, _<_}
+use Prim.Native.Nat.{ℕ, _<_}
 use native.Mathlib.Omega.{arith}
-use lib.Dec.{eqb, lit≤}
+use lib.Dec.{eqb}
 use lib.ListN.{length}
 use lib.IntN.{pos, natAbs}
 use lib.Signed.{ltZ}
@@ -27,24 +28,24 @@ use Rattle.rules.specs.declared.effect.Effect.the-variants.{Wait, WaitFo
 use Rattle.rules.specs.Configuration.{Configuration, processIn}
 use Rattle.rules.specs.Evaluation.{Environment, environmentOf, int, evalOf}
 use Rattle.rules.specs.Statements.{withValue, withDelay, effectBy, effectOf}
-use Rattle.rules.specs.Invariant.{EffectFits, ScheduleFits, Reachable}
+use Rattle.rules.specs.Invariant.{ExpressionFault, EffectFits, ScheduleFits, Reachable}
 use Rattle.rules.proofs.Evaluation.{Typed, EnvironmentFits, value-typed}
 use Rattle.rules.proofs.Signed.{below-half, not-negative}
 
--- what a stop with any fault has
+-- what holds of every stop that a statement can make
 abbrev Stops : (Effect → Type 0) → Type 0
-Stops P = (f : ℕ) → f ≤ 4 → P (Stop f)
+Stops P = (f : ℕ) → ExpressionFault f ⊎ (f ≡ 2) → P (Stop f)
 
 -- what holds after any value of the type, and of a stop, holds after a value
 value-then : (P : Effect → Type 0) (ty : ℕ) (v : Value) (next : ℕ → Effect) → Typed ty v → Stops P → ((x : ℕ) → valueOk ty x ≡ true → P (next x)) → P (withValue v next)
 value-then P ty (Of x) next h s g = g x h
-value-then P ty (Fault f) next h s g = s f h
+value-then P ty (Fault f) next h s g = s f (inl h)
 
 -- the same after a delay
 delay-then : (P : Effect → Type 0) (v : Value) (next : ℕ → Effect) → Typed integer v → Stops P → ((d : ℕ) → d < 2147483648 → P (next d)) → P (withDelay v next)
 unfolding withDelay
 delay-then P v next h s g =
-    value-then P integer v _ h s (λ x _. by-test P (ltZ (int x) (pos 0)) _ _ (λ e. s 2 (lit≤ tt)) (λ e. g (natAbs (int x)) (rw (not-negative x e) (below-half x e))))
+    value-then P integer v _ h s (λ x _. by-test P (ltZ (int x) (pos 0)) _ _ (λ e. s 2 (inr refl)) (λ e. g (natAbs (int x)) (rw (not-negative x e) (below-half x e))))
 
 module _ (M : Model) (fs : Facts M) (p : ℕ) where
   module _ (e : Environment) (ok : EnvironmentFits M e) where

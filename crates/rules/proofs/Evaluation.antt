@@ -1,11 +1,11 @@
 -- The laws of evaluation: a node's value from those of its operands, what it depends on, and its type. Assumes nothing.
 use mathlib.Core.Path.{_≡_, refl, sym, ap, _∙_}
-use mathlib.Core.Logic.{⊎-elim}
+use mathlib.Core.Logic.{inl, inr, ⊎-elim}
 use mathlib.Core.Bool.{Bool, true, false, not}
 use Prim.Native.Nat.{ℕ, zero, suc, _+_, _≤_, _<_}
 use native.Mathlib.Omega.{arith}
 use native.Mathlib.Nat.{not-suc-le-zero}
-use lib.Dec.{eqb, ltb, lit≤}
+use lib.Dec.{eqb, ltb}
 use lib.ListN.{length, getD}
 use lib.IntN.{ℤ, pos, negsuc, natAbs, negℤ, _+ℤ_, _-ℤ_, _*ℤ_}
 use lib.Signed.{ltZ}
@@ -31,6 +31,7 @@ use Rattle.model.specs.Facts.{Facts, NodeFits, NodeTyped}
 use Rattle.rules.specs.declared.value.Value.{Value}
 use Rattle.rules.specs.declared.value.Value.the-variants.{Of, Fault}
 use Rattle.rules.specs.Evaluation.{Environment, truth, int, one, two, unlessFirst, notBy, andBy, orBy, xorBy, ranged, negateOf, sumOf, differenceOf, equalOf, lessOf, productOf, divided, valueBy, nextValue, evalOf}
+use Rattle.rules.specs.Invariant.{ExpressionFault}
 use Rattle.rules.proofs.Signed.{int-zero, int-size}
 
 -- node d is read in the same way with e, p and q as with e', p' and q': where its kind reads them they are the same
@@ -162,10 +163,10 @@ module _ (M : Model) (fs : Facts M) (e e' : Environment) where
       → (n : ℕ) → n < length (M .nodes) → evalOf M e n ≡ evalOf M e' n
   agree-all same vs n h = agree-on (λ n. Unit {0}) same (λ n h r k. vs (nodeAt M n .a) (fs .node n h .variable k)) (λ n h r k. tt) (λ n h r k t. tt) n h tt
 
--- a fault, or a value of the type
+-- a fault of an expression, or a value of the type
 abbrev pub Typed : ℕ → Value → Type 0
 Typed ty (Of v) = valueOk ty v ≡ true
-Typed ty (Fault f) = f ≤ 4
+Typed ty (Fault f) = ExpressionFault f
 
 one-typed : (s t : ℕ) (p : Value) (f : ℕ → Value) → Typed s p → ((x : ℕ) → valueOk s x ≡ true → Typed t (f x)) → Typed t (one p f)
 one-typed s t (Of x) f h g = g x h
@@ -203,13 +204,13 @@ ranged-typed : (z : ℤ) → Typed integer (ranged z)
 unfolding ranged
 ranged-typed z =
     by-test (Typed integer) (ltb (natAbs z) 2147483648) _ _
-    (λ e. inside-typed z (ltb-true (natAbs z) 2147483648 e)) (λ e. lit≤ tt)
+    (λ e. inside-typed z (ltb-true (natAbs z) 2147483648 e)) (λ e. inl refl)
 
 -- so is a quotient, a mod or a rem of two integers: each is in the range, as they are
 divided-typed : (w : Division) (x y : ℕ) → valueOk integer x ≡ true → valueOk integer y ≡ true → Typed integer (divided (divisionOf w) x y)
 unfolding divided
 divided-typed w x y h k =
-    by-test (Typed integer) (eqb y 0) _ _ (λ e. lit≤ tt)
+    by-test (Typed integer) (eqb y 0) _ _ (λ e. inr refl)
     (λ e. inside-typed (divisionOf w (int x) (int y)) (omega (arith, stays w (int x) (int y) 2147483647 (λ z. eqb-false y 0 e (int-zero y z)) (int-size x h) (int-size y k))))
 
 -- the operators of a type that is logic or boolean

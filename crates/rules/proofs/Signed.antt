@@ -2,7 +2,7 @@
 -- word and its integer. Assumes nothing.
 use mathlib.Core.Path.{_≡_, refl, sym, ap, _∙_}
 use mathlib.Core.Bool.{true, false, true≢false, false≢true}
-use Prim.Native.Nat.{ℕ, suc, _-_, _<_, _≤_}
+use Prim.Native.Nat.{ℕ, suc, _-_, _^_, _<_, _≤_}
 use native.Mathlib.Nat.{mul-le-mul}
 use native.Mathlib.Omega.{arith}
 use lib.IntN.{ℤ, pos, negsuc, natAbs, negℤ, pos-ne-negsuc, +ℤ-idl, _+ℤ_, _-ℤ_, _*ℤ_}
@@ -89,27 +89,40 @@ module _ (x : ℕ) (h : x < 4294967296) {r : ℤ} (e : r ≡ int x) where
     small-other : natAbs (int y) ≤ 2147483648
     small-other = size (int y) (sfits-toZ record { fits = k })
 
+    -- an operation whose result on the integers fits 64 bits
+    module _ (op : ℤ → ℤ → ℤ) (l : natAbs (op (int x) (int y)) < 2 ^ 63) where
+      result-fits : SFits w64 (op (read r) (read s))
+      result-fits = rw (int-read, other-read) (small (op (int x) (int y)) l)
+
+      result-is : read (op (read r) (read s)) ≡ op (int x) (int y)
+      result-is = toZ-ofZ result-fits ∙ rw (int-read, other-read)
+
+    sum-small : natAbs (int x +ℤ int y) < 2 ^ 63
+    sum-small = omega (arith, add-abs (int x) (int y), small-int, small-other)
+
+    difference-small : natAbs (int x -ℤ int y) < 2 ^ 63
+    difference-small = omega (arith, add-abs (int x) (negℤ (int y)), neg-abs (int y), small-int, small-other)
+
+    product-small : natAbs (int x *ℤ int y) < 2 ^ 63
+    product-small = omega (arith, abs-times (int x) (int y), mul-le-mul small-int small-other)
+
     pub sum-fits : SFits w64 (read r +ℤ read s)
-    sum-fits = rw (int-read, other-read) (small (int x +ℤ int y) (omega (arith, add-abs (int x) (int y), small-int, small-other)))
+    sum-fits = result-fits _+ℤ_ sum-small
 
     pub sum-is : read (read r +ℤ read s) ≡ int x +ℤ int y
-    sum-is = toZ-ofZ sum-fits ∙ rw (int-read, other-read)
+    sum-is = result-is _+ℤ_ sum-small
 
     pub difference-fits : SFits w64 (read r -ℤ read s)
-    difference-fits =
-        rw (int-read, other-read)
-        (small (int x -ℤ int y) (omega (arith, add-abs (int x) (negℤ (int y)), neg-abs (int y), small-int, small-other)))
+    difference-fits = result-fits _-ℤ_ difference-small
 
     pub difference-is : read (read r -ℤ read s) ≡ int x -ℤ int y
-    difference-is = toZ-ofZ difference-fits ∙ rw (int-read, other-read)
+    difference-is = result-is _-ℤ_ difference-small
 
     pub product-fits : SFits w64 (read r *ℤ read s)
-    product-fits =
-        rw (int-read, other-read)
-        (small (int x *ℤ int y) (omega (arith, abs-times (int x) (int y), mul-le-mul small-int small-other)))
+    product-fits = result-fits _*ℤ_ product-small
 
     pub product-is : read (read r *ℤ read s) ≡ int x *ℤ int y
-    product-is = toZ-ofZ product-fits ∙ rw (int-read, other-read)
+    product-is = result-is _*ℤ_ product-small
 
     -- a divisor whose 32 bits are not 0
     numbers : (y ≡ 0 → ⊥) → Divisible (int x) (int y)
@@ -120,9 +133,7 @@ module _ (x : ℕ) (h : x < 4294967296) {r : ℤ} (e : r ≡ int x) where
 
     -- v being what a division returned for r and s: what the machine reads of it
     pub division-is : (w : Division) {v : ℤ} → (y ≡ 0 → ⊥) → v ≡ divisionOf w (read r) (read s) → read v ≡ divisionOf w (int x) (int y)
-    division-is w h e =
-        rw (e, int-read, other-read)
-        (toZ-ofZ (small (divisionOf w (int x) (int y)) (omega (arith, division-size w (int x) (int y) (numbers h)))))
+    division-is w h e = rw e (result-is (divisionOf w) (omega (arith, division-size w (int x) (int y) (numbers h))))
 
     pub division-small : (w : Division) {v : ℤ} → (y ≡ 0 → ⊥) → v ≡ divisionOf w (read r) (read s) → natAbs (read v) ≤ 2147483648
     division-small w h e = rw (division-is w h e) (division-size w (int x) (int y) (numbers h))

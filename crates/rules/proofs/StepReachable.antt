@@ -3,6 +3,7 @@ use mathlib.Core.Path.{_≡_, refl, _∙_}
 use mathlib.Core.Bool.{Bool, true, false}
 use mathlib.Core.List.{List}
 use mathlib.Core.Option.{Option, none, some}
+use mathlib.Core.Logic.{⊎-elim}
 use Prim.Native.Nat.{ℕ, _+_, _≤_, _<_}
 use native.Mathlib.Omega.{arith}
 use lib.Dec.{ltb, lit≤}
@@ -18,7 +19,7 @@ use Rattle.rules.specs.declared.effect.Effect.the-variants.{Skip, Store,
 use Rattle.rules.specs.Configuration.{DriverState, ProcessState, Configuration, driverIn, processIn, ready, lastTime}
 use Rattle.rules.specs.Statements.{nextPlace, moved, waits, stops, processAfter, variablesAfter, driversAfter, applied, stepped, effectOf}
 use Rattle.rules.specs.Orders.{isReady}
-use Rattle.rules.specs.Invariant.{ValueOf, DriverValid, DeadlineValid, ProcessValid, EffectFits, Reachable}
+use Rattle.rules.specs.Invariant.{ValueOf, DriverValid, DeadlineValid, ProcessValid, ExpressionFault, EffectFits, Reachable}
 use Rattle.rules.proofs.Lists.{set-each}
 use Rattle.rules.proofs.Waves.{driver-scheduled}
 use Rattle.rules.proofs.Effects.{effect-fits, placed}
@@ -29,6 +30,9 @@ unfolding nextPlace
 next-place M fs p h i s =
     by-test (Spans M p) (ltb (i + 1) (endOf M p)) _ _
     (λ e. fs .process p h .next i s (ltb-true (i + 1) (endOf M p) e)) (λ e. fs .process p h .first)
+
+pub expression-fault-most : {f : ℕ} → ExpressionFault f → f ≤ 4
+expression-fault-most h = ⊎-elim (λ e. omega arith) (λ e. omega arith) h
 
 -- a ready process, and what an effect makes of it
 module _ (M : Model) (p t : ℕ) (q : ProcessState) (f : ProcessValid M p t q) where
@@ -77,7 +81,7 @@ module _ (M : Model) (p t : ℕ) (q : ProcessState) (f : ProcessValid M p t q) w
     process-after (Jump a) full next h s x = moved-valid a x
     process-after Wait full next h s x = waits-valid x none tt
     process-after (WaitFor d) full next h s x = waits-valid (x .0) (some (t + d)) (omega arith, omega (arith, x .1))
-    process-after (Stop n) full next h s x = stopped-valid n (omega arith)
+    process-after (Stop n) full next h s x = stopped-valid n (⊎-elim expression-fault-most (λ e. omega arith) x)
 
 -- the variables and the drivers after an effect
 length-variables : (e : Effect) (vs : List ℕ) → length (variablesAfter e vs) ≡ length vs

@@ -1,6 +1,7 @@
 -- The value of an expression: node kinds 1 to 18.
 -- "1 integer k; 2 logic k; 3 variable a; 4 signal a; 5 signal a delayed by k, 0 to 31; 6 not a; 7 and; 8 or; 9 xor; 10 negate
--- a; 11 a + b; 12 a - b; 13 equal; 14 less." "Node kinds 15 to 18 are product, quotient, mod and rem on integers" (document 02, item 2).
+-- a; 11 a + b; 12 a - b; 13 equal; 14 less." Document 02, item 2: "Node kinds 15 to 18 are product, quotient, mod and rem on
+-- integers."
 use mathlib.Core.Bool.{Bool, true, false, not, _&&_}
 use mathlib.Core.List.{List}
 use Prim.Native.Nat.{ℕ}

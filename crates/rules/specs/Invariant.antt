@@ -1,6 +1,7 @@
 -- What holds of every configuration that a session can reach.
 use mathlib.Core.Path.{_≡_}
 use mathlib.Core.Bool.{true}
+use mathlib.Core.Logic.{_⊎_}
 use mathlib.Core.List.{List, [], _∷_}
 use mathlib.Core.Option.{Option, none, some}
 use Prim.Native.Nat.{ℕ, _+_, _≤_, _<_}
@@ -87,7 +88,11 @@ pub record ScheduleFits (M : Model) (p k d : ℕ) (v : Driven) : Type 0 where
   pub delay : d < 2147483648
   pub value : Carries (signalAt M (driverAt M k .signal)) v
 
--- a jump to a statement of p; a wait at a wait, kind being that of the statement; a fault 1, 2 or 4
+-- the faults that an expression can have: "an integer out of range", "A divisor of 0"
+abbrev pub ExpressionFault : ℕ → Type 0
+ExpressionFault f = (f ≡ 1) ⊎ (f ≡ 4)
+
+-- a jump to a statement of p; a wait at a wait, kind being that of the statement; a stop with an expression's fault, or with 2
 abbrev pub EffectFits : Model → ℕ → ℕ → Effect → Type 0
 EffectFits M p kind Skip = Unit {0}
 EffectFits M p kind (Store a v) = StoreFits M p a v
@@ -95,4 +100,4 @@ EffectFits M p kind (Schedule k d v) = ScheduleFits M p k d v
 EffectFits M p kind (Jump a) = Spans M p a
 EffectFits M p kind Wait = kind ≡ 5
 EffectFits M p kind (WaitFor d) = (kind ≡ 5) × (d < 2147483648)
-EffectFits M p kind (Stop f) = f ≤ 4
+EffectFits M p kind (Stop f) = ExpressionFault f ⊎ (f ≡ 2)

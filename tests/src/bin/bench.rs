@@ -18,6 +18,20 @@ const ZERO: i32 = 2;
 const ROUND: Duration = Duration::from_millis(300);
 const ROUNDS: usize = 5;
 
+/// Ends a process that has one turn: from the first statement again while the
+/// count is below `turns`, then it rests. Three statements a turn.
+fn again(b: &mut Builder, process: u8, count: u16, turns: i32) {
+    let flag = b.variable(BOOLEAN, process, 0);
+    let limit = b.integer(turns);
+    let below = b.binary(14, count, limit);
+    let read_flag = b.read_variable(flag);
+    b.assign(flag, below);
+    let rest = b.m.statements.len() as u16 + 2;
+    b.unless(read_flag, rest);
+    b.go(0);
+    b.wait(0, ABSENT, ABSENT);
+}
+
 /// One busy process, six statements a turn, which rests after `turns`.
 fn busy(turns: i32) -> Builder {
     let mut b = Builder::new();
@@ -25,22 +39,16 @@ fn busy(turns: i32) -> Builder {
     let count = b.variable(INTEGER, p, 0);
     let other = b.variable(INTEGER, p, 0);
     let level = b.variable(LOGIC, p, ZERO);
-    let flag = b.variable(BOOLEAN, p, 0);
-    let (one, limit) = (b.integer(1), b.integer(turns));
+    let one = b.integer(1);
     let (read_count, read_other) = (b.read_variable(count), b.read_variable(other));
     let read_level = b.read_variable(level);
     let more = b.binary(11, read_count, one);
     let less = b.binary(12, read_count, read_other);
     let turned = b.unary(6, read_level);
-    let below = b.binary(14, read_count, limit);
-    let read_flag = b.read_variable(flag);
     b.assign(count, more);
     b.assign(other, less);
     b.assign(level, turned);
-    b.assign(flag, below);
-    b.unless(read_flag, 6);
-    b.go(0);
-    b.wait(0, ABSENT, ABSENT);
+    again(&mut b, p, read_count, turns);
     b
 }
 
@@ -49,24 +57,18 @@ fn dividing(turns: i32) -> Builder {
     let mut b = Builder::new();
     let p = b.process();
     let [count, product, quotient, rest] = [0; 4].map(|start| b.variable(INTEGER, p, start));
-    let flag = b.variable(BOOLEAN, p, 0);
-    let [one, thousand, metres, limit] = [1, 1_000, 37, turns].map(|k| b.integer(k));
+    let [one, thousand, metres] = [1, 1_000, 37].map(|k| b.integer(k));
     let (read_count, read_product) = (b.read_variable(count), b.read_variable(product));
     let more = b.binary(11, read_count, one);
     let pulses = b.binary(17, read_count, thousand);
     let times = b.binary(15, pulses, thousand);
     let divided = b.binary(16, read_product, metres);
     let left = b.binary(18, read_product, metres);
-    let below = b.binary(14, read_count, limit);
-    let read_flag = b.read_variable(flag);
     b.assign(count, more);
     b.assign(product, times);
     b.assign(quotient, divided);
     b.assign(rest, left);
-    b.assign(flag, below);
-    b.unless(read_flag, 7);
-    b.go(0);
-    b.wait(0, ABSENT, ABSENT);
+    again(&mut b, p, read_count, turns);
     b
 }
 

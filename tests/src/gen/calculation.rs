@@ -12,6 +12,17 @@ use crate::rng::Rng;
 /// The signal that all processes drive; each has an integer signal of its own.
 const LINE: u16 = 0;
 
+/// The roles of expressions that a pick works out; a signal's value twice as often.
+const PICKED: [Role; 7] = [
+    VariableValue,
+    SignalValue,
+    SignalValue,
+    Delay,
+    NullDelay,
+    Unless,
+    For,
+];
+
 /// No process has more nodes.
 const MOST_NODES: usize = 60;
 
@@ -42,15 +53,7 @@ pub fn model(rng: &mut Rng) -> Model {
     // are asked for: in a model the faults are all in conditions, or none is.
     let roles: &[Role] = match maker.rng.chance(3, 10) {
         true => &[Until],
-        false => &[
-            VariableValue,
-            SignalValue,
-            SignalValue,
-            Delay,
-            NullDelay,
-            Unless,
-            For,
-        ],
+        false => &PICKED,
     };
     let (pause, faults) = (maker.rng.chance(2, 3), maker.rng.chance(4, 5));
     for _ in 0..processes {
@@ -139,16 +142,7 @@ impl Maker<'_> {
                 (node, value) = (self.b.binary(kind, node, b), more);
             }
         }
-        let role = self.rng.choose(&[
-            VariableValue,
-            SignalValue,
-            SignalValue,
-            Delay,
-            NullDelay,
-            Unless,
-            Until,
-            For,
-        ]);
+        let role = self.rng.choose(&[&PICKED[..], &[Until]].concat());
         match role {
             Delay | NullDelay | For if value < 0 => self.put(SignalValue, node, false),
             _ => self.put(role, node, false),
