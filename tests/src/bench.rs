@@ -1,6 +1,7 @@
 //! The paper's bench cases, and cases for its single sentences.
 
 mod arithmetic;
+mod failing_node;
 mod nulls;
 
 use crate::builder::Builder;
@@ -9,20 +10,43 @@ use crate::cycle::*;
 use crate::model::*;
 use crate::session::{print, session};
 
-/// An answer as (refusal, byte 1, picks, value, time).
-type Answer = (u8, u8, u16, i32, u64);
+/// An answer as (refusal, byte 1, picks, value, node, time).
+type Answer = (u8, u8, u16, i32, u16, u64);
 
 /// An advance, and a settle of a few picks.
 const ADV: (u8, u8, u16) = (ADVANCE, 0, 0);
 const SET: (u8, u8, u16) = (SETTLE, 0, 9);
 
-fn process(place: u16, standing: u8, fault: u8, deadline: Option<u64>) -> Process {
+/// The fault and the node of a process that has not stopped.
+const NONE: Failed = (0, 0);
+
+fn process(place: u16, standing: u8, (fault, node): Failed, deadline: Option<u64>) -> Process {
     Process {
         place,
         standing,
         fault,
+        node,
         deadline,
     }
+}
+
+/// The fault and the node of a process.
+fn failed_at(c: &Config, process: usize) -> Failed {
+    let p = &c.processes[process];
+    (p.fault, p.node)
+}
+
+/// The columns of an order's answer.
+fn columns(order: (u8, u8, u16), a: &[u8]) -> Answer {
+    let word = |at: usize| u16::from_le_bytes([a[at], a[at + 1]]);
+    let (value, node) = if order.0 == PICK {
+        assert_eq!(a[5], 0, "byte 5 of a pick's answer");
+        (a[4] as i32, word(6))
+    } else {
+        (i32::from_le_bytes(a[4..8].try_into().unwrap()), 0)
+    };
+    let time = u64::from_le_bytes(a[8..16].try_into().unwrap());
+    (a[0], a[1], word(2), value, node, time)
 }
 
 fn play(b: &Builder, list: &[(u8, u8, u16)]) -> (Vec<Answer>, Config) {
@@ -30,26 +54,16 @@ fn play(b: &Builder, list: &[(u8, u8, u16)]) -> (Vec<Answer>, Config) {
     let mut answers = vec![0xAA; 4 * bytes.len()];
     let (number, config) = session(&b.encode(), &bytes, &mut answers);
     assert_eq!(number, 0);
-    let answers = answers
-        .chunks(16)
-        .map(|a| {
-            (
-                a[0],
-                a[1],
-                u16::from_le_bytes([a[2], a[3]]),
-                i32::from_le_bytes(a[4..8].try_into().unwrap()),
-                u64::from_le_bytes(a[8..16].try_into().unwrap()),
-            )
-        })
-        .collect();
+    let pairs = list.iter().zip(answers.chunks(16));
+    let answers = pairs.map(|(&order, a)| columns(order, a)).collect();
     (answers, config)
 }
 
 #[test]
 fn inverter_as_printed() {
     let list = inverter_orders();
-    let text =
-        "0 0 4 0 0\n0 1 0 0 0\n0 2 0 0 1\n0 1 0 0 1\n0 0 2 0 1\n0 1 0 0 1\n17 0 0 0 1\n0 0 0 2 1\n";
+    let text = "0 0 4 0 0 0\n0 1 0 0 0 0\n0 2 0 0 0 1\n0 1 0 0 0 1\n\
+                0 0 2 0 0 1\n0 1 0 0 0 1\n17 0 0 0 0 1\n0 0 0 2 0 1\n";
     assert_eq!(print(&inverter().encode(), &list), text);
     // A refused session prints its number alone.
     assert_eq!(print(&inverter().encode()[1..], &list), "1\n");
@@ -90,10 +104,10 @@ fn settle_of_no_picks() {
     assert_eq!(
         a,
         [
-            (0, 1, 0, 0, 0),
-            (0, 0, 1, 0, 0),
-            (0, 0, 0, 0, 0),
-            (0, 0, 0, 0, 0)
+            (0, 1, 0, 0, 0, 0),
+            (0, 0, 1, 0, 0, 0),
+            (0, 0, 0, 0, 0, 0),
+            (0, 0, 0, 0, 0, 0)
         ]
     );
 }
@@ -102,22 +116,22 @@ fn settle_of_no_picks() {
 fn waveform_of_eight() {
     let eight: Vec<(u64, Carried)> = (1..=8).map(|n| (n, Some(n as i32))).collect();
     let (a, c) = play(&line(&[1, 2, 3, 4, 5, 6, 7, 8]), &[(SETTLE, 0, 8)]);
-    assert_eq!(a, [(0, 1, 8, 0, 0)]);
+    assert_eq!(a, [(0, 1, 8, 0, 0, 0)]);
     assert_eq!(c.drivers[0].wave, eight);
     // A ninth later one.
     let (a, c) = play(
         &line(&[1, 2, 3, 4, 5, 6, 7, 8, 9]),
         &[(SETTLE, 0, 8), (PICK, 0, 0)],
     );
-    assert_eq!(a[1], (0, 2, 1, 3, 0));
+    assert_eq!(a[1], (0, 2, 1, 3, 65_535, 0));
     assert_eq!(c.drivers[0].wave, eight);
-    assert_eq!(c.processes[0], process(8, 2, 3, None));
+    assert_eq!(c.processes[0], process(8, 2, (3, 65_535), None));
     // A ninth at the last one's time takes its place.
     let (a, c) = play(
         &line(&[1, 2, 3, 4, 5, 6, 7, 8, 8]),
         &[(SETTLE, 0, 8), (PICK, 0, 0)],
     );
-    assert_eq!(a[1], (0, 0, 1, 0, 0));
+    assert_eq!(a[1], (0, 0, 1, 0, 0, 0));
     assert_eq!(c.drivers[0].wave, eight);
     // An earlier one removes all later ones.
     let (_, c) = play(&line(&[1, 2, 3, 4, 5, 6, 7, 8, 3]), &[SET]);
@@ -138,13 +152,13 @@ fn delta_limit() {
     b.go(loop_start);
     let list = [SET, ADV].repeat(1_001);
     let (a, c) = play(&b, &list);
-    assert_eq!(a[1_999], (0, 1, 0, 0, 0));
-    assert_eq!(a[2_001], (16, 0, 0, 0, 0));
+    assert_eq!(a[1_999], (0, 1, 0, 0, 0, 0));
+    assert_eq!(a[2_001], (16, 0, 0, 0, 0, 0));
     assert_eq!(c.delta, 1_000);
     // With nothing due now after 1,000 delta steps the time step is done.
     let (a, c) = play(&delta_turns(1_000), &list);
-    assert_eq!(a[1_999], (0, 1, 0, 0, 0));
-    assert_eq!(a[2_001], (0, 2, 0, 0, 1));
+    assert_eq!(a[1_999], (0, 1, 0, 0, 0, 0));
+    assert_eq!(a[2_001], (0, 2, 0, 0, 0, 1));
     assert_eq!((c.time, c.delta), (1, 0));
 }
 
@@ -155,14 +169,14 @@ fn time_limit() {
         let (a, c) = play(&b, &[SET, ADV, ADV].repeat(501));
         let before = 499 * 2_000_000_000;
         let limit = 1_000_000_000_000;
-        assert_eq!(a[1_496], (0, 1, 0, 0, before));
+        assert_eq!(a[1_496], (0, 1, 0, 0, 0, before));
         if refused {
-            assert_eq!(a[1_498], (18, 0, 0, 0, before));
+            assert_eq!(a[1_498], (18, 0, 0, 0, 0, before));
             assert_eq!(c.time, before);
         } else {
-            assert_eq!(a[1_498], (0, 2, 0, 0, limit));
-            assert_eq!(a[1_499], (0, 1, 0, 0, limit));
-            assert_eq!(a[1_501], (18, 0, 0, 0, limit));
+            assert_eq!(a[1_498], (0, 2, 0, 0, 0, limit));
+            assert_eq!(a[1_499], (0, 1, 0, 0, 0, limit));
+            assert_eq!(a[1_501], (18, 0, 0, 0, 0, limit));
             assert_eq!(c.processes[0].deadline, Some(limit + 1));
         }
     }
@@ -191,7 +205,7 @@ fn no_orders() {
             3
         ]
     );
-    let ready = |place| process(place, READY, 0, None);
+    let ready = |place| process(place, READY, NONE, None);
     assert_eq!(c.processes, [ready(0), ready(2)]);
 }
 
@@ -243,7 +257,9 @@ fn order_refusals() {
     );
     let numbers: Vec<u8> = a.iter().map(|x| x.0).collect();
     assert_eq!(numbers, [11, 11, 11, 11, 11, 11, 11, 11, 12, 14, 19, 19]);
-    assert!(a.iter().all(|x| (x.1, x.2, x.3, x.4) == (0, 0, 0, 0)));
+    assert!(a
+        .iter()
+        .all(|x| (x.1, x.2, x.3, x.4, x.5) == (0, 0, 0, 0, 0)));
     assert_eq!(c, play(&inverter(), &[]).1);
     let (a, _) = play(
         &inverter(),
@@ -252,10 +268,10 @@ fn order_refusals() {
     assert_eq!(
         a,
         [
-            (0, 0, 1, 0, 0),
-            (0, 1, 1, 0, 0),
-            (13, 0, 0, 0, 0),
-            (0, 0, 1, 0, 0)
+            (0, 0, 1, 0, 0, 0),
+            (0, 1, 1, 0, 0, 0),
+            (13, 0, 0, 0, 0, 0),
+            (0, 0, 1, 0, 0, 0)
         ]
     );
 }
@@ -272,24 +288,24 @@ fn ready_before_stopped() {
     assert_eq!(
         a,
         [
-            (0, 2, 1, 2, 0),
-            (14, 0, 0, 0, 0),
-            (0, 1, 1, 0, 0),
-            (15, 0, 0, 0, 0),
-            (0, 0, 0, 0, 0)
+            (0, 2, 1, 2, 65_535, 0),
+            (14, 0, 0, 0, 0, 0),
+            (0, 1, 1, 0, 0, 0),
+            (15, 0, 0, 0, 0, 0),
+            (0, 0, 0, 0, 0, 0)
         ]
     );
-    assert_eq!(c.processes[0], process(0, 2, 2, None));
+    assert_eq!(c.processes[0], process(0, 2, (2, 65_535), None));
 }
 
 #[test]
 fn fault_order_of_schedule() {
     // b out of range before c negative; c negative before a ninth.
-    for (bad_value, bad_delay, full, fault) in [
-        (true, true, true, 1),
-        (false, true, true, 2),
-        (false, false, true, 3),
-        (false, false, false, 0),
+    for (bad_value, bad_delay, full, failed) in [
+        (true, true, true, (1, 10)),
+        (false, true, true, (2, 65_535)),
+        (false, false, true, (3, 65_535)),
+        (false, false, false, NONE),
     ] {
         let mut b = line(if full {
             &[1, 2, 3, 4, 5, 6, 7, 8]
@@ -305,7 +321,7 @@ fn fault_order_of_schedule() {
         let value = if bad_value { over } else { one };
         b.schedule(0, value, if bad_delay { minus } else { top });
         let (_, c) = play(&b, &[(SETTLE, 0, if full { 9 } else { 2 })]);
-        assert_eq!(c.processes[0].fault, fault);
+        assert_eq!(failed_at(&c, 0), failed);
         let pending = if full { 8 } else { 2 };
         assert_eq!(c.drivers[0].wave.len(), pending);
     }
@@ -321,14 +337,14 @@ fn settle_goes_past_a_fault() {
     b.null();
     b.wait(0, ABSENT, ABSENT);
     let (a, c) = play(&b, &[(SETTLE, 0, 10)]);
-    assert_eq!(a, [(0, 0, 3, 0, 0)]);
+    assert_eq!(a, [(0, 0, 3, 0, 0, 0)]);
     assert_eq!(c.processes[0].standing, STOPPED);
     assert_eq!(c.processes[1].standing, WAITING);
 }
 
 #[test]
 fn boolean_skips() {
-    // `and` skips b on false, `or` on true; otherwise b's fault shows. A
+    // `and` skips b on false, `or` on true; otherwise b's fault shows, at node 2. A
     // fault in a always shows.
     for (x, operator, y, fault) in [(2_147_483_647, 11, 1, 1), (1, 17, 0, 4)] {
         for (kind, left, skips) in [
@@ -351,10 +367,11 @@ fn boolean_skips() {
             b.assign(v, forth);
             b.assign(v, back);
             let (a, _) = play(&b, &[(PICK, 0, 0)]);
-            let shown = if skips { 0 } else { fault };
-            assert_eq!(a[0].3, shown, "kind {kind} left {left}");
+            let stops = (0, STOPPED, 1, fault, 2, 0);
+            let first = if skips { (0, READY, 1, 0, 0, 0) } else { stops };
+            assert_eq!(a, [first], "kind {kind} left {left}");
             b.m.statements[0].b = back;
-            assert_eq!(play(&b, &[(PICK, 0, 0)]).0[0].3, fault);
+            assert_eq!(play(&b, &[(PICK, 0, 0)]).0, [stops]);
         }
     }
 }
@@ -389,7 +406,10 @@ fn activity_without_change_wakes_nobody() {
     b.wait(1, ABSENT, ABSENT);
     b.driver(0, s);
     let (a, _) = play(&b, &[SET, ADV, SET, ADV]);
-    assert_eq!(a[1..], [(0, 1, 0, 0, 0), (0, 0, 0, 0, 0), (17, 0, 0, 0, 0)]);
+    assert_eq!(
+        a[1..],
+        [(0, 1, 0, 0, 0, 0), (0, 0, 0, 0, 0, 0), (17, 0, 0, 0, 0, 0)]
+    );
 }
 
 /// Process 0 drives signal 0 to 1 after 1 and waits; process 1 waits on it
@@ -420,19 +440,19 @@ fn fault_in_a_waits_condition() {
     assert_eq!(
         a[1..],
         [
-            (0, 2, 0, 0, 1),
-            (0, 1, 0, 0, 1),
-            (14, 0, 0, 0, 1),
-            (0, 0, 1, 0, 1),
-            (15, 0, 0, 0, 1)
+            (0, 2, 0, 0, 0, 1),
+            (0, 1, 0, 0, 0, 1),
+            (14, 0, 0, 0, 0, 1),
+            (0, 0, 1, 0, 0, 1),
+            (15, 0, 0, 0, 0, 1)
         ]
     );
     // Place and deadline are kept; the process after it was woken.
-    assert_eq!(c.processes[1], process(2, 2, 1, Some(5)));
+    assert_eq!(c.processes[1], process(2, 2, (1, 2), Some(5)));
     assert_eq!(c.processes[2].standing, WAITING);
     // At a due deadline b is not asked for.
     let (_, c) = play(&faulting_condition(1), &list[..3]);
-    assert_eq!(c.processes[1], process(2, 0, 0, None));
+    assert_eq!(c.processes[1], process(2, 0, NONE, None));
 }
 
 #[test]
@@ -442,8 +462,8 @@ fn wait_forms() {
     b.m.statements[2].set = 0;
     b.null();
     let (a, c) = play(&b, &[SET, ADV, ADV, SET, ADV, ADV]);
-    assert_eq!(a[4], (0, 2, 0, 0, 4));
-    assert_eq!(a[5], (0, 1, 0, 0, 4));
+    assert_eq!(a[4], (0, 2, 0, 0, 0, 4));
+    assert_eq!(a[5], (0, 1, 0, 0, 0, 4));
     assert_eq!(c.processes[1].standing, READY);
     // Until b, read on the new values: wakes at 2, not at 1.
     let mut b = Builder::new();

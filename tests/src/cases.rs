@@ -6,12 +6,8 @@ use crate::cycle::Carried;
 use crate::gen::order;
 use crate::integers::*;
 use crate::model::*;
+pub use crate::session::{ADVANCE, PICK, READ, SETTLE};
 use crate::values::code;
-
-pub const PICK: u8 = 1;
-pub const ADVANCE: u8 = 2;
-pub const SETTLE: u8 = 3;
-pub const READ: u8 = 4;
 
 /// A named session.
 pub struct Case {
@@ -152,6 +148,9 @@ pub fn null_after(x: i32, y: i32) -> Builder {
 
 /// An operator on two integers, by its node kind.
 pub type Operation = (i32, u8, i32);
+
+/// A fault's number and its node.
+pub type Failed = (u8, u16);
 
 /// One process assigns x `kind` y to a variable that starts at 5.
 pub fn sum(x: i32, kind: u8, y: i32) -> Builder {
@@ -332,40 +331,164 @@ pub fn scheduled(value: Operation, delay: Operation) -> Builder {
     b
 }
 
-/// Values and delays with faults: the value's comes first.
-pub fn scheduled_faults() -> Vec<(Operation, Operation, u8)> {
+/// One process waits for this time.
+pub fn wait_for(time: Operation) -> Builder {
+    let mut b = Builder::new();
+    let time = operator(&mut b, time);
+    b.process();
+    b.wait(0, ABSENT, time);
+    b
+}
+
+/// Values and delays with faults: the value's comes first. The value is node 2, the
+/// delay 5.
+pub fn scheduled_faults() -> Vec<(Operation, Operation, Failed)> {
     let (over, by_zero) = ((TOP, PRODUCT, 2), (1, REM, 0));
     let (minus, two) = ((-5, QUOTIENT, 2), (5, QUOTIENT, 2));
     vec![
-        (over, by_zero, 1),
-        (by_zero, over, 4),
-        (by_zero, minus, 4),
-        (two, by_zero, 4),
-        (two, over, 1),
-        (two, minus, 2),
-        (two, two, 0),
+        (over, by_zero, (1, 2)),
+        (by_zero, over, (4, 2)),
+        (by_zero, minus, (4, 2)),
+        (two, by_zero, (4, 5)),
+        (two, over, (1, 5)),
+        (two, minus, (2, 65_535)),
+        (two, two, (0, 0)),
     ]
 }
 
 /// Operators on the results of two others: a's fault comes before b's, and b's
-/// before a divisor of 0.
-pub fn nested_faults() -> Vec<(Operation, u8, Operation, Result<i32, u8>)> {
+/// before a divisor of 0. a is node 2, b 5, the operator itself 6.
+pub fn nested_faults() -> Vec<(Operation, u8, Operation, Result<i32, Failed>)> {
     let (over, by_zero) = ((TOP, SUM, 1), (1, QUOTIENT, 0));
     let (zero, two) = ((1, DIFFERENCE, 1), (1, SUM, 1));
     let mut list = vec![];
     for kind in ARITHMETIC {
-        let last = if divides(kind) { Err(4) } else { Ok(0) };
+        let last = if divides(kind) { Err((4, 6)) } else { Ok(0) };
         list.extend([
-            (over, kind, zero, Err(1)),
-            (over, kind, by_zero, Err(1)),
-            (by_zero, kind, over, Err(4)),
-            (by_zero, kind, zero, Err(4)),
-            (two, kind, over, Err(1)),
-            (two, kind, by_zero, Err(4)),
+            (over, kind, zero, Err((1, 2))),
+            (over, kind, by_zero, Err((1, 2))),
+            (by_zero, kind, over, Err((4, 2))),
+            (by_zero, kind, zero, Err((4, 2))),
+            (two, kind, over, Err((1, 5))),
+            (two, kind, by_zero, Err((4, 5))),
             (two, kind, zero, last),
         ]);
     }
     list
+}
+
+/// Expressions that a process assigns to a variable, and the fault and the node of
+/// each, 0 and 0 for none.
+pub fn failing_expressions() -> Vec<(String, Builder, Failed)> {
+    let mut list: Vec<(String, Builder, Failed)> = vec![];
+    let mut add = |name: &str, failed: Failed, expression: &dyn Fn(&mut Builder) -> u16| {
+        list.push((name.into(), assigned(expression), failed));
+    };
+    let (over, by_zero, two) = ((TOP, SUM, 1), (7, QUOTIENT, 0), (1, SUM, 1));
+    add("no node fails", (0, 0), &|b| operator(b, two));
+    add("the inner of two sums fails", (1, 2), &|b| {
+        let (inner, k) = (operator(b, over), b.integer(-5));
+        b.binary(SUM, inner, k)
+    });
+    add("the outer of two sums fails", (1, 4), &|b| {
+        let (inner, k) = (operator(b, two), b.integer(TOP));
+        b.binary(SUM, inner, k)
+    });
+    add("the innermost of four fails", (4, 2), &|b| {
+        let inner = operator(b, by_zero);
+        let negated = b.unary(10, inner);
+        let doubled = b.binary(SUM, negated, negated);
+        b.binary(MOD, doubled, inner)
+    });
+    add("b of b fails behind values", (4, 5), &|b| {
+        let (value, k) = (operator(b, two), b.integer(0));
+        let zero = b.binary(DIFFERENCE, k, k);
+        let inner = b.binary(REM, value, zero);
+        let outer = b.binary(PRODUCT, value, inner);
+        b.binary(SUM, value, outer)
+    });
+    add("a fails before b", (1, 2), &|b| {
+        let (first, second) = (operator(b, over), operator(b, by_zero));
+        b.binary(DIFFERENCE, first, second)
+    });
+    add("a of a higher number fails before b", (1, 5), &|b| {
+        let (second, first) = (operator(b, by_zero), operator(b, over));
+        b.binary(DIFFERENCE, first, second)
+    });
+    add("a node that is a and b fails", (1, 2), &|b| {
+        let node = operator(b, over);
+        b.binary(SUM, node, node)
+    });
+    for n in [255, 256, 257, 399] {
+        add(&format!("node {n} fails"), (4, n), &|b| {
+            b.m.nodes.resize(
+                n as usize - 2,
+                NodeRecord {
+                    kind: 1,
+                    ..Default::default()
+                },
+            );
+            operator(b, (7, MOD, 0))
+        });
+    }
+    list
+}
+
+/// A jump unless `left kind (7 / 0 = 0)`; the quotient is node 2.
+pub fn decided(left: bool, kind: u8) -> Builder {
+    let mut b = Builder::new();
+    let (seven, zero) = (b.integer(7), b.integer(0));
+    let quotient = b.binary(QUOTIENT, seven, zero);
+    let asks = b.binary(13, quotient, zero);
+    let decides = match left {
+        true => b.binary(14, zero, seven),
+        false => b.binary(14, seven, zero),
+    };
+    let both = b.binary(kind, decides, asks);
+    b.process();
+    b.unless(both, 0);
+    b.wait(0, ABSENT, ABSENT);
+    b
+}
+
+/// Three processes have 7 / 0, node 2, in trees of their own.
+pub fn shared_node() -> Builder {
+    let mut b = Builder::new();
+    let v = b.variable(INTEGER, 0, 5);
+    let shared = operator(&mut b, (7, QUOTIENT, 0));
+    let (sum, less) = (b.binary(SUM, shared, 0), b.binary(14, shared, 0));
+    b.process();
+    b.assign(v, sum);
+    b.process();
+    b.unless(less, 1);
+    b.process();
+    b.wait(0, ABSENT, shared);
+    b
+}
+
+/// Process 0 gives a signal -1 after 1. Processes 1 and 2 wait on it with
+/// conditions that fail, at node 3 of two and at node 6 behind a value; process 3
+/// waits on it alone.
+pub fn failing_conditions() -> Builder {
+    let mut b = Builder::new();
+    let s = b.signal(INTEGER, 0);
+    let (one, minus, zero) = (b.integer(1), b.integer(-1), b.integer(0));
+    let quotient = b.binary(QUOTIENT, one, zero);
+    let first = b.binary(14, quotient, one);
+    let top = b.integer(TOP);
+    let sum = b.binary(SUM, top, one);
+    let second = b.binary(14, one, sum);
+    b.process();
+    b.schedule(s, minus, one);
+    b.wait(0, ABSENT, ABSENT);
+    b.process();
+    b.wait(1 << s, first, top);
+    b.process();
+    b.wait(1 << s, second, ABSENT);
+    b.process();
+    b.wait(1 << s, ABSENT, ABSENT);
+    b.driver(0, s);
+    b
 }
 
 /// One process waits `turns` times for `step`, then for each of `rest`, again
@@ -557,6 +680,27 @@ fn null_sessions(add: &mut impl FnMut(String, &Builder, Vec<u8>)) {
     }
 }
 
+/// Nodes that fail, in picks and in a delta step.
+fn failing_sessions(add: &mut impl FnMut(String, &Builder, Vec<u8>)) {
+    let picks = |n: u8| orders(&[(PICK, 0, 0), (PICK, n, 0), (PICK, 0, 0), (SETTLE, 0, 9)]);
+    for (name, model, _) in failing_expressions() {
+        add(name, &model, picks(0));
+    }
+    for left in [false, true] {
+        for kind in 7..=9 {
+            let name = format!("{left} in node kind {kind} before a quotient that fails");
+            add(name, &decided(left, kind), picks(0));
+        }
+    }
+    add(
+        "a node fails in three trees".into(),
+        &shared_node(),
+        picks(2),
+    );
+    let name = "conditions fail in a delta step".into();
+    add(name, &failing_conditions(), [watched(3), picks(2)].concat());
+}
+
 /// All named sessions.
 pub fn sessions() -> Vec<Case> {
     let mut list = vec![];
@@ -618,6 +762,7 @@ pub fn sessions() -> Vec<Case> {
         );
     }
     null_sessions(&mut add);
+    failing_sessions(&mut add);
     for turns in [998, 999, 1_000, 1_001, 1_002] {
         add(
             format!("{turns} delta steps"),

@@ -14,6 +14,27 @@ pub const NEGATIVE_DELAY: u8 = 2;
 pub const NINTH: u8 = 3;
 pub const DIVISOR_ZERO: u8 = 4;
 
+/// In place of a node, for the faults that no node has: 2 and 3.
+pub const NO_NODE: u16 = 65_535;
+
+/// Why a process stops: the fault's number, and the node whose own operation
+/// failed.
+#[derive(Clone, Copy, Debug, PartialEq, Eq)]
+pub struct Fault {
+    pub number: u8,
+    pub node: u16,
+}
+
+impl Fault {
+    /// A fault of the statement itself.
+    fn of_statement(number: u8) -> Fault {
+        Fault {
+            number,
+            node: NO_NODE,
+        }
+    }
+}
+
 /// Most pending transactions of a driver.
 pub const WAVEFORM: usize = 8;
 /// Most delta steps at one time.
@@ -31,12 +52,23 @@ pub struct Driver {
     pub wave: Vec<(u64, Carried)>,
 }
 
-#[derive(Clone, Debug, Default, PartialEq, Eq)]
+#[derive(Clone, Copy, Debug, Default, PartialEq, Eq)]
 pub struct Process {
     pub place: u16,
     pub standing: u8,
+    /// The fault's number and its node, both 0 without a fault.
     pub fault: u8,
+    pub node: u16,
     pub deadline: Option<u64>,
+}
+
+impl Process {
+    /// A fault stops the process; place and deadline stay.
+    fn stop(&mut self, fault: Fault) {
+        self.standing = STOPPED;
+        self.fault = fault.number;
+        self.node = fault.node;
+    }
 }
 
 /// `Config::default()` is the empty configuration.
@@ -130,6 +162,7 @@ impl Config {
                 place: p.first,
                 standing: READY,
                 fault: 0,
+                node: 0,
                 deadline: None,
             })
             .collect();
@@ -143,11 +176,16 @@ impl Config {
         }
     }
 
-    /// Works out a node: its value or a fault.
-    pub fn evaluate(&self, m: &Model, node: u16) -> Result<Value, u8> {
+    /// Works out a node: its value, or the fault of the first node that fails.
+    pub fn evaluate(&self, m: &Model, node: u16) -> Result<Value, Fault> {
         use Value::*;
         let n = &m.nodes[node as usize];
         let (a, b) = (n.a as usize, n.b);
+        // The operands have values: what fails now is this node.
+        let own = |result: Result<i32, u8>| match result {
+            Ok(value) => Ok(Integer(value)),
+            Err(number) => Err(Fault { number, node }),
+        };
         let value = match n.kind {
             1 => Integer(n.k),
             2 => Logic(n.k as u8),
@@ -181,11 +219,11 @@ impl Config {
                 _ => unreachable!(),
             },
             10 => match self.evaluate(m, n.a)? {
-                Integer(v) => Integer(integers::negate(v)?),
+                Integer(v) => own(integers::negate(v))?,
                 _ => unreachable!(),
             },
             11 | 12 | 15..=18 => match (self.evaluate(m, n.a)?, self.evaluate(m, b)?) {
-                (Integer(v), Integer(w)) => Integer(integers::operate(n.kind, v, w)?),
+                (Integer(v), Integer(w)) => own(integers::operate(n.kind, v, w))?,
                 _ => unreachable!(),
             },
             13 => match (self.evaluate(m, n.a)?, self.evaluate(m, b)?) {
@@ -202,15 +240,15 @@ impl Config {
         Ok(value)
     }
 
-    fn condition(&self, m: &Model, node: u16) -> Result<bool, u8> {
+    fn condition(&self, m: &Model, node: u16) -> Result<bool, Fault> {
         Ok(self.evaluate(m, node)? == Value::Boolean(true))
     }
 
     /// A delay, which must not be negative.
-    fn delay(&self, m: &Model, node: u16) -> Result<u64, u8> {
+    fn delay(&self, m: &Model, node: u16) -> Result<u64, Fault> {
         let c = self.evaluate(m, node)?.raw();
         if c < 0 {
-            Err(NEGATIVE_DELAY)
+            Err(Fault::of_statement(NEGATIVE_DELAY))
         } else {
             Ok(c as u64)
         }
@@ -234,13 +272,13 @@ impl Config {
         process: usize,
         s: &StatementRecord,
         carried: Carried,
-    ) -> Result<(), u8> {
+    ) -> Result<(), Fault> {
         let at = self.time + self.delay(m, s.c)?;
         let driver = driver_of(m, process, s.a as usize).expect("kinds 2 and 6 have their driver");
         let wave = &mut self.drivers[driver].wave;
         let kept = wave.iter().take_while(|t| t.0 < at).count();
         if kept == WAVEFORM {
-            return Err(NINTH);
+            return Err(Fault::of_statement(NINTH));
         }
         wave.truncate(kept);
         wave.push((at, carried));
@@ -248,7 +286,7 @@ impl Config {
     }
 
     /// Runs one statement of the process; Err is its fault.
-    fn run(&mut self, m: &Model, process: usize, s: &StatementRecord) -> Result<(), u8> {
+    fn run(&mut self, m: &Model, process: usize, s: &StatementRecord) -> Result<(), Fault> {
         let place = self.processes[process].place;
         let mut next = Config::following(m, process, place);
         match s.kind {
@@ -287,13 +325,12 @@ impl Config {
     fn pick_ready(&mut self, m: &Model, process: usize) {
         let s = m.statements[self.processes[process].place as usize];
         if let Err(fault) = self.run(m, process, &s) {
-            self.processes[process].standing = STOPPED;
-            self.processes[process].fault = fault;
+            self.processes[process].stop(fault);
         }
     }
 
-    /// Pick: the refusal, or the new standing and the fault.
-    pub fn pick(&mut self, m: &Model, process: usize) -> Result<(u8, u8), u32> {
+    /// Pick: the refusal, or what the process is then.
+    pub fn pick(&mut self, m: &Model, process: usize) -> Result<Process, u32> {
         if process >= self.processes.len() {
             return Err(12);
         }
@@ -301,10 +338,7 @@ impl Config {
             return Err(13);
         }
         self.pick_ready(m, process);
-        Ok((
-            self.processes[process].standing,
-            self.processes[process].fault,
-        ))
+        Ok(self.processes[process])
     }
 
     pub fn lowest_ready(&self) -> Option<usize> {
@@ -422,10 +456,7 @@ impl Config {
                     p.place = Config::following(m, process, place);
                 }
                 Ok(false) => {}
-                Err(fault) => {
-                    p.standing = STOPPED;
-                    p.fault = fault;
-                }
+                Err(fault) => p.stop(fault),
             }
         }
     }

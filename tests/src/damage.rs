@@ -41,6 +41,8 @@ type Way = (&'static str, ModelOp);
 pub struct Ways(&'static [(u32, &'static [Way])]);
 
 impl Ways {
+    pub const NONE: Ways = Ways(&[]);
+
     /// The number and the name of each way.
     pub fn names(self) -> Vec<(u32, &'static str)> {
         let lists = self.0.iter();
@@ -734,13 +736,6 @@ fn add_driver(m: &mut Model, process: u8, signal: u8) {
     m.drivers.sort_by_key(|d| (d.process, d.signal));
 }
 
-fn set_expression(s: &mut StatementRecord, role: Role, node: u16) {
-    match role {
-        Role::Delay | Role::NullDelay | Role::For => s.c = node,
-        _ => s.b = node,
-    }
-}
-
 const OWNER: &[Way] = &[
     ("drivers changed over", |rng, s| {
         if s.m.drivers.len() < 2 {
@@ -1341,7 +1336,7 @@ const TOP: i64 = integers::TOP as i64;
 #[cfg(test)]
 mod tests {
     use super::*;
-    use crate::features::FEATURES;
+    use crate::features;
 
     #[test]
     fn limits_come_out_as_said() {
@@ -1383,14 +1378,14 @@ mod tests {
 
     #[test]
     fn every_damage_of_a_feature_comes_out_as_made() {
-        for feature in FEATURES {
+        for damages in features::damages() {
             let mut seen = std::collections::BTreeSet::new();
             for seed in 0..8_000 {
-                let (rule, name, bytes) = feature.damages.damaged(&mut Rng::new(seed));
+                let (rule, name, bytes) = damages.damaged(&mut Rng::new(seed));
                 assert_eq!(judge(&bytes), rule, "{name}, seed {seed}");
                 seen.insert((rule, name));
             }
-            assert_eq!(seen, feature.damages.names().into_iter().collect());
+            assert_eq!(seen, damages.names().into_iter().collect());
         }
     }
 }

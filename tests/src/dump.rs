@@ -5,7 +5,7 @@
 //! transaction carries, count of pending, eight times, what those eight carry:
 //! a value's 32 bits, or 4,294,967,296 for null.
 //! Process p at 13,584 + 16 p: place (2 bytes), standing, fault, 1 if it has
-//! a deadline, 3 zero bytes, deadline (8 bytes).
+//! a deadline, a zero byte, the fault's node (2 bytes), deadline (8 bytes).
 
 use crate::cycle::{Carried, Config};
 
@@ -55,6 +55,7 @@ pub fn dump(config: &Config) -> [u8; DUMP] {
                 process.deadline.is_some() as u8,
             ],
         );
+        put(at + 6, &process.node.to_le_bytes());
         put(at + 8, &process.deadline.unwrap_or(0).to_le_bytes());
     }
     out
@@ -73,7 +74,7 @@ pub fn place_and_fault(dump: &[u8; DUMP], p: usize) -> (u16, u8) {
 }
 
 /// How many words the proved kernel's dump has (crates/exports, specs/Dump).
-pub const WORDS: usize = 2326;
+pub const WORDS: usize = 2342;
 
 /// Where word n stands in the layout of `dump`, and in how many bytes.
 fn place(n: usize) -> (usize, usize) {
@@ -85,9 +86,10 @@ fn place(n: usize) -> (usize, usize) {
         1030..1094 => (4112 + 4 * (n - 1030), 4),
         1094..2246 => (4368 + 8 * (n - 1094), 8),
         _ => {
-            let (p, j) = ((n - 2246) / 5, (n - 2246) % 5);
-            let at = 13584 + 16 * p;
-            [(at, 2), (at + 2, 1), (at + 3, 1), (at + 4, 1), (at + 8, 8)][j]
+            // Place, standing, fault, node, whether it has a deadline, the deadline.
+            let (p, j) = ((n - 2246) / 6, (n - 2246) % 6);
+            let (within, bytes) = [(0, 2), (2, 1), (3, 1), (6, 2), (4, 1), (8, 8)][j];
+            (13584 + 16 * p + within, bytes)
         }
     }
 }
@@ -139,6 +141,7 @@ mod tests {
                     place: 258,
                     standing: 1,
                     fault: 2,
+                    node: 1_029,
                     deadline: Some(6)
                 };
                 16
@@ -158,7 +161,7 @@ mod tests {
         assert_eq!(out[13_576..13_584], [255, 255, 255, 255, 0, 0, 0, 0]);
         assert_eq!(
             out[13_824..],
-            [2, 1, 1, 2, 1, 0, 0, 0, 6, 0, 0, 0, 0, 0, 0, 0]
+            [2, 1, 1, 2, 1, 0, 5, 4, 6, 0, 0, 0, 0, 0, 0, 0]
         );
     }
 
@@ -184,6 +187,30 @@ mod tests {
         assert_eq!(pack(&off), Ok(dump(&driver(None, None))));
     }
 
+    #[test]
+    fn the_words_of_a_process() {
+        let process = |node, deadline| {
+            let processes = vec![
+                Process::default(),
+                Process {
+                    place: 7,
+                    standing: 2,
+                    fault: 4,
+                    node,
+                    deadline,
+                },
+            ];
+            let config = Config {
+                processes,
+                ..Config::default()
+            };
+            let words = words(&dump(&config));
+            words[2246 + 6..2246 + 12].to_vec()
+        };
+        assert_eq!(process(399, Some(9)), [7, 2, 4, 399, 1, 9]);
+        assert_eq!(process(65_535, None), [7, 2, 4, 65_535, 0, 0]);
+    }
+
     /// The words that a layout's fields hold.
     fn words(dump: &[u8; DUMP]) -> [u64; WORDS] {
         std::array::from_fn(|n| {
@@ -201,7 +228,7 @@ mod tests {
             let (at, many) = place(n);
             bytes[at..at + many].iter_mut().for_each(|b| *b += 1);
         }
-        let unused = |at: usize| at >= 13_584 && (5..8).contains(&(at % 16));
+        let unused = |at: usize| at >= 13_584 && at % 16 == 5;
         for (at, &times) in bytes.iter().enumerate() {
             assert_eq!(times, !unused(at) as i32, "byte {at}");
         }

@@ -9,6 +9,7 @@
 mod sessions;
 
 use crate::cases::{in_64_blocks, inverter, inverter_orders};
+use crate::features::Seen;
 use crate::numbers::{self, Counts};
 use crate::session;
 use sessions::{long_lines, RANDOM, RANDOM_SESSIONS};
@@ -84,6 +85,28 @@ fn lines(text: &str) -> impl Iterator<Item = &str> {
     text.split_inclusive('\n')
 }
 
+/// What lines of random sessions show in the columns of value and node, besides 0.
+const NODE: &str = "a pick with a node";
+const NO_NODE: &str = "a pick with node 65535";
+const NEGATIVE: &str = "a read of a negative value";
+const COLUMNS: [&str; 3] = [NODE, NO_NODE, NEGATIVE];
+
+/// What a played session's lines show.
+fn columns_shown(orders: &[u8], text: &str) -> Seen {
+    let mut seen = Seen::new();
+    for (order, line) in orders.chunks_exact(session::ORDER).zip(text.lines()) {
+        let columns: Vec<&str> = line.split(' ').collect();
+        match (order[0], columns[3], columns[4]) {
+            (session::PICK, _, "0") => {}
+            (session::PICK, _, "65535") => _ = seen.insert(NO_NODE),
+            (session::PICK, ..) => _ = seen.insert(NODE),
+            (session::READ, value, _) if value.starts_with('-') => _ = seen.insert(NEGATIVE),
+            _ => {}
+        }
+    }
+    seen
+}
+
 /// Err is what is wrong with a session's output, beside the second kernel's text.
 fn judge_output(case: &Case, expected: &str, output: &Output) -> Result<(), String> {
     if output.printed != expected {
@@ -119,6 +142,8 @@ fn judge_output(case: &Case, expected: &str, output: &Output) -> Result<(), Stri
 pub struct Findings {
     /// Sessions by number and lines printed, group by group.
     pub groups: Vec<(&'static str, Counts, usize)>,
+    /// What the lines of random sessions show, by sessions.
+    pub columns: Counts<&'static str>,
     /// Runs with a missing file, with pipes or with a failing write.
     pub others: usize,
     pub wrong: Vec<String>,
@@ -126,7 +151,7 @@ pub struct Findings {
 
 impl Findings {
     /// Err where a number that can occur does not, or the random sessions are all
-    /// played or all refused.
+    /// played or all refused, or too few of them show a node or a negative value.
     pub fn require(&self) -> Result<(), String> {
         let mut all = Counts::default();
         for (_, counts, _) in &self.groups {
@@ -137,6 +162,8 @@ impl Findings {
         let random = self.groups.iter().find(|g| g.0 == RANDOM_SESSIONS);
         let (_, random, _) = random.ok_or("no random sessions")?;
         random.require("random sessions: number", &[0], RANDOM / 2)?;
+        self.columns
+            .require("random sessions:", &COLUMNS, RANDOM / 40)?;
         match random.sum() - random.of(0) {
             refused if refused < RANDOM / 20 => Err(format!("{refused} random sessions refused")),
             _ => Ok(()),
@@ -163,6 +190,9 @@ impl Findings {
         for (name, counts, _) in self.groups.iter().filter(|g| g.0 == RANDOM_SESSIONS) {
             let (all, played) = (counts.sum(), counts.of(0));
             println!("{name}: {played} played, {} refused", all - played);
+        }
+        for name in COLUMNS {
+            println!("random sessions with {name}: {}", self.columns.of(name));
         }
         println!("missing files, pipes, failing writes: {} runs", self.others);
     }
@@ -192,6 +222,10 @@ fn play_all(program: Program, groups: &[Group], found: &mut Findings) -> Result<
             counts.add(number);
             if number == 0 {
                 printed += lines(&expected).count();
+            }
+            if number == 0 && *group == RANDOM_SESSIONS {
+                let shown = columns_shown(&case.orders, &expected);
+                shown.into_iter().for_each(|what| found.columns.add(what));
             }
         }
         found.groups.push((group, counts, printed));
@@ -323,14 +357,28 @@ mod tests {
         let case = long_lines();
         let text = session::print(&case.model, &case.orders);
         assert_eq!(text.lines().count(), 4_096);
-        assert!(text.ends_with("0 0 0 -2147483647 1000000000000\n"));
-        assert!(text.len() > 110_000, "{} bytes", text.len());
+        assert!(text.ends_with("0 0 0 -2147483647 0 1000000000000\n"));
+        assert!(text.len() > 118_000, "{} bytes", text.len());
+    }
+
+    #[test]
+    fn columns_of_value_and_node() {
+        let shown = |order: u8, line: &str| columns_shown(&[order, 0, 0, 0], line);
+        for (order, line, what) in [
+            (session::PICK, "0 2 1 4 2 0", NODE),
+            (session::PICK, "0 2 1 2 65535 0", NO_NODE),
+            (session::READ, "0 0 0 -7 0 0", NEGATIVE),
+        ] {
+            assert_eq!(shown(order, line), Seen::from([what]), "{line}");
+        }
+        assert!(shown(session::PICK, "0 0 1 0 0 3").is_empty());
+        assert!(shown(session::READ, "0 0 0 7 0 3").is_empty());
     }
 
     #[test]
     fn a_number_stands_alone() {
         assert_eq!(number_of("9\n"), 9);
-        for played in ["", "0 0 4 0 0\n", "9", "9\n9\n"] {
+        for played in ["", "0 0 4 0 0 0\n", "9", "9\n9\n"] {
             assert_eq!(number_of(played), 0, "{played}");
         }
     }

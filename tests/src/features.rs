@@ -3,11 +3,13 @@
 //! new feature is a row of `FEATURES`.
 
 pub mod arithmetic;
+pub mod failing_node;
 pub mod nulls;
 
-use crate::cycle::Config;
+use crate::cycle::{Config, Process, Step, READY, WAITING};
 use crate::damage::{self, Ways};
-use crate::model::Model;
+use crate::model::{Model, ABSENT};
+use crate::session::{ADVANCE, PICK, SETTLE};
 use std::collections::BTreeSet;
 
 /// Names of what was seen.
@@ -16,7 +18,7 @@ pub type Seen = BTreeSet<&'static str>;
 #[derive(Clone, Copy)]
 pub struct Feature {
     pub name: &'static str,
-    /// The ways to damage a model in it.
+    /// The ways to damage a model in it, if there are any.
     pub damages: Ways,
     /// What an accepted model can show.
     pub model: fn() -> Vec<&'static str>,
@@ -48,7 +50,22 @@ pub const FEATURES: &[Feature] = &[
         of_model: arithmetic::of_model,
         of_session: arithmetic::of_session,
     },
+    Feature {
+        name: "the node that failed",
+        damages: Ways::NONE,
+        model: Vec::new,
+        session: Vec::new,
+        fault: failing_node::faults,
+        of_model: |_| Seen::new(),
+        of_session: failing_node::of_session,
+    },
 ];
+
+/// The damages of the features that have some.
+pub fn damages() -> Vec<Ways> {
+    let all = FEATURES.iter().map(|f| f.damages);
+    all.filter(|d| !d.names().is_empty()).collect()
+}
 
 /// All that the features show of a model.
 pub fn of_model(m: &Model) -> Seen {
@@ -66,15 +83,20 @@ trait Player {
     fn config(&self) -> &Config;
     fn pick(&mut self, process: usize);
     fn advance(&mut self);
+
+    /// A pick that is an order of its own.
+    fn pick_ordered(&mut self, process: usize) {
+        self.pick(process);
+    }
 }
 
 /// Gives a session's orders to a player.
 fn replay(player: &mut impl Player, orders: &[u8]) {
     for order in orders.chunks_exact(4) {
         match *order {
-            [1, p, 0, 0] => player.pick(p as usize),
-            [2, 0, 0, 0] => player.advance(),
-            [3, 0, low, high] => {
+            [PICK, p, 0, 0] => player.pick_ordered(p as usize),
+            [ADVANCE, 0, 0, 0] => player.advance(),
+            [SETTLE, 0, low, high] => {
                 for _ in 0..u16::from_le_bytes([low, high]) {
                     let Some(p) = player.config().lowest_ready() else {
                         break;
@@ -85,6 +107,31 @@ fn replay(player: &mut impl Player, orders: &[u8]) {
             _ => {}
         }
     }
+}
+
+/// The place of a ready process; none where a pick of it is refused.
+fn ready_place(c: &Config, process: usize) -> Option<usize> {
+    let ready = |p: &&Process| p.standing == READY;
+    let process = c.processes.get(process).filter(ready);
+    process.map(|p| p.place as usize)
+}
+
+/// Advances; gives the conditions that a delta step asked for.
+fn advance_asking(m: &Model, c: &mut Config) -> Vec<u16> {
+    let current = |c: &Config| -> Vec<i32> { c.signals.iter().map(|s| s[0]).collect() };
+    let (now, old) = (c.time, current(c));
+    let asleep = |p: &&Process| p.standing == WAITING && p.deadline != Some(now);
+    let asleep = c.processes.iter().filter(asleep);
+    let waits: Vec<usize> = asleep.map(|p| p.place as usize).collect();
+    if c.advance(m) != Ok(Step::Delta) {
+        return vec![];
+    }
+    let new = current(c);
+    let changed = (0..old.len()).filter(|&s| old[s] != new[s]);
+    let changed = changed.fold(0u32, |set, s| set | 1 << s);
+    let waits = waits.into_iter().map(|place| m.statements[place]);
+    let asked = waits.filter(|s| s.set & changed != 0 && s.b != ABSENT);
+    asked.map(|s| s.b).collect()
 }
 
 #[cfg(test)]

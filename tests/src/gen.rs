@@ -5,7 +5,7 @@ mod calculation;
 use crate::builder::Builder;
 use crate::cycle::{Config, READY, STOPPED};
 use crate::damage;
-use crate::features::FEATURES;
+use crate::features;
 use crate::integers::*;
 use crate::model::*;
 use crate::numbers;
@@ -322,7 +322,7 @@ impl Maker<'_> {
         if !self.wild || self.count() + 3 > 400 {
             return self.delay(process);
         }
-        match self.rng.weighted(&[24, 3, 3]) {
+        match self.rng.weighted(&[22, 4, 3]) {
             0 => self.delay(process),
             1 => self.node(1, 0, 0, -1),
             _ => {
@@ -491,7 +491,7 @@ impl Maker<'_> {
                 self.wait(process);
                 continue;
             }
-            let crowd = if self.wild { 5 } else { 28 };
+            let crowd = if self.wild { 4 } else { 28 };
             if left >= 8 && !driven.is_empty() && self.rng.chance(1, crowd) {
                 let some = self.rng.choose(&[&driven, &lines]);
                 let some = if some.is_empty() { &driven } else { some };
@@ -707,6 +707,40 @@ pub fn model(rng: &mut Rng) -> Model {
     model_of(rng, wild)
 }
 
+/// Puts these nodes in front of the model's own.
+pub fn shift_nodes(m: &mut Model, front: Vec<NodeRecord>) {
+    let by = front.len() as u16;
+    for n in &mut m.nodes {
+        match operands(n).len() {
+            0 => {}
+            1 => n.a += by,
+            _ => (n.a, n.b) = (n.a + by, n.b + by),
+        }
+    }
+    for s in &mut m.statements {
+        for (role, node) in expressions(s) {
+            set_expression(s, role, node + by);
+        }
+    }
+    m.nodes.splice(0..0, front);
+}
+
+/// Nodes that no statement is to use, many of them with a fault: as many as there is
+/// room for beside the model's own, or fewer.
+fn unused_nodes(rng: &mut Rng, own: usize) -> Vec<NodeRecord> {
+    let room = 400 - own;
+    let some = rng.below(room + 1);
+    let more = rng.choose(&[room, some]);
+    let mut b = Builder::new();
+    while b.m.nodes.len() < more {
+        let (kind, x, y) = rng.choose(&FAULTS);
+        let (x, y) = (b.integer(x), b.integer(y));
+        b.binary(kind, x, y);
+    }
+    b.m.nodes.truncate(more);
+    b.m.nodes
+}
+
 /// A random split over blocks: full, ragged or with empty blocks.
 pub fn plan(rng: &mut Rng, m: &Model) -> Plan {
     let full = full_plan(m);
@@ -793,8 +827,9 @@ fn damaged_order(rng: &mut Rng) -> [u8; 4] {
     }
 }
 
-/// An order that suits the configuration, now and then one that does not.
-fn next_order(rng: &mut Rng, c: &Config) -> [u8; 4] {
+/// An order that suits the configuration, now and then one that does not. Where a
+/// process is ready, a settle has this weight beside 39 for the others.
+fn next_order(rng: &mut Rng, c: &Config, settle: usize) -> [u8; 4] {
     let ready: Vec<usize> = (0..c.processes.len())
         .filter(|&p| c.processes[p].standing == READY)
         .collect();
@@ -824,22 +859,30 @@ fn next_order(rng: &mut Rng, c: &Config) -> [u8; 4] {
             _ => order(1, some_process, 0),
         }
     } else {
-        match rng.weighted(&[35, 61, 4]) {
-            0 => order(1, rng.choose(&ready) as u8, 0),
+        match rng.weighted(&[35, settle, 4]) {
+            0 => {
+                let any = rng.choose(&ready);
+                order(1, rng.choose(&[ready[0], any]) as u8, 0)
+            }
             1 => order(3, 0, settle_count(rng)),
             _ => order(2, 0, 0),
         }
     }
 }
 
+/// The weight of settles in most lists, and in those that go pick by pick.
+const SETTLES: usize = 61;
+const FEW_SETTLES: usize = 3;
+
 /// A list of at most `most` orders, chosen as the model plays; it ends soon
 /// after the model has come to rest or a process has stopped.
 pub fn orders(rng: &mut Rng, m: &Model, most: usize) -> Vec<u8> {
+    let settle = rng.choose(&[SETTLES, SETTLES, FEW_SETTLES]);
     let mut c = Config::first(m);
     let mut list = Vec::new();
     let mut answer = [0; 16];
     for _ in 0..most {
-        let order = next_order(rng, &c);
+        let order = next_order(rng, &c, settle);
         session::play(m, &mut c, &order, &mut answer);
         list.extend_from_slice(&order);
         let stuck =
@@ -949,7 +992,7 @@ fn delta_marathon(rng: &mut Rng) -> (Model, Vec<u8>) {
         list.extend(order(3, 0, rng.range(5, 12) as u16));
         list.extend(order(2, 0, 0));
         if rng.chance(1, 100) {
-            list.extend(next_order(rng, &Config::first(&b.m)));
+            list.extend(next_order(rng, &Config::first(&b.m), SETTLES));
         }
     }
     (b.m, list)
@@ -1007,7 +1050,7 @@ fn time_marathon(rng: &mut Rng) -> (Model, Vec<u8>) {
         list.extend(order(2, 0, 0));
         list.extend(order(2, 0, 0));
         if rng.chance(1, 100) {
-            list.extend(next_order(rng, &Config::first(&b.m)));
+            list.extend(next_order(rng, &Config::first(&b.m), SETTLES));
         }
     }
     (b.m, list)
@@ -1026,11 +1069,10 @@ pub struct SessionCase {
 pub fn session_case(seed: u64) -> SessionCase {
     let mut rng = Rng::new(seed);
     let rng = &mut rng;
-    let form = rng.weighted(&[776, 80, 12, 12, 12, 8, 100]);
+    let form = rng.weighted(&[726, 80, 12, 12, 12, 8, 150]);
     if form == 1 {
         let (what, model) = if rng.chance(1, 4) {
-            let damages = rng.choose(FEATURES).damages;
-            let (_, what, model) = damages.damaged(rng);
+            let (_, what, model) = rng.choose(&features::damages()).damaged(rng);
             (what, model)
         } else {
             let rule = rng.choose(numbers::MODEL);
@@ -1063,7 +1105,11 @@ pub fn session_case(seed: u64) -> SessionCase {
             ("time marathon", m, orders)
         }
         6 => {
-            let m = calculation::model(rng);
+            let mut m = calculation::model(rng);
+            if rng.chance(1, 2) {
+                let front = unused_nodes(rng, m.nodes.len());
+                shift_nodes(&mut m, front);
+            }
             let most = list_length(rng);
             let orders = self::orders(rng, &m, most);
             ("calculation", m, orders)
@@ -1183,7 +1229,7 @@ pub fn model_case(seed: u64) -> ModelCase {
             }
         }
         _ => {
-            let (rule, what, bytes) = rng.choose(FEATURES).damages.damaged(rng);
+            let (rule, what, bytes) = rng.choose(&features::damages()).damaged(rng);
             ModelCase {
                 bytes,
                 expected: Some(rule),
@@ -1191,5 +1237,40 @@ pub fn model_case(seed: u64) -> ModelCase {
                 byte: None,
             }
         }
+    }
+}
+
+#[cfg(test)]
+mod tests {
+    use super::*;
+
+    // Shifted nodes are told with their new numbers, and nothing else changes.
+    #[test]
+    fn shifted_models_play_alike() {
+        let mut failed = 0;
+        for seed in 0..300 {
+            let rng = &mut Rng::new(seed);
+            let m = calculation::model(rng);
+            let list = orders(rng, &m, 60);
+            let mut shifted = m.clone();
+            let front = unused_nodes(rng, m.nodes.len());
+            let by = front.len() as u16;
+            shift_nodes(&mut shifted, front);
+            let play = |m: &Model| {
+                let mut answers = vec![0; 4 * list.len()];
+                let (number, config) = session::session(&encode(m), &list, &mut answers);
+                assert_eq!(number, 0, "seed {seed}");
+                config
+            };
+            let mut expected = play(&m);
+            for p in expected.processes.iter_mut() {
+                if numbers::EXPRESSION.contains(&(p.fault as u32)) {
+                    p.node += by;
+                    failed += 1;
+                }
+            }
+            assert_eq!(play(&shifted), expected, "seed {seed}");
+        }
+        assert!(failed > 300, "{failed} processes failed");
     }
 }

@@ -473,6 +473,14 @@ pub fn expressions(s: &StatementRecord) -> Vec<(Role, u16)> {
     }
 }
 
+/// Puts a node in place of one of a statement's expressions.
+pub fn set_expression(s: &mut StatementRecord, role: Role, node: u16) {
+    match role {
+        Role::Delay | Role::NullDelay | Role::For => s.c = node,
+        _ => s.b = node,
+    }
+}
+
 /// The nodes at the roots of a statement's trees.
 pub fn roots(s: &StatementRecord) -> Vec<u16> {
     expressions(s).into_iter().map(|e| e.1).collect()

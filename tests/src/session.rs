@@ -6,6 +6,12 @@ use crate::model::{self, Model};
 pub const ORDER: usize = 4;
 pub const ANSWER: usize = 16;
 
+/// Kinds of orders.
+pub const PICK: u8 = 1;
+pub const ADVANCE: u8 = 2;
+pub const SETTLE: u8 = 3;
+pub const READ: u8 = 4;
+
 /// Plays the orders over the model. A refused session writes no answer and
 /// returns the empty configuration.
 pub fn session(model: &[u8], orders: &[u8], answers: &mut [u8]) -> (u32, Config) {
@@ -34,7 +40,8 @@ pub fn session(model: &[u8], orders: &[u8], answers: &mut [u8]) -> (u32, Config)
 struct Done {
     byte: u8,
     picks: u16,
-    value: i32,
+    /// Bytes 4-7: the value read, or a pick's fault and its node.
+    value: [u8; 4],
 }
 
 /// Plays one order of 4 bytes and writes its answer of 16 bytes.
@@ -46,7 +53,7 @@ pub fn play(m: &Model, config: &mut Config, order: &[u8], answer: &mut [u8]) {
     answer[0] = refusal;
     answer[1] = done.byte;
     answer[2..4].copy_from_slice(&done.picks.to_le_bytes());
-    answer[4..8].copy_from_slice(&done.value.to_le_bytes());
+    answer[4..8].copy_from_slice(&done.value);
     answer[8..16].copy_from_slice(&config.time.to_le_bytes());
 }
 
@@ -54,24 +61,25 @@ fn carry_out(m: &Model, config: &mut Config, order: &[u8]) -> Result<Done, u32> 
     let argument = order[1];
     let count = u16::from_le_bytes([order[2], order[3]]);
     let unused_clear = match order[0] {
-        1 | 4 => count == 0,
-        2 => argument == 0 && count == 0,
-        3 => argument == 0,
+        PICK | READ => count == 0,
+        ADVANCE => argument == 0 && count == 0,
+        SETTLE => argument == 0,
         _ => false,
     };
     if !unused_clear {
         return Err(11);
     }
     match order[0] {
-        1 => {
-            let (standing, fault) = config.pick(m, argument as usize)?;
+        PICK => {
+            let process = config.pick(m, argument as usize)?;
+            let [low, high] = process.node.to_le_bytes();
             Ok(Done {
-                byte: standing,
+                byte: process.standing,
                 picks: 1,
-                value: fault as i32,
+                value: [process.fault, 0, low, high],
             })
         }
-        2 => {
+        ADVANCE => {
             let byte = match config.advance(m)? {
                 Step::Delta => 1,
                 Step::Time => 2,
@@ -81,22 +89,46 @@ fn carry_out(m: &Model, config: &mut Config, order: &[u8]) -> Result<Done, u32> 
                 ..Done::default()
             })
         }
-        3 => {
+        SETTLE => {
             let (picks, ready) = config.settle(m, count);
             Ok(Done {
                 byte: ready as u8,
                 picks,
-                value: 0,
+                ..Done::default()
             })
         }
         _ => {
             let value = config.read(argument as usize)?;
             Ok(Done {
-                value,
+                value: value.to_le_bytes(),
                 ..Done::default()
             })
         }
     }
+}
+
+/// What bytes 4-7 of an answer are, by the order's kind: a pick's fault and its
+/// node, or a value and 0.
+fn value_and_node(order: &[u8], answer: &[u8]) -> (i32, u16) {
+    match order[0] {
+        PICK => (answer[4] as i32, u16::from_le_bytes([answer[6], answer[7]])),
+        _ => (
+            i32::from_le_bytes([answer[4], answer[5], answer[6], answer[7]]),
+            0,
+        ),
+    }
+}
+
+/// The line that `playbench` prints for an answer: refusal, byte 1, picks, value,
+/// node and time.
+fn line(order: &[u8], answer: &[u8]) -> String {
+    let picks = u16::from_le_bytes([answer[2], answer[3]]);
+    let (value, node) = value_and_node(order, answer);
+    let mut time = [0; 8];
+    time.copy_from_slice(&answer[8..16]);
+    let time = u64::from_le_bytes(time);
+    let (refusal, byte) = (answer[0], answer[1]);
+    format!("{refusal} {byte} {picks} {value} {node} {time}\n")
 }
 
 /// What `playbench` prints: a line per answer, or the refused session's
@@ -107,14 +139,6 @@ pub fn print(model: &[u8], orders: &[u8]) -> String {
     if number != 0 {
         return format!("{number}\n");
     }
-    let mut text = String::new();
-    for a in answers.chunks_exact(ANSWER) {
-        let picks = u16::from_le_bytes([a[2], a[3]]);
-        let value = i32::from_le_bytes([a[4], a[5], a[6], a[7]]);
-        let mut time = [0; 8];
-        time.copy_from_slice(&a[8..16]);
-        let time = u64::from_le_bytes(time);
-        text.push_str(&format!("{} {} {} {} {}\n", a[0], a[1], picks, value, time));
-    }
-    text
+    let pairs = orders.chunks_exact(ORDER).zip(answers.chunks_exact(ANSWER));
+    pairs.map(|(order, answer)| line(order, answer)).collect()
 }

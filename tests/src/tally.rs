@@ -7,11 +7,11 @@ use crate::cases;
 use crate::cycle::Config;
 use crate::damage;
 use crate::dump::{dump, DUMP};
-use crate::features::{self, FEATURES};
+use crate::features::{self, failing_node, FEATURES};
 use crate::gen;
 use crate::model::{judge, load, ABSENT};
 use crate::numbers::{self, Counts};
-use crate::session::session;
+use crate::session::{session, ADVANCE, PICK, SETTLE};
 use std::collections::{BTreeMap, BTreeSet};
 
 /// Another kernel's judge: the number of a model.
@@ -28,10 +28,13 @@ pub struct Least {
     /// Each way to damage a feature, and each thing that models and sessions show
     /// of it.
     pub feature: u64,
+    /// A wait's condition that fails, in sessions.
+    pub condition: u64,
 }
 
 /// What is due of n cases: each number in one of 500, each thing of a feature in
-/// one of `feature`; in a small run nothing.
+/// one of `feature`, a wait's condition that fails in one of `CONDITION_SESSIONS`;
+/// in a small run nothing.
 fn least(n: u64, feature: u64) -> Least {
     if n < 10_000 {
         return Least::default();
@@ -39,12 +42,15 @@ fn least(n: u64, feature: u64) -> Least {
     Least {
         number: n / 500,
         feature: n / feature,
+        condition: n / CONDITION_SESSIONS,
     }
 }
 
 /// 500 times among the 200,000 models and 100,000 sessions of `make test`.
 const FEATURE_MODELS: u64 = 400;
 const FEATURE_SESSIONS: u64 = 200;
+/// 1,000 times among those sessions.
+const CONDITION_SESSIONS: u64 = 100;
 
 /// What `tally` and `compare` do: `models N SEED`, `sessions N SEED` or
 /// `limits`, in this kernel and in the other one where it is given.
@@ -164,8 +170,11 @@ fn row(counts: &Counts, numbers: &[u32], width: usize) -> String {
     with_none(numbers).iter().map(cell).collect()
 }
 
-/// A line for each name.
-pub fn print_shown(shown: &Counts<&'static str>, names: &[&'static str]) {
+/// The title and a line for each name, if there are any.
+pub fn print_shown(title: &str, shown: &Counts<&'static str>, names: &[&'static str]) {
+    if !names.is_empty() {
+        println!("{title}");
+    }
     for name in names {
         println!("{name:44}{:8}", shown.of(name));
     }
@@ -213,18 +222,19 @@ impl ModelTally {
             println!("{way:44}{}", row(counts, numbers::MODEL, 7));
         }
         for feature in FEATURES {
+            let ways = feature.damages.names();
             let mut damaged = Counts::default();
-            for (_, way) in feature.damages.names() {
-                if let Some(counts) = self.ways.get(way) {
-                    damaged.extend(counts);
-                }
+            for counts in ways.iter().filter_map(|(_, way)| self.ways.get(way)) {
+                damaged.extend(counts);
             }
             let name = format!("{} damaged", feature.name);
-            println!("{name:44}{}", row(&damaged, numbers::MODEL, 7));
+            if !ways.is_empty() {
+                println!("{name:44}{}", row(&damaged, numbers::MODEL, 7));
+            }
         }
         for feature in FEATURES {
-            println!("{} in accepted models", feature.name);
-            print_shown(&self.shown, &(feature.model)());
+            let title = format!("{} in accepted models", feature.name);
+            print_shown(&title, &self.shown, &(feature.model)());
         }
     }
 }
@@ -375,11 +385,17 @@ fn part(at: usize) -> String {
         }
         4_112..=4_367 => format!("variable {}", (at - 4_112) / 4),
         4_368..=13_583 => format!("driver {}, byte {}", (at - 4_368) / 144, (at - 4_368) % 144),
-        _ => format!(
-            "process {}, byte {}",
-            (at - 13_584) / 16,
-            (at - 13_584) % 16
-        ),
+        _ => {
+            let (process, byte) = ((at - 13_584) / 16, (at - 13_584) % 16);
+            let what = match byte {
+                0 | 1 => "place",
+                2 => "standing",
+                3 => "fault",
+                6 | 7 => "node",
+                _ => "deadline",
+            };
+            format!("process {process}, {what}")
+        }
     }
 }
 
@@ -429,9 +445,9 @@ impl SessionTally {
                 continue;
             }
             match order[0] {
-                1 => self.done_picks[answer[1] as usize] += 1,
-                2 => self.steps[answer[1] as usize] += 1,
-                3 => self.settles[answer[1] as usize] += 1,
+                PICK => self.done_picks[answer[1] as usize] += 1,
+                ADVANCE => self.steps[answer[1] as usize] += 1,
+                SETTLE => self.settles[answer[1] as usize] += 1,
                 _ => self.reads += 1,
             }
         }
@@ -483,7 +499,8 @@ impl SessionTally {
             let shown = [(feature.session)(), (feature.fault)()].concat();
             self.shown.require("sessions:", &shown, least.feature)?;
         }
-        Ok(())
+        let condition = [failing_node::CONDITION];
+        self.shown.require("sessions:", &condition, least.condition)
     }
 
     pub fn print(&self) {
@@ -509,6 +526,10 @@ impl SessionTally {
             println!("fault {n} in a wait's condition: {}", self.until.of(n));
         }
         println!(
+            "sessions in which a wait's condition fails and its node is kept: {}, one of {CONDITION_SESSIONS} due",
+            self.shown.of(failing_node::CONDITION)
+        );
+        println!(
             "done: picks by standing {:?}, settles {:?}, delta steps {}, time steps {}, reads {}",
             self.done_picks, self.settles, self.steps[1], self.steps[2], self.reads
         );
@@ -526,9 +547,9 @@ impl SessionTally {
             println!("{way:44}{count:8}");
         }
         for feature in FEATURES {
-            println!("{} in sessions", feature.name);
-            print_shown(&self.shown, &(feature.session)());
-            print_shown(&self.shown, &(feature.fault)());
+            let title = format!("{} in sessions", feature.name);
+            let names = [(feature.session)(), (feature.fault)()].concat();
+            print_shown(&title, &self.shown, &names);
         }
     }
 }
@@ -574,37 +595,44 @@ mod tests {
         };
         assert!(sessions(1_000, 5, Some(&number)).is_err());
         assert!(limits(Some(&judge), Some(&number)).is_err());
-        let answer = |m: &[u8], o: &[u8], a: &mut [u8], d: &mut [u8]| {
-            let n = own(m, o, a, d)?;
-            for x in a.chunks_exact_mut(16).filter(|x| n == 0 && x[0] == 18) {
-                x[8] ^= 1;
+        let time = told_of(|number, _, answers, _| {
+            let played = answers.chunks_exact_mut(16).filter(|_| number == 0);
+            played.filter(|x| x[0] == 18).for_each(|x| x[8] ^= 1);
+        });
+        assert!(time.contains("second kernel [18, "), "{time}");
+        let writes_when_refused = told_of(|number, _, answers, _| {
+            if number != 0 {
+                answers.fill(0);
             }
-            Ok(n)
+        });
+        assert!(writes_when_refused.contains("answer 0"));
+        // A node in byte 5 of a pick's answer.
+        let byte = told_of(|number, orders, answers, _| {
+            let pairs = orders.chunks_exact(4).zip(answers.chunks_exact_mut(16));
+            let picks = pairs.filter(|(order, _)| number == 0 && order[0] == PICK);
+            picks.for_each(|(_, x)| x.swap(5, 6));
+        });
+        assert!(byte.contains("to order Some([1, "), "{byte}");
+        // Null as 0, a signal's past, and a node that is not kept.
+        for (at, part) in [
+            (4_368 + 4, "driver 0, byte 4"),
+            (16 + 124, "signal 0, 31 units ago"),
+            (13_584 + 6, "process 0, node"),
+        ] {
+            let found = told_of(|_, _, _, dump| dump[at] = 0);
+            assert!(found.contains(part), "{found}");
+        }
+    }
+
+    /// What is told of a kernel that spoils, by number and orders, the answers or the
+    /// dump.
+    fn told_of(spoil: impl Fn(u32, &[u8], &mut [u8], &mut [u8])) -> String {
+        let other = |m: &[u8], o: &[u8], a: &mut [u8], d: &mut [u8]| {
+            let number = own(m, o, a, d)?;
+            spoil(number, o, a, d);
+            Ok(number)
         };
-        assert!(sessions(2_000, 5, Some(&answer)).is_err());
-        let writes_when_refused = |m: &[u8], o: &[u8], a: &mut [u8], d: &mut [u8]| {
-            let n = own(m, o, a, d)?;
-            if n != 0 {
-                a.fill(0);
-            }
-            Ok(n)
-        };
-        assert!(sessions(1_000, 5, Some(&writes_when_refused)).is_err());
-        let configuration = |m: &[u8], o: &[u8], a: &mut [u8], d: &mut [u8]| {
-            let n = own(m, o, a, d)?;
-            d[16 + 124] = 0;
-            Ok(n)
-        };
-        let message = sessions(1_000, 5, Some(&configuration)).err().unwrap();
-        assert!(message.contains("signal 0, 31 units ago"), "{message}");
-        // A null driver that is given as 0.
-        let null = |m: &[u8], o: &[u8], a: &mut [u8], d: &mut [u8]| {
-            let n = own(m, o, a, d)?;
-            d[4_368 + 4] = 0;
-            Ok(n)
-        };
-        let message = sessions(1_000, 5, Some(&null)).err().unwrap();
-        assert!(message.contains("driver 0, byte 4"), "{message}");
+        sessions(2_000, 5, Some(&other)).err().unwrap()
     }
 
     #[test]
@@ -621,21 +649,29 @@ mod tests {
     #[test]
     fn every_number_occurs() {
         let due = |n, feature| {
-            let Least { number, feature } = least(n, feature);
-            (number, feature)
+            let least = least(n, feature);
+            (least.number, least.feature, least.condition)
         };
-        assert_eq!((due(1, 400), due(9_999, 200)), ((0, 0), (0, 0)));
-        assert_eq!(due(200_000, FEATURE_MODELS), (400, 500));
-        assert_eq!(due(100_000, FEATURE_SESSIONS), (200, 500));
+        assert_eq!((due(1, 400), due(9_999, 200)), ((0, 0, 0), (0, 0, 0)));
+        assert_eq!(due(200_000, FEATURE_MODELS), (400, 500, 2_000));
+        assert_eq!(due(100_000, FEATURE_SESSIONS), (200, 500, 1_000));
         let judged = models(4_000, 5, None).unwrap();
         assert_eq!(judged.require(at_least(8, 10)), Ok(()));
         assert_eq!(limits(None, None).unwrap().require(), Ok(()));
         let played = sessions(6_000, 5, None).unwrap();
-        assert_eq!(played.require(at_least(12, 20)), Ok(()));
+        let least = Least {
+            condition: 60,
+            ..at_least(12, 20)
+        };
+        assert_eq!(played.require(least), Ok(()));
     }
 
     fn at_least(number: u64, feature: u64) -> Least {
-        Least { number, feature }
+        Least {
+            number,
+            feature,
+            condition: 0,
+        }
     }
 
     #[test]
@@ -669,19 +705,28 @@ mod tests {
             }
         }
         (judged.shown, played.shown) = (Counts::default(), Counts::default());
+        let told = |required: Result<(), String>| required.err().unwrap_or_default();
         for feature in FEATURES {
             // All of it is told; then it counts as seen, for the next one.
-            let message = judged.require(at_least(0, 1)).unwrap_err();
+            let message = told(judged.require(at_least(0, 1)));
             for what in (feature.model)() {
                 assert!(message.contains(&format!("{what} occurred 0")), "{message}");
                 judged.shown.add(what);
             }
-            let message = played.require(at_least(0, 1)).unwrap_err();
+            let message = told(played.require(at_least(0, 1)));
             for what in [(feature.session)(), (feature.fault)()].concat() {
                 assert!(message.contains(&format!("{what} occurred 0")), "{message}");
                 played.shown.add(what);
             }
         }
+        // Conditions that fail are due more often.
+        assert_eq!(played.require(at_least(0, 1)), Ok(()));
+        let message = told(played.require(Least {
+            condition: 2,
+            ..Least::default()
+        }));
+        let expected = format!("sessions: {} occurred 1 times", failing_node::CONDITION);
+        assert!(message.starts_with(&expected), "{message}");
     }
 
     // Seeds stand for the same cases for good within one build.

@@ -32,9 +32,16 @@ fn wrong(found: &Findings, words: &str) -> bool {
 
 #[test]
 fn the_second_kernels_program_passes() {
-    let found = examine(&|| Command::new(PROGRAM), &sessions()).expect("the program can be run");
+    let examined = examine(&|| Command::new(PROGRAM), &sessions());
+    let mut found = examined.expect("the program can be run");
     assert!(found.wrong.is_empty(), "{:?}", found.wrong);
     assert_eq!(found.require(), Ok(()));
+    // Without what the columns are to show it would not do.
+    found.columns = Default::default();
+    let message = found.require().unwrap_err();
+    for what in ["with a node", "with node 65535", "of a negative value"] {
+        assert!(message.contains(what), "{message}");
+    }
 }
 
 #[test]
@@ -67,6 +74,19 @@ fn a_lost_line_is_found() {
     let found = found("\"$0\" | head -n 4095");
     assert!(wrong(&found, "the orders' length: 16384 bytes of orders"));
     assert!(!wrong(&found, "the orders' length: 16380 bytes of orders"));
+}
+
+#[test]
+fn a_lost_node_is_found() {
+    let without_node = found(r#""$0" | sed 's/ [0-9]* \([0-9]*\)$/ 0 \1/'"#);
+    assert!(wrong(&without_node, "bench cases"));
+    assert!(wrong(&without_node, "random sessions"));
+    assert!(!wrong(&without_node, "the orders' length"));
+    let five_columns = found(r#""$0" | sed 's/ [0-9]* \([0-9]*\)$/ \1/'"#);
+    assert!(wrong(
+        &five_columns,
+        "the orders' length: 4 bytes of orders"
+    ));
 }
 
 #[test]

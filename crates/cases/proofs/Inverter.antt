@@ -56,7 +56,7 @@ session-is =
     rw (k, model-read, orders-read)
 
 -- the answers as text
-text-is : sessionText (accepted (played inverter inverterOrders (first inverter))) ≡ printed inverterLines
+text-is : sessionText inverterOrders (accepted (played inverter inverterOrders (first inverter))) ≡ printed inverterLines
 unfolding the-orders inverter inverterOrders sessionText answersIn lineOf decimalOf placesOf signedOf flatMap bytesIn printed inverterLines
 text-is = refl
 
@@ -68,5 +68,5 @@ as-printed =
       orders-read = orders-read;
       accepted = accepted-inverter;
       number = ap (λ (s : Session). s .number) session-is;
-      prints = ap sessionText session-is ∙ text-is;
+      prints = ap (λ (s : Session). sessionText (ordersOf inverterOrderBytes) s) session-is ∙ rw orders-read text-is;
     }

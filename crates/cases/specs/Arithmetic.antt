@@ -5,7 +5,6 @@ use mathlib.Core.List.{List, [], _∷_, map, _++_}
 use Prim.Native.Nat.{ℕ, _-_}
 use lib.IntN.{ℤ, pos, negsuc}
 use lib.ListN.{length, getD}
-use Rattle.base.specs.Bytes.{longAt}
 use Rattle.base.specs.Rules.{firstFailing}
 use Rattle.values.specs.Bench.{Row, _gives_}
 use Rattle.integers.specs.Laws.{Leaves}
@@ -13,9 +12,8 @@ use Rattle.blocks.specs.Records.{Model}
 use Rattle.blocks.specs.declared.records.NodeRecord.{NodeRecord}
 use Rattle.trees.specs.Trees.{integer}
 use Rattle.model.specs.Rules.{recordRules}
-use Rattle.rules.specs.Configuration.{first}
-use Rattle.session.specs.Lists.{Played, played}
 use Rattle.cases.specs.Forms.{variable, process, node, statement, pickOrder}
+use Rattle.cases.specs.Answers.{after, answerTo, faultIn}
 
 -- an expression: its nodes, the last of which is its root; and its value, or its fault
 pub record Case : Type 0 where
@@ -158,14 +156,11 @@ worker ns =
     }
 
 -- what one pick of process 0 leaves in variable 0, and the fault that its answer tells
-abbrev pub picked : List NodeRecord → Played
-picked ns = played (worker ns) (pickOrder 0 ∷ []) (first (worker ns))
-
 abbrev pub valueRow : Case → Row
-valueRow c = getD (picked (c .nodes) .end .variables) 0 0 gives c .said
+valueRow c = getD (after (worker (c .nodes)) (pickOrder 0 ∷ []) .variables) 0 0 gives c .said
 
 abbrev pub faultRow : Case → Row
-faultRow c = longAt (getD (picked (c .nodes) .answers) 0 []) 4 gives c .said
+faultRow c = faultIn (answerTo (worker (c .nodes)) (pickOrder 0 ∷ []) 0) gives c .said
 
 unfoldable pub arithmeticRows : List Row
 arithmeticRows = map valueRow signCases ++ map valueRow endCases ++ map faultRow faultCases

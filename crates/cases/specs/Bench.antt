@@ -1,37 +1,15 @@
--- The proved table of the bench, whole: "The cases marked [p] form one table, carried by one theorem over its rows."
--- A case of this layer is a small model and a list of orders, played from the model's first configuration.
-use mathlib.Core.Path.{_≡_}
-use mathlib.Core.List.{List, [], _∷_, map, _++_}
+-- The rows of the proved table for the cases marked [p] of document 01 that a list of orders shows.
+-- A case is a small model and a list of orders, played from the model's first configuration.
+use mathlib.Core.List.{List, [], _∷_}
 use Prim.Native.Nat.{ℕ}
-use lib.ListN.{length, getD, replicate}
-use Rattle.base.specs.Bytes.{byteAt, wordAt, longAt}
-use Rattle.values.specs.Nine.{U, X, ‘0’, ‘-’, W, L}
-use Rattle.values.specs.Bench as Values
+use lib.ListN.{length, getD}
 use Rattle.values.specs.Bench.{Row, _gives_}
 use Rattle.blocks.specs.Records.{plain, Model}
 use Rattle.trees.specs.Trees.{integer}
-use Rattle.model.specs.Rules.{Accepted}
-use Rattle.rules.specs.Configuration.{Configuration, driverIn, first}
-use Rattle.session.specs.Lists.{Order, played}
+use Rattle.rules.specs.Configuration.{driverIn}
+use Rattle.session.specs.Lists.{Order}
 use Rattle.cases.specs.Forms.{signal, variable, process, driver, node, statement, pickOrder, settleOrder}
-use Rattle.cases.specs.Arithmetic.{arithmeticRows, arithmeticRefusals}
-
--- the end configuration of a list of orders, and the answer to order n of it
-abbrev pub after : Model → List Order → Configuration
-after M os = played M os (first M) .end
-
-abbrev pub answerTo : Model → List Order → ℕ → List ℕ
-answerTo M os n = getD (played M os (first M) .answers) n []
-
--- of an answer: byte 1, the picks made, a pick's fault
-abbrev pub saidIn : List ℕ → ℕ
-saidIn a = byteAt a 1
-
-abbrev pub picksIn : List ℕ → ℕ
-picksIn a = wordAt a 2
-
-abbrev pub faultIn : List ℕ → ℕ
-faultIn a = longAt a 4
+use Rattle.cases.specs.Answers.{after, answerTo, saidIn, picksIn, faultIn}
 
 -- variable 0 starts at 2,147,483,646. Process 0: variable 0 := variable 0 + 1
 abbrev pub adder : Model
@@ -85,19 +63,3 @@ pendingRows =
     ∷ (pendingAfter (settleOrder 16 ∷ pickOrder 0 ∷ []) gives 8)
     ∷ (faultIn (answerTo scheduler (settleOrder 16 ∷ pickOrder 0 ∷ []) 1) gives 3)
     ∷ []
-
-unfoldable pub rows : List Row
-rows = Values.rows ++ sumRows ++ settleRows ++ pendingRows ++ arithmeticRows
-
--- what the paper says, case by case: the table has a row for each
-pub record TableWhole : Type 0 where
-  pub resolutions : map (λ r. r .said) Values.rows ≡ X ∷ W ∷ L ∷ ‘0’ ∷ U ∷ ‘-’ ∷ X ∷ []
-  pub sums : map (λ r. r .said) sumRows ≡ 0 ∷ 2147483647 ∷ 1 ∷ []
-  pub settles : map (λ r. r .said) settleRows ≡ 1 ∷ 0 ∷ []
-  pub pendings : map (λ r. r .said) pendingRows ≡ 7 ∷ 8 ∷ 0 ∷ 8 ∷ 3 ∷ []
-  pub arithmetic : length arithmeticRows ≡ 75
-  pub all : length rows ≡ 92
-  -- the models that it plays are accepted
-  pub adder-accepted : Accepted adder
-  pub scheduler-accepted : Accepted scheduler
-  pub arithmetic-accepted : arithmeticRefusals ≡ replicate 75 0

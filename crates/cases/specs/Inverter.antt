@@ -106,17 +106,17 @@ bytesIn t = listBelow (λ i. code (charAt t i)) (len t)
 unfoldable pub printed : List String → List ℕ
 printed ts = flatMap (λ t. ended (bytesIn t) lineFeed) ts
 
--- "All it prints"
+-- "All it prints", with the node's column of document 02, item 3
 unfoldable pub inverterLines : List String
 inverterLines =
-    "0 0 4 0 0"
-    ∷ "0 1 0 0 0"
-    ∷ "0 2 0 0 1"
-    ∷ "0 1 0 0 1"
-    ∷ "0 0 2 0 1"
-    ∷ "0 1 0 0 1"
-    ∷ "17 0 0 0 1"
-    ∷ "0 0 0 2 1"
+    "0 0 4 0 0 0"
+    ∷ "0 1 0 0 0 0"
+    ∷ "0 2 0 0 0 1"
+    ∷ "0 1 0 0 0 1"
+    ∷ "0 0 2 0 0 1"
+    ∷ "0 1 0 0 0 1"
+    ∷ "17 0 0 0 0 1"
+    ∷ "0 0 0 2 0 1"
     ∷ []
 
 -- the bytes hold the model and the orders; no refusal applies, and what is printed are those lines

@@ -1,6 +1,9 @@
+pub mod Faults
 pub mod Forms
+pub mod Answers
 pub mod Arithmetic
 pub mod Bench
 pub mod Inverter
 pub mod Guarded
 pub mod Claims
+pub mod Table

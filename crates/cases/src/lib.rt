@@ -3,20 +3,22 @@
 ghost use mathlib.Core.Path.{_≡_};
 ghost use lib.ListN.{length};
 ghost use Rattle.values.specs.Bench.{Holds};
-ghost use Rattle.cases.specs.Bench.{rows, TableWhole};
+ghost use Rattle.cases.specs.Table.{rows, TableWhole};
 ghost use Rattle.cases.specs.Arithmetic.{DivisionUsed};
+ghost use Rattle.cases.specs.Faults.{FaultsUsed};
 ghost use Rattle.cases.specs.Inverter.{inverterLines, InverterPlayed};
 ghost use Rattle.cases.specs.Guarded.{guardedRows, GuardedPlayed};
 ghost use Rattle.cases.specs.Claims.{settling, tally, InverterDetermined, SharedDetermined, InverterLaws};
 
-// How many rows the proved table has; that they hold, that none is missing, and the laws of division used once.
+// How many rows the proved table has; that they hold, that none is missing, and the laws of division and of faults used once.
 pub fn bench_rows() -> usize
     ensures { λ r. ⌜ r ≡ length rows ⌝ }
     ensures { λ r. ⌜ Holds rows ⌝ }
     ensures { λ r. ⌜ TableWhole ⌝ }
     ensures { λ r. ⌜ DivisionUsed ⌝ }
+    ensures { λ r. ⌜ FaultsUsed ⌝ }
 {
-    92
+    129
 }
 
 // How many lines are printed of the inverter; that it is accepted and these are printed, and what refused orders leave of it.

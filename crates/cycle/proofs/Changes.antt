@@ -12,6 +12,8 @@ use lib.Seq.{set-getD}
 use Rattle.blocks.specs.Records.{Model}
 use Rattle.rules.specs.Configuration.{DriverState, ProcessState, Configuration, driverIn}
 use Rattle.rules.specs.Statements.{moved, stops, nextPlace, processAfter, fullAfter, driverAfter, driversAfter, variablesAfter, applied}
+use Rattle.rules.specs.declared.value.Failure.{Failure}
+use Rattle.rules.specs.Evaluation.{failure, noNode}
 use Rattle.rules.specs.declared.effect.Effect.{Effect}
 use Rattle.rules.specs.declared.effect.Effect.the-variants.{Skip, Store, Schedule, Jump, Wait, WaitFor, Stop}
 use Rattle.rules.specs.declared.driven.Driven.{Driven}
@@ -32,9 +34,10 @@ pub record Sized (c : Config) : Type 0 where
   pub standings : length (c .standings) ≡ 16
   pub deadlines : length (c .deadlines) ≡ 16
   pub faults : length (c .faults) ≡ 16
+  pub nodes : length (c .nodes) ≡ 16
   pub variables : length (c .variables) ≡ 64
 
-module _ (c : Config) (due : List ℕ) (drivers : List Driver) (places standings deadlines faults variables : List ℕ) where
+module _ (c : Config) (due : List ℕ) (drivers : List Driver) (places standings deadlines faults nodes variables : List ℕ) where
   -- the struct with other arrays, but for signals and current values
   abbrev pub changed : Config
   changed =
@@ -53,13 +56,14 @@ module _ (c : Config) (due : List ℕ) (drivers : List Driver) (places standings
         standings = standings;
         deadlines = deadlines;
         faults = faults;
+        nodes = nodes;
         variables = variables;
       }
 
   pub changed-sized : Sized c → length due ≡ length (c .due) → length drivers ≡ length (c .drivers) → length places ≡ length (c .places)
       → length standings ≡ length (c .standings) → length deadlines ≡ length (c .deadlines) → length faults ≡ length (c .faults)
-      → length variables ≡ length (c .variables) → Sized changed
-  changed-sized s d e p t l f v =
+      → length nodes ≡ length (c .nodes) → length variables ≡ length (c .variables) → Sized changed
+  changed-sized s d e p t l f o v =
       record {
         due = d ∙ s .due;
         drivers = e ∙ s .drivers;
@@ -67,36 +71,39 @@ module _ (c : Config) (due : List ℕ) (drivers : List Driver) (places standings
         standings = t ∙ s .standings;
         deadlines = l ∙ s .deadlines;
         faults = f ∙ s .faults;
+        nodes = o ∙ s .nodes;
         variables = v ∙ s .variables;
       }
 
 -- what the arms make of the struct
 module _ (c : Config) (p : ℕ) where
   abbrev pub movedTo : ℕ → List ℕ → Config
-  movedTo i variables = changed c (c .due) (c .drivers) (set (c .places) p i) (c .standings) (c .deadlines) (c .faults) variables
+  movedTo i variables = changed c (c .due) (c .drivers) (set (c .places) p i) (c .standings) (c .deadlines) (c .faults) (c .nodes) variables
 
   abbrev pub scheduledTo : ℕ → Driver → ℕ → ℕ → Config
-  scheduledTo k d t i = changed c (set (c .due) k t) (set (c .drivers) k d) (set (c .places) p i) (c .standings) (c .deadlines) (c .faults) (c .variables)
+  scheduledTo k d t i = changed c (set (c .due) k t) (set (c .drivers) k d) (set (c .places) p i) (c .standings) (c .deadlines) (c .faults) (c .nodes) (c .variables)
 
   abbrev pub waitsUntil : List ℕ → Config
-  waitsUntil deadlines = changed c (c .due) (c .drivers) (c .places) (set (c .standings) p 1) deadlines (c .faults) (c .variables)
+  waitsUntil deadlines = changed c (c .due) (c .drivers) (c .places) (set (c .standings) p 1) deadlines (c .faults) (c .nodes) (c .variables)
 
-  abbrev pub stopsBy : ℕ → Config
-  stopsBy f = changed c (c .due) (c .drivers) (c .places) (set (c .standings) p 2) (c .deadlines) (set (c .faults) p f) (c .variables)
+  abbrev pub stopsBy : Failure → Config
+  stopsBy f =
+      changed c (c .due) (c .drivers) (c .places) (set (c .standings) p 2) (c .deadlines) (set (c .faults) p (f .fault)) (set (c .nodes) p (f .node)) (c .variables)
 
   module _ (s : Sized c) where
     pub moved-sized : (i : ℕ) (vs : List ℕ) → length vs ≡ length (c .variables) → Sized (movedTo i vs)
-    moved-sized i vs e = changed-sized c _ _ _ _ _ _ _ s refl refl (length-set (c .places) p i) refl refl refl e
+    moved-sized i vs e = changed-sized c _ _ _ _ _ _ _ _ s refl refl (length-set (c .places) p i) refl refl refl refl e
 
     pub scheduled-sized : (k : ℕ) (d : Driver) (t i : ℕ) → Sized (scheduledTo k d t i)
     scheduled-sized k d t i =
-        changed-sized c _ _ _ _ _ _ _ s (length-set (c .due) k t) (length-set (c .drivers) k d) (length-set (c .places) p i) refl refl refl refl
+        changed-sized c _ _ _ _ _ _ _ _ s (length-set (c .due) k t) (length-set (c .drivers) k d) (length-set (c .places) p i) refl refl refl refl refl
 
     pub waits-sized : (ds : List ℕ) → length ds ≡ length (c .deadlines) → Sized (waitsUntil ds)
-    waits-sized ds e = changed-sized c _ _ _ _ _ _ _ s refl refl refl (length-set (c .standings) p 1) e refl refl
+    waits-sized ds e = changed-sized c _ _ _ _ _ _ _ _ s refl refl refl (length-set (c .standings) p 1) e refl refl refl
 
-    pub stops-sized : (f : ℕ) → Sized (stopsBy f)
-    stops-sized f = changed-sized c _ _ _ _ _ _ _ s refl refl refl (length-set (c .standings) p 2) refl (length-set (c .faults) p f) refl
+    pub stops-sized : (f : Failure) → Sized (stopsBy f)
+    stops-sized f =
+        changed-sized c _ _ _ _ _ _ _ _ s refl refl refl (length-set (c .standings) p 2) refl (length-set (c .faults) p (f .fault)) (length-set (c .nodes) p (f .node)) refl
 
 same-configuration : {t t' u u' : ℕ} {ss ss' : List (List ℕ)} {ds ds' : List DriverState} {ps ps' : List ProcessState} {vs vs' : List ℕ}
     → t ≡ t' → u ≡ u' → ss ≡ ss' → ds ≡ ds' → ps ≡ ps' → vs ≡ vs'
@@ -105,7 +112,7 @@ same-configuration t u s d r v = rw (t, u, s, d, r, v)
 
 module _ (M : Model) (c : Config) (p : ℕ) (h : p < c .nprocesses) where
   abbrev q : ProcessState
-  q = rowOf (c .places) (c .standings) (c .deadlines) (c .faults) p
+  q = rowOf (c .places) (c .standings) (c .deadlines) (c .faults) (c .nodes) p
 
   abbrev next : ℕ
   next = nextPlace M p (getD (c .places) p 0)
@@ -126,11 +133,11 @@ module _ (M : Model) (c : Config) (p : ℕ) (h : p < c .nprocesses) where
 
     moved-is : (i : ℕ) (vs : List ℕ) → viewOf (movedTo c p i vs) .processes ≡ set (viewOf c .processes) p (moved q i)
     unfolding viewOf processView
-    moved-is i vs = place-set (c .places) (c .standings) (c .deadlines) (c .faults) (c .nprocesses) p i (omega (arith, s .places))
+    moved-is i vs = place-set (c .places) (c .standings) (c .deadlines) (c .faults) (c .nodes) (c .nprocesses) p i (omega (arith, s .places))
 
-    stopped-is : (f : ℕ) → viewOf (stopsBy c p f) .processes ≡ set (viewOf c .processes) p (stops q f)
+    stopped-is : (f : Failure) → viewOf (stopsBy c p f) .processes ≡ set (viewOf c .processes) p (stops q f)
     unfolding viewOf processView
-    stopped-is f = stops-set (c .places) (c .standings) (c .deadlines) (c .faults) (c .nprocesses) p f at-standing (omega (arith, s .faults))
+    stopped-is f = stops-set (c .places) (c .standings) (c .deadlines) (c .faults) (c .nodes) (c .nprocesses) p f at-standing (omega (arith, s .faults)) (omega (arith, s .nodes))
 
     pub skip-view : (i : ℕ) → i ≡ next → viewOf (movedTo c p i (c .variables)) ≡ applied M p Skip (viewOf c)
     unfolding viewOf driverView
@@ -150,15 +157,15 @@ module _ (M : Model) (c : Config) (p : ℕ) (h : p < c .nprocesses) where
     unfolding viewOf driverView processView
     wait-view e =
         change-is Wait (waitsUntil c p (c .deadlines)) refl refl refl refl
-        (waits-set (c .places) (c .standings) (c .deadlines) (c .faults) (c .nprocesses) p at-standing ∙ rw e) refl
+        (waits-set (c .places) (c .standings) (c .deadlines) (c .faults) (c .nodes) (c .nprocesses) p at-standing ∙ rw e) refl
 
     pub wait-for-view : (d t : ℕ) → t ≡ c .time + d → deadlineOf t ≡ some t → viewOf (waitsUntil c p (set (c .deadlines) p t)) ≡ applied M p (WaitFor d) (viewOf c)
     unfolding viewOf driverView processView
     wait-for-view d t e f =
         change-is (WaitFor d) (waitsUntil c p (set (c .deadlines) p t)) refl refl refl refl
-        (waits-for-set (c .places) (c .standings) (c .deadlines) (c .faults) (c .nprocesses) p t at-standing (omega (arith, s .deadlines)) ∙ rw (f, e)) refl
+        (waits-for-set (c .places) (c .standings) (c .deadlines) (c .faults) (c .nodes) (c .nprocesses) p t at-standing (omega (arith, s .deadlines)) ∙ rw (f, e)) refl
 
-    pub stop-view : (f : ℕ) → viewOf (stopsBy c p f) ≡ applied M p (Stop f) (viewOf c)
+    pub stop-view : (f : Failure) → viewOf (stopsBy c p f) ≡ applied M p (Stop f) (viewOf c)
     unfolding viewOf driverView
     stop-view f = change-is (Stop f) (stopsBy c p f) refl refl refl refl (stopped-is f) refl
 
@@ -181,6 +188,6 @@ module _ (M : Model) (c : Config) (p : ℕ) (h : p < c .nprocesses) where
       unfolding driverAfter
       stays f = rw (← full-is, f, set-getD)
 
-      pub full-view : r .full ≡ true → viewOf (stopsBy c p 3) ≡ applied M p (Schedule k d v) (viewOf c)
+      pub full-view : r .full ≡ true → viewOf (stopsBy c p (failure noNode 3)) ≡ applied M p (Schedule k d v) (viewOf c)
       unfolding viewOf driverView
-      full-view f = change-is (Schedule k d v) (stopsBy c p 3) refl refl refl (stays f) (stopped-is 3 ∙ rw (← full-is, f)) refl
+      full-view f = change-is (Schedule k d v) (stopsBy c p (failure noNode 3)) refl refl refl (stays f) (stopped-is (failure noNode 3) ∙ rw (← full-is, f)) refl

@@ -89,6 +89,7 @@ withDrivers c currents due drivers =
       standings = c .standings;
       deadlines = c .deadlines;
       faults = c .faults;
+      nodes = c .nodes;
       variables = c .variables;
     }
 

@@ -77,7 +77,7 @@ module _ (old new : List ℕ) (s : ℕ) (past : (k : ℕ) → k < 32 → (k ≡ 
   history-kept e = rw (history-first new, history-first old, e, rest-same)
 
 abbrev pub processesOf : Config → Processes
-processesOf c = record { places = c .places; standings = c .standings; deadlines = c .deadlines; faults = c .faults }
+processesOf c = record { places = c .places; standings = c .standings; deadlines = c .deadlines; faults = c .faults; nodes = c .nodes }
 
 -- the struct r, its due transactions taken, with new signals and processes, one delta step later
 abbrev pub steppedTo : Config → List ℕ → Processes → Config
@@ -97,6 +97,7 @@ steppedTo r new ps =
       standings = ps .standings;
       deadlines = ps .deadlines;
       faults = ps .faults;
+      nodes = ps .nodes;
       variables = r .variables;
     }
 

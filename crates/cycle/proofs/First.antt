@@ -44,6 +44,7 @@ pub record Begins (M : Model) (c : Config) (d : Driver) (vs : List ℕ) : Type 0
   pub standings : c .standings ≡ replicate 16 0
   pub deadlines : c .deadlines ≡ replicate 16 never
   pub faults : c .faults ≡ replicate 16 0
+  pub nodes : c .nodes ≡ replicate 16 0
 
 module _ (M : Model) (fs : Facts M) (c : Config) (d : Driver) (vs : List ℕ) (b : Begins M c d vs) where
   variables-are : listBelow (λ a. getD (c .variables) a 0) (c .nvariables) ≡ first M .variables
@@ -62,6 +63,7 @@ module _ (M : Model) (fs : Facts M) (c : Config) (d : Driver) (vs : List ℕ) (b
         b .standings,
         b .deadlines,
         b .faults,
+        b .nodes,
         getD-replicate {A = ℕ} 16 p 0 0 l,
         getD-replicate 16 p never 0 l,
         b .places .at p h,

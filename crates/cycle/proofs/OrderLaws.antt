@@ -13,18 +13,21 @@ use Rattle.base.proofs.Below.{split, any-same}
 use Rattle.base.proofs.Cases.{either-way}
 use Rattle.base.proofs.Course.{any-first}
 use Rattle.blocks.specs.Records.{Model}
+use Rattle.model.specs.Facts.{Facts}
+use Rattle.rules.specs.Configuration.{processIn}
 use Rattle.rules.specs.Statements.{stepped}
 use Rattle.rules.specs.Orders.{Outcome, Settled, refused, isReady, picked, lowestReady, settledFrom, settled, readOf}
+use Rattle.rules.proofs.Invariant.{failure-small}
 use Rattle.rules.proofs.Settling.{turnedFrom, turned-settled, turned-none, turned-ready, turned-waiting}
 use Rattle.cycle.specs.View.{viewOf, Valid, outcomeOf, Answers, ReadTo, pickedBy}
-use Rattle.cycle.specs.Turns.{turnsOf, replyOf}
+use Rattle.cycle.specs.Turns.{turnsOf, Tellable, replyOf}
 use Rattle.cycle.specs.declared.config.Config.{Config}
 use Rattle.cycle.specs.declared.orders.Answer.{Answer}
 use Rattle.cycle.specs.declared.orders.Answered.{Answered}
 use Rattle.cycle.specs.declared.picks.Turns.{Turns}
 use Rattle.cycle.specs.declared.picks.Picks.{Picks}
 use Rattle.cycle.specs.declared.picks.Picks.the-variants.{One, Settle}
-use Rattle.cycle.proofs.ViewLaws.{past-in, standing-in, ready-in, fault-in, nprocesses-is}
+use Rattle.cycle.proofs.ViewLaws.{past-in, standing-in, ready-in, fault-in, node-in, nprocesses-is}
 
 pub refused-is : (c : Config) (n : ℕ) → outcomeOf (record { answer = record { refusal = n; byte = 0; picks = 0; value = 0 }; config = c }) ≡ refused n (viewOf c)
 unfolding outcomeOf
@@ -57,7 +60,7 @@ module _ {M : Model} {which : Picks} {c₀ : Config} {n : ℕ} {c : Config} (d :
 
   -- the loop's answer and struct
   abbrev told : Outcome
-  told = outcomeOf (record { answer = replyOf which (c .standings) (c .faults) (c₀ .nprocesses) n; config = c })
+  told = outcomeOf (record { answer = replyOf which (c .standings) (c .faults) (c .nodes) (c₀ .nprocesses) n; config = c })
 
   -- a settle
   module _ (count : ℕ) (e : which ≡ Settle count) where
@@ -105,7 +108,7 @@ module _ {M : Model} {which : Picks} {c₀ : Config} {n : ℕ} {c : Config} (d :
       pick-made w =
           let same : _≡_ {A = Settled} (record { picks = 1; end = stepped M p (viewOf c₀) }) (record { picks = n; end = viewOf c }) = sym (turned-ready M p (viewOf c₀) w) ∙ ran in
           let l : p < c .nprocesses = omega (arith, total) in
-          rw (e, lt-leb (c₀ .nprocesses) p h, there, w, ← standing-in c p l, ← fault-in c p l, ← ap (λ (s : Settled). s .picks) same, ap (λ (s : Settled). s .end) same)
+          rw (e, lt-leb (c₀ .nprocesses) p h, there, w, ← standing-in c p l, ← fault-in c p l, ← node-in c p l, ← ap (λ (s : Settled). s .picks) same, ap (λ (s : Settled). s .end) same)
 
     pick-done : told ≡ picked M p (viewOf c₀)
     pick-done =
@@ -116,9 +119,17 @@ picks-done : {M : Model} (which : Picks) {c₀ : Config} {n : ℕ} {c : Config} 
 picks-done (One p) d = pick-done d p refl
 picks-done (Settle k) d = settle-done d k refl
 
-pub picks-answer : {M : Model} (which : Picks) {c₀ : Config} {n : ℕ} {c : Config} → Made M which c₀ n c → (a : Answer) → a ≡ replyOf which (c .standings) (c .faults) (c₀ .nprocesses) n
+pub picks-answer : {M : Model} (which : Picks) {c₀ : Config} {n : ℕ} {c : Config} → Made M which c₀ n c → (a : Answer) → a ≡ replyOf which (c .standings) (c .faults) (c .nodes) (c₀ .nprocesses) n
     → Answers M (record { answer = a; config = c }) (pickedBy M which (viewOf c₀))
 picks-answer which d a e = record { is = rw e (picks-done which d); valid = d .valid }
+
+-- what an answer tells of a process's fault and node is 16 bits each
+pub tellable : {M : Model} → Facts M → {c : Config} → Valid M c → (n : ℕ) → c .nprocesses ≡ n → Tellable (c .faults) (c .nodes) n
+tellable {M} fs {c} f n e p h =
+    let l : p < c .nprocesses = omega arith in
+    let there : p < length (M .processes) = omega (arith, nprocesses-is M c (f .reachable)) in
+    let s = failure-small M fs p (viewOf c .time) (processIn (viewOf c .processes) p) (f .reachable .each-process p there) in
+    (omega (arith, s .0, fault-in c p l), omega (arith, s .1, node-in c p l))
 
 -- the loop stays within the processes
 pub turns-within : (which : Picks) (nprocesses : ℕ) (t : Turns) → t ≡ turnsOf which nprocesses → t .end ≤ nprocesses

@@ -47,6 +47,7 @@ withPast c signals drivers =
       standings = c .standings;
       deadlines = c .deadlines;
       faults = c .faults;
+      nodes = c .nodes;
       variables = c .variables;
     }
 
@@ -67,6 +68,7 @@ later c t =
       standings = c .standings;
       deadlines = c .deadlines;
       faults = c .faults;
+      nodes = c .nodes;
       variables = c .variables;
     }
 

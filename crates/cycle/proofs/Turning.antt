@@ -21,6 +21,8 @@ use Rattle.rules.specs.Statements.{nextPlace, applied, effectBy, effectOf, step
 use Rattle.rules.specs.Orders.{isReady}
 use Rattle.rules.specs.Invariant.{DriverValid, EffectFits, StoreFits, ScheduleFits}
 use Rattle.rules.specs.declared.driven.Driven.{Driven}
+use Rattle.rules.specs.declared.value.Failure.{Failure}
+use Rattle.rules.specs.Evaluation.{failure, noNode}
 use Rattle.rules.specs.declared.effect.Effect.{Effect}
 use Rattle.rules.specs.declared.effect.Effect.the-variants.{Skip, Store, Schedule, Jump, Wait, WaitFor, Stop}
 use Rattle.rules.proofs.Effects.{own-statement, placed, effect-fits}
@@ -169,7 +171,7 @@ module _ {M : Model} {now p : ℕ} {c : Config} {e : Effect} (t : Turn M now p c
       turned (waitsUntil c p (set (c .deadlines) p u)) (rw x (wait-for-view M c p in-nprocesses s in-16 d u k (rw (ne-eqb u never o)))) refl refl
       (waits-sized c p s (set (c .deadlines) p u) (length-set (c .deadlines) p u)) (f .due)
 
-  pub stop-turn : (i : ℕ) → e ≡ Stop i → Next (stopsBy c p i)
+  pub stop-turn : (i : Failure) → e ≡ Stop i → Next (stopsBy c p i)
   stop-turn i x = turned (stopsBy c p i) (rw x (stop-view M c p in-nprocesses s in-16 i)) refl refl (stops-sized c p s i) (f .due)
 
   module _ (k d : ℕ) (v : Driven) (x : e ≡ Schedule k d v) where
@@ -193,8 +195,8 @@ module _ {M : Model} {now p : ℕ} {c : Config} {e : Effect} (t : Turn M now p c
     word-held = held (signalAt M (driverAt M k .signal)) v (schedule-fits .value)
 
     module _ (r : Scheduled) (to : ScheduledTo (getD (c .drivers) k noDriver) d v r) where
-      pub full-turn : r .full ≡ true → Next (stopsBy c p 3)
-      full-turn g = turned (stopsBy c p 3) (rw x (full-view M c p in-nprocesses s in-16 k d v in-ndrivers in-drivers r to g)) refl refl (stops-sized c p s 3) (f .due)
+      pub full-turn : r .full ≡ true → Next (stopsBy c p (failure noNode 3))
+      full-turn g = turned (stopsBy c p (failure noNode 3)) (rw x (full-view M c p in-nprocesses s in-16 k d v in-ndrivers in-drivers r to g)) refl refl (stops-sized c p s (failure noNode 3)) (f .due)
 
       pub schedule-turn : r .full ≡ false → (u i : ℕ) → u ≡ firstTime (pendingOf now (r .driver)) → i ≡ following → Next (scheduledTo c p k (r .driver) u i)
       schedule-turn g u i a b =

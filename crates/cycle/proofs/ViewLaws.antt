@@ -9,6 +9,7 @@ use Rattle.base.specs.Below.{listBelow}
 use Rattle.base.proofs.Below.{list-length, list-at, list-change}
 use Rattle.blocks.specs.Records.{Model}
 use Rattle.rules.specs.Configuration.{DriverState, ProcessState, driverIn, processIn, pastOf}
+use Rattle.rules.specs.declared.value.Failure.{Failure}
 use Rattle.rules.specs.Statements.{moved, waits, stops}
 use Rattle.rules.specs.Orders.{isReady}
 use Rattle.rules.specs.Invariant.{Reachable}
@@ -76,6 +77,10 @@ module _ (c : Config) where
   unfolding processView
   fault-in p h = ap (λ (q : ProcessState). q .fault) (process-in p h)
 
+  pub node-in : (p : ℕ) → p < c .nprocesses → processIn (viewOf c .processes) p .node ≡ getD (c .nodes) p 0
+  unfolding processView
+  node-in p h = ap (λ (q : ProcessState). q .node) (process-in p h)
+
   pub variable-in : (a : ℕ) → a < c .nvariables → getD (viewOf c .variables) a 0 ≡ getD (c .variables) a 0
   unfolding viewOf
   variable-in a h = list-at (λ a. getD (c .variables) a 0) 0 (c .nvariables) a h
@@ -100,9 +105,15 @@ variables-set vs n a v h =
     list-change (λ j. getD vs j 0) (λ j. getD (set vs a v) j 0) n a (λ j o. getD-set-other vs a j v 0 o) ∙ rw (getD-set-same vs a v 0 h)
 
 -- what one process's entries say, and one driver's
-abbrev pub rowOf : List ℕ → List ℕ → List ℕ → List ℕ → ℕ → ProcessState
-rowOf places standings deadlines faults p =
-    record { place = getD places p 0; standing = getD standings p 0; deadline = deadlineOf (getD deadlines p 0); fault = getD faults p 0 }
+abbrev pub rowOf : List ℕ → List ℕ → List ℕ → List ℕ → List ℕ → ℕ → ProcessState
+rowOf places standings deadlines faults nodes p =
+    record {
+      place = getD places p 0;
+      standing = getD standings p 0;
+      deadline = deadlineOf (getD deadlines p 0);
+      fault = getD faults p 0;
+      node = getD nodes p 0;
+    }
 
 abbrev pub driverOf : ℕ → List ℕ → List Driver → ℕ → DriverState
 driverOf t currents drivers k = record { current = drivenOf (getD currents k 0); pending = pendingOf t (getD drivers k noDriver) }
@@ -113,37 +124,39 @@ pub view-is : (c : Config) → viewOf c ≡ record {
   deltas = c .deltas;
   signals = listBelow (historyOf (c .signals)) (c .nsignals);
   drivers = listBelow (driverOf (c .time) (c .currents) (c .drivers)) (c .ndrivers);
-  processes = listBelow (rowOf (c .places) (c .standings) (c .deadlines) (c .faults)) (c .nprocesses);
+  processes = listBelow (rowOf (c .places) (c .standings) (c .deadlines) (c .faults) (c .nodes)) (c .nprocesses);
   variables = listBelow (λ a. getD (c .variables) a 0) (c .nvariables);
 }
 unfolding viewOf driverView processView
 view-is c = refl
 
 -- the entries of process p are changed
-module _ (places standings deadlines faults : List ℕ) (n p : ℕ) where
+module _ (places standings deadlines faults nodes : List ℕ) (n p : ℕ) where
   abbrev rows : List ProcessState
-  rows = listBelow (rowOf places standings deadlines faults) n
+  rows = listBelow (rowOf places standings deadlines faults nodes) n
 
   abbrev row : ProcessState
-  row = rowOf places standings deadlines faults p
+  row = rowOf places standings deadlines faults nodes p
 
-  pub place-set : (i : ℕ) → p < length places → listBelow (rowOf (set places p i) standings deadlines faults) n ≡ set rows p (moved row i)
+  pub place-set : (i : ℕ) → p < length places → listBelow (rowOf (set places p i) standings deadlines faults nodes) n ≡ set rows p (moved row i)
   place-set i h =
-      list-change (rowOf places standings deadlines faults) _ n p (λ j o. rw (getD-set-other places p j i 0 o)) ∙ rw (getD-set-same places p i 0 h)
+      list-change (rowOf places standings deadlines faults nodes) _ n p (λ j o. rw (getD-set-other places p j i 0 o)) ∙ rw (getD-set-same places p i 0 h)
 
-  pub waits-set : p < length standings → listBelow (rowOf places (set standings p 1) deadlines faults) n ≡ set rows p (waits row (row .deadline))
+  pub waits-set : p < length standings → listBelow (rowOf places (set standings p 1) deadlines faults nodes) n ≡ set rows p (waits row (row .deadline))
   waits-set h =
-      list-change (rowOf places standings deadlines faults) _ n p (λ j o. rw (getD-set-other standings p j 1 0 o)) ∙ rw (getD-set-same standings p 1 0 h)
+      list-change (rowOf places standings deadlines faults nodes) _ n p (λ j o. rw (getD-set-other standings p j 1 0 o)) ∙ rw (getD-set-same standings p 1 0 h)
 
-  pub waits-for-set : (t : ℕ) → p < length standings → p < length deadlines → listBelow (rowOf places (set standings p 1) (set deadlines p t) faults) n ≡ set rows p (waits row (deadlineOf t))
+  pub waits-for-set : (t : ℕ) → p < length standings → p < length deadlines → listBelow (rowOf places (set standings p 1) (set deadlines p t) faults nodes) n ≡ set rows p (waits row (deadlineOf t))
   waits-for-set t h l =
-      list-change (rowOf places standings deadlines faults) _ n p (λ j o. rw (getD-set-other standings p j 1 0 o, getD-set-other deadlines p j t 0 o))
+      list-change (rowOf places standings deadlines faults nodes) _ n p (λ j o. rw (getD-set-other standings p j 1 0 o, getD-set-other deadlines p j t 0 o))
       ∙ rw (getD-set-same standings p 1 0 h, getD-set-same deadlines p t 0 l)
 
-  pub stops-set : (f : ℕ) → p < length standings → p < length faults → listBelow (rowOf places (set standings p 2) deadlines (set faults p f)) n ≡ set rows p (stops row f)
-  stops-set f h l =
-      list-change (rowOf places standings deadlines faults) _ n p (λ j o. rw (getD-set-other standings p j 2 0 o, getD-set-other faults p j f 0 o))
-      ∙ rw (getD-set-same standings p 2 0 h, getD-set-same faults p f 0 l)
+  pub stops-set : (r : Failure) → p < length standings → p < length faults → p < length nodes
+      → listBelow (rowOf places (set standings p 2) deadlines (set faults p (r .fault)) (set nodes p (r .node))) n ≡ set rows p (stops row r)
+  stops-set r h l m =
+      list-change (rowOf places standings deadlines faults nodes) _ n p
+      (λ j o. rw (getD-set-other standings p j 2 0 o, getD-set-other faults p j (r .fault) 0 o, getD-set-other nodes p j (r .node) 0 o))
+      ∙ rw (getD-set-same standings p 2 0 h, getD-set-same faults p (r .fault) 0 l, getD-set-same nodes p (r .node) 0 m)
 
 -- the waveform of driver k is changed
 pub driver-set : (t : ℕ) (currents : List ℕ) (drivers : List Driver) (n k : ℕ) (d : Driver) → k < length drivers → listBelow (driverOf t currents (set drivers k d)) n ≡ set (listBelow (driverOf t currents drivers) n) k (record { current = drivenOf (getD currents k 0); pending = pendingOf t d })

@@ -26,6 +26,7 @@ processView c p =
       standing = getD (c .standings) p 0;
       deadline = deadlineOf (getD (c .deadlines) p 0);
       fault = getD (c .faults) p 0;
+      node = getD (c .nodes) p 0;
     }
 
 -- the configuration of document 01 that the struct holds: lists of exactly the model's totals

@@ -66,11 +66,13 @@ impl Config {
             let standings = self.standings;
             let deadlines = self.deadlines;
             let faults = self.faults;
+            let nodes = self.nodes;
             let ps = Processes {
                 places,
                 standings,
                 deadlines,
                 faults,
+                nodes,
             };
             let r = wake(
                 m,
@@ -86,10 +88,12 @@ impl Config {
             let woken_standings = r.standings;
             let woken_deadlines = r.deadlines;
             let woken_faults = r.faults;
+            let woken_nodes = r.nodes;
             self.places = woken_places;
             self.standings = woken_standings;
             self.deadlines = woken_deadlines;
             self.faults = woken_faults;
+            self.nodes = woken_nodes;
             self.deltas = self.deltas + 1;
             return Answered {
                 answer: Answer {

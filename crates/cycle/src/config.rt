@@ -39,6 +39,7 @@ pub struct Config {
     pub standings: [usize; 16],
     pub deadlines: [u64; 16],
     pub faults: [u32; 16],
+    pub nodes: [u32; 16],
     pub variables: [u32; 64],
 }
 
@@ -147,6 +148,7 @@ impl Config {
             standings: [READY; 16],
             deadlines: [NEVER; 16],
             faults: [0; 16],
+            nodes: [0; 16],
             variables: [0; 64],
         }
     }
@@ -177,6 +179,7 @@ impl Config {
             standings: [READY; 16],
             deadlines: [NEVER; 16],
             faults: [0; 16],
+            nodes: [0; 16],
             variables,
         }
     }

@@ -11,12 +11,13 @@ use crate::orders::Answered;
 use blocks::index::Index;
 use expressions::effect::effect_of;
 use expressions::effect::next_place;
+use rules::NO_NODE;
 use rules::READY;
 use rules::STOPPED;
 use rules::WAITING;
 use rules::effect::Effect;
 use steps::due::any_standing;
-ghost use Rattle.cycle.specs.Turns.{turnsOf, replyOf};
+ghost use Rattle.cycle.specs.Turns.{turnsOf, Tellable, replyOf};
 
 // The picks that an order asks for.
 pub enum Picks {
@@ -72,11 +73,13 @@ fn reply<'a>(
     which: Picks,
     standings: &'a [usize; 16],
     faults: &'a [u32; 16],
+    nodes: &'a [u32; 16],
     nprocesses: usize,
     n: usize,
 ) -> Answer
     requires { ⌜ nprocesses ≤ 16 ⌝ }
-    ensures { λ r. ⌜ r ≡ replyOf which (now (standings .entry)) (now (faults .entry)) nprocesses n ⌝ }
+    requires { ⌜ Tellable (now faults) (now nodes) nprocesses ⌝ }
+    ensures { λ r. ⌜ r ≡ replyOf which (now (standings .entry)) (now (faults .entry)) (now (nodes .entry)) nprocesses n ⌝ }
 {
     match which {
         Picks::One(p) => {
@@ -90,7 +93,7 @@ fn reply<'a>(
                 refusal: 0,
                 byte: standings[p],
                 picks: n,
-                value: faults[p],
+                value: faults[p] + 65536 * nodes[p],
             }
         }
         Picks::Settle(count) => Answer {
@@ -140,6 +143,7 @@ impl Config {
                     if r.full {
                         self.standings[p] = STOPPED;
                         self.faults[p] = 3;
+                        self.nodes[p] = NO_NODE;
                     } else {
                         let f = r.driver;
                         self.due[k] = f.first_time(now);
@@ -159,11 +163,19 @@ impl Config {
                 }
                 Effect::Stop(f) => {
                     self.standings[p] = STOPPED;
-                    self.faults[p] = f;
+                    self.faults[p] = f.fault;
+                    self.nodes[p] = f.node;
                 }
             }
         }
-        let answer = reply(which, &self.standings, &self.faults, nprocesses, n);
+        let answer = reply(
+            which,
+            &self.standings,
+            &self.faults,
+            &self.nodes,
+            nprocesses,
+            n,
+        );
         Answered {
             answer,
             config: self,

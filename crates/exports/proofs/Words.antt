@@ -59,7 +59,7 @@ driver-none c k j h =
 
 process-zeros : (j : ℕ) → 0 ≡ processWord noProcess j
 unfolding processWord
-process-zeros j = rw (same (eqb j 3), same (eqb j 2), same (eqb j 1), same (eqb j 0))
+process-zeros j = rw (same (eqb j 4), same (eqb j 3), same (eqb j 2), same (eqb j 1), same (eqb j 0))
 
 pub process-none : (c : Config) (p j : ℕ) → c .nprocesses ≤ p → 0 ≡ processWord (getD (viewOf c .processes) p noProcess) j
 process-none c p j h =
@@ -114,18 +114,22 @@ module _ (c : Config) (p j : ℕ) (h : p < c .nprocesses) where
   unfolding processWord processView
   fault-word e = rw (process-at, e)
 
-  module _ (e₀ : j ≡ 0 → ⊥) (e₁ : j ≡ 1 → ⊥) (e₂ : j ≡ 2 → ⊥) where
+  pub node-word : j ≡ 3 → getD (c .nodes) p 0 ≡ processWord (getD (viewOf c .processes) p noProcess) j
+  unfolding processWord processView
+  node-word e = rw (process-at, e)
+
+  module _ (e₀ : j ≡ 0 → ⊥) (e₁ : j ≡ 1 → ⊥) (e₂ : j ≡ 2 → ⊥) (e₃ : j ≡ 3 → ⊥) where
     pub no-deadline : getD (c .deadlines) p 0 ≡ never → 0 ≡ processWord (getD (viewOf c .processes) p noProcess) j
     unfolding processWord processView
-    no-deadline e = rw (process-at, e, ne-eqb j 0 e₀, ne-eqb j 1 e₁, ne-eqb j 2 e₂, same (eqb j 3))
+    no-deadline e = rw (process-at, e, ne-eqb j 0 e₀, ne-eqb j 1 e₁, ne-eqb j 2 e₂, ne-eqb j 3 e₃, same (eqb j 4))
 
-    pub deadline-set : (getD (c .deadlines) p 0 ≡ never → ⊥) → j ≡ 3 → 1 ≡ processWord (getD (viewOf c .processes) p noProcess) j
+    pub deadline-set : (getD (c .deadlines) p 0 ≡ never → ⊥) → j ≡ 4 → 1 ≡ processWord (getD (viewOf c .processes) p noProcess) j
     unfolding processWord processView
-    deadline-set e e₃ = rw (process-at, ne-eqb _ never e, e₃)
+    deadline-set e e₄ = rw (process-at, ne-eqb _ never e, e₄)
 
-    pub deadline-word : (getD (c .deadlines) p 0 ≡ never → ⊥) → (j ≡ 3 → ⊥) → getD (c .deadlines) p 0 ≡ processWord (getD (viewOf c .processes) p noProcess) j
+    pub deadline-word : (getD (c .deadlines) p 0 ≡ never → ⊥) → (j ≡ 4 → ⊥) → getD (c .deadlines) p 0 ≡ processWord (getD (viewOf c .processes) p noProcess) j
     unfolding processWord processView
-    deadline-word e e₃ = rw (process-at, ne-eqb _ never e, ne-eqb j 0 e₀, ne-eqb j 1 e₁, ne-eqb j 2 e₂, ne-eqb j 3 e₃)
+    deadline-word e e₄ = rw (process-at, ne-eqb _ never e, ne-eqb j 0 e₀, ne-eqb j 1 e₁, ne-eqb j 2 e₂, ne-eqb j 3 e₃, ne-eqb j 4 e₄)
 
 -- the sections
 module _ (C : Configuration) (i : ℕ) where
@@ -145,13 +149,13 @@ module _ (C : Configuration) (i : ℕ) where
   unfolding wordOf
   in-drivers l h = rw (le-ltb i 6 (omega arith), le-ltb i 1030 (omega arith), le-ltb i 1094 l, lt-ltb i 2246 h)
 
-  pub in-processes : 2246 ≤ i → i < 2326 → wordOf C i ≡ processWord (getD (C .processes) ((i - 2246) / 5) noProcess) ((i - 2246) % 5)
+  pub in-processes : 2246 ≤ i → i < 2342 → wordOf C i ≡ processWord (getD (C .processes) ((i - 2246) / 6) noProcess) ((i - 2246) % 6)
   unfolding wordOf
-  in-processes l h = rw (le-ltb i 6 (omega arith), le-ltb i 1030 (omega arith), le-ltb i 1094 (omega arith), le-ltb i 2246 l, lt-ltb i 2326 h)
+  in-processes l h = rw (le-ltb i 6 (omega arith), le-ltb i 1030 (omega arith), le-ltb i 1094 (omega arith), le-ltb i 2246 l, lt-ltb i 2342 h)
 
-  pub past-all : 2326 ≤ i → wordOf C i ≡ 0
+  pub past-all : 2342 ≤ i → wordOf C i ≡ 0
   unfolding wordOf
-  past-all l = rw (le-ltb i 6 (omega arith), le-ltb i 1030 (omega arith), le-ltb i 1094 (omega arith), le-ltb i 2246 (omega arith), le-ltb i 2326 l)
+  past-all l = rw (le-ltb i 6 (omega arith), le-ltb i 1030 (omega arith), le-ltb i 1094 (omega arith), le-ltb i 2246 (omega arith), le-ltb i 2342 l)
 
 -- the loop over the buffer wrote it all
 pub all-written : (f : ℕ → ℕ) (d out : List ℕ) (i : ℕ) → i ≤ length d → length d ≤ i → out ≡ (take 0 d ++ listBelow f i) ++ drop i d → out ≡ listBelow f (length d)

@@ -1,4 +1,4 @@
--- A configuration written out as numbers, for programs that compare configurations: 2326 words, and 0 past them.
+-- A configuration written out as numbers, for programs that compare configurations: 2342 words, and 0 past them.
 use mathlib.Core.Option.{Option, none, some}
 use Prim.Native.Nat.{ℕ, _-_, _/_, _%_}
 use lib.Dec.{ltb}
@@ -10,7 +10,7 @@ use Rattle.rules.specs.Configuration.{Transaction, DriverState, ProcessState, C
 
 -- what stands for a process and a transaction that are not there
 abbrev pub noProcess : ProcessState
-noProcess = record { place = 0; standing = 0; deadline = none; fault = 0 }
+noProcess = record { place = 0; standing = 0; deadline = none; fault = 0; node = 0 }
 
 abbrev pub noTransaction : Transaction
 noTransaction = record { time = 0; value = To 0 }
@@ -47,21 +47,22 @@ driverWord D j =
     ∣ ltb j 10 ⇒ getD (D .pending) (j - 2) noTransaction .time
     ∣ drivenWord (getD (D .pending) (j - 10) noTransaction .value)
 
--- a process: its place, standing and fault, whether it has a deadline, and that
+-- a process: its place, standing, fault and node, whether it has a deadline, and that
 unfoldable pub processWord : ProcessState → ℕ → ℕ
 processWord P j =
     j is 0 ⇒ P .place
     ∣ j is 1 ⇒ P .standing
     ∣ j is 2 ⇒ P .fault
-    ∣ j is 3 ⇒ isSet (P .deadline)
+    ∣ j is 3 ⇒ P .node
+    ∣ j is 4 ⇒ isSet (P .deadline)
     ∣ timeOf (P .deadline)
 
--- word i: the totals, 32 values of each of 32 signals, 64 variables, 18 words of each of 64 drivers, 5 of each of 16 processes
+-- word i: the totals, 32 values of each of 32 signals, 64 variables, 18 words of each of 64 drivers, 6 of each of 16 processes
 unfoldable pub wordOf : Configuration → ℕ → ℕ
 wordOf C i =
     ltb i 6 ⇒ totalWord C i
     ∣ ltb i 1030 ⇒ pastOf (C .signals) ((i - 6) / 32) ((i - 6) % 32)
     ∣ ltb i 1094 ⇒ getD (C .variables) (i - 1030) 0
     ∣ ltb i 2246 ⇒ driverWord (driverIn (C .drivers) ((i - 1094) / 18)) ((i - 1094) % 18)
-    ∣ ltb i 2326 ⇒ processWord (getD (C .processes) ((i - 2246) / 5) noProcess) ((i - 2246) % 5)
+    ∣ ltb i 2342 ⇒ processWord (getD (C .processes) ((i - 2246) / 6) noProcess) ((i - 2246) % 6)
     ∣ 0

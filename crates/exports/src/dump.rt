@@ -112,11 +112,14 @@ fn process_word(c: Config, p: usize, j: usize) -> u64
     if j == 2 {
         return c.faults[p] as u64;
     }
+    if j == 3 {
+        return c.nodes[p] as u64;
+    }
     let t = c.deadlines[p];
     if t == NEVER {
         return 0;
     }
-    if j == 3 {
+    if j == 4 {
         return 1;
     }
     t
@@ -139,8 +142,8 @@ fn word(c: Config, i: usize) -> u64
     if i < 2246 {
         return driver_word(c, (i - 1094) / 18, (i - 1094) % 18);
     }
-    if i < 2326 {
-        return process_word(c, (i - 2246) / 5, (i - 2246) % 5);
+    if i < 2342 {
+        return process_word(c, (i - 2246) / 6, (i - 2246) % 6);
     }
     0
 }

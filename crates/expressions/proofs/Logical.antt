@@ -8,6 +8,7 @@ use Rattle.base.specs.Cases.{_∣_, _⇒_}
 use Rattle.base.proofs.Cases.{either}
 use Rattle.trees.specs.Trees.{boolean}
 use Rattle.rules.specs.declared.value.Value.{Value}
+use Rattle.rules.specs.declared.value.Failure.{Failure}
 use Rattle.rules.specs.declared.value.Value.the-variants.{Of, Fault}
 use Rattle.rules.specs.Evaluation.{one, two, unlessFirst, decidedBy}
 
@@ -16,7 +17,7 @@ module _ (k : ℕ) (f : ℕ → ℕ → ℕ) (ty : ℕ) (p q : Value) where
   abbrev pub unlessBy : Value
   unlessBy = eqb ty boolean ⇒ unlessFirst k p q ∣ two p q (λ x y. Of (f x y))
 
-  pub first-fault : {e : ℕ} → p ≡ Fault e → Fault e ≡ unlessBy
+  pub first-fault : {e : Failure} → p ≡ Fault e → Fault e ≡ unlessBy
   first-fault {e} h = rw h (either (eqb ty boolean) (Fault e))
 
   -- where the first operand decides, it is the value
@@ -42,7 +43,7 @@ module _ (k : ℕ) (f : ℕ → ℕ → ℕ) (ty : ℕ) (p q : Value) where
         by-tests true false h = refl
         by-tests false d h = refl
 
-    pub second-fault : {e : ℕ} → q ≡ Fault e → Fault e ≡ unlessBy
+    pub second-fault : {e : Failure} → q ≡ Fault e → Fault e ≡ unlessBy
     second-fault {e} h = rw (second (eqb ty boolean) refl, h) (either (eqb ty boolean) (Fault e))
 
     pub booleans : {y : ℕ} → q ≡ Of y → ty ≡ boolean → Of y ≡ unlessBy

@@ -54,11 +54,11 @@ module _ {m index : List ℕ} {n t : ℕ} (call : (n ≡ t) × Call m index n) {
       absurd (none-of 1 18 (d .kind) h l (omega arith))
 
   module _ (e : Environment) {v : Value} {ty : ℕ} (type : ty ≡ typeOf (modelOf m) n) where
-    pub leaf-value : ((p q : Value) → v ≡ valueBy e d ty p q) → v ≡ evalOf (modelOf m) e n
+    pub leaf-value : ((p q : Value) → v ≡ valueBy e n d ty p q) → v ≡ evalOf (modelOf m) e n
     leaf-value = leaf (modelOf m) e n fits d ty v node type
 
-    pub unary-value : {p : Value} → p ≡ evalOf (modelOf m) e (d .a) → ((q : Value) → v ≡ valueBy e d ty p q) → v ≡ evalOf (modelOf m) e n
+    pub unary-value : {p : Value} → p ≡ evalOf (modelOf m) e (d .a) → ((q : Value) → v ≡ valueBy e n d ty p q) → v ≡ evalOf (modelOf m) e n
     unary-value {p} = unary (modelOf m) e n fits d ty v node type p
 
-    pub binary-value : {p q : Value} → p ≡ evalOf (modelOf m) e (d .a) → q ≡ evalOf (modelOf m) e (d .b) → v ≡ valueBy e d ty p q → v ≡ evalOf (modelOf m) e n
+    pub binary-value : {p q : Value} → p ≡ evalOf (modelOf m) e (d .a) → q ≡ evalOf (modelOf m) e (d .b) → v ≡ valueBy e n d ty p q → v ≡ evalOf (modelOf m) e n
     binary-value {p} {q} = binary (modelOf m) e n fits d ty v node type p q

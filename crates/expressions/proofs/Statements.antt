@@ -21,19 +21,20 @@ use Rattle.model.specs.Index.{DriversBelow}
 use Rattle.rules.specs.Statements.{nextPlace, withDelay}
 use Rattle.rules.specs.declared.effect.Effect.{Effect}
 use Rattle.rules.specs.declared.effect.Effect.the-variants.{Stop}
+use Rattle.rules.specs.declared.value.Failure.{Failure}
 use Rattle.rules.specs.declared.value.Value.{Value}
 use Rattle.rules.specs.declared.value.Value.the-variants.{Of, Fault}
-use Rattle.rules.specs.Evaluation.{int}
+use Rattle.rules.specs.Evaluation.{failure, noNode, int}
 use Rattle.rules.proofs.Signed.{not-negative, int-read}
 use Rattle.expressions.specs.Reading.{Runs}
 
 -- a delay, r being what `int` returned
-pub delay-fault : {v : Value} {f : ℕ} (next : ℕ → Effect) → v ≡ Fault f → Stop f ≡ withDelay v next
+pub delay-fault : {v : Value} {f : Failure} (next : ℕ → Effect) → v ≡ Fault f → Stop f ≡ withDelay v next
 unfolding withDelay
 delay-fault next h = rw h
 
 module _ {v : Value} {x : ℕ} {r : ℤ} (next : ℕ → Effect) (h : v ≡ Of x) (l : x < 4294967296) (e : r ≡ int x) where
-  pub delay-negative : ltZ (toZ w64 (ofZ w64 r)) (pos 0) ≡ true → Stop 2 ≡ withDelay v next
+  pub delay-negative : ltZ (toZ w64 (ofZ w64 r)) (pos 0) ≡ true → Stop (failure noNode 2) ≡ withDelay v next
   unfolding withDelay
   delay-negative t = rw (h, simp (int-read x l e) at t)
 

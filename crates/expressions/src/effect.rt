@@ -18,8 +18,10 @@ use blocks::index::process_at;
 use blocks::index::statement_at;
 use fields::ABSENT;
 use model::owners::assignment_driver;
+use rules::NO_NODE;
 use rules::driven::Driven;
 use rules::effect::Effect;
+use rules::value::Failure;
 use rules::value::Value;
 
 fn store(a: usize, v: Value) -> Effect
@@ -54,7 +56,10 @@ fn schedule(k: usize, c: Value, v: Driven) -> Effect
         Value::Fault(f) => Effect::Stop(f),
         Value::Of(d) => {
             if int(d) < 0 {
-                Effect::Stop(2)
+                Effect::Stop(Failure {
+                    fault: 2,
+                    node: NO_NODE,
+                })
             } else {
                 Effect::Schedule(k, d, v)
             }
@@ -78,7 +83,10 @@ fn wait_for(c: Value) -> Effect
         Value::Fault(f) => Effect::Stop(f),
         Value::Of(d) => {
             if int(d) < 0 {
-                Effect::Stop(2)
+                Effect::Stop(Failure {
+                    fault: 2,
+                    node: NO_NODE,
+                })
             } else {
                 Effect::WaitFor(d)
             }

@@ -63,6 +63,7 @@ pub fn eval<'a>(
     let kind = d.kind;
     let a = d.a;
     let b = d.b;
+    let at = n as u32;
     match kind {
         1 => Value::Of(d.k),
         2 => Value::Of(d.k),
@@ -97,14 +98,14 @@ pub fn eval<'a>(
                 eval(whole, index, variables, signals, b),
             )
         }
-        10 => negate(eval(whole, index, variables, signals, a)),
+        10 => negate(at, eval(whole, index, variables, signals, a)),
         11 => {
             let p = eval(whole, index, variables, signals, a);
-            plus(p, eval(whole, index, variables, signals, b))
+            plus(at, p, eval(whole, index, variables, signals, b))
         }
         12 => {
             let p = eval(whole, index, variables, signals, a);
-            minus(p, eval(whole, index, variables, signals, b))
+            minus(at, p, eval(whole, index, variables, signals, b))
         }
         13 => {
             let p = eval(whole, index, variables, signals, a);
@@ -116,11 +117,12 @@ pub fn eval<'a>(
         }
         15 => {
             let p = eval(whole, index, variables, signals, a);
-            product(p, eval(whole, index, variables, signals, b))
+            product(at, p, eval(whole, index, variables, signals, b))
         }
         16 => {
             let p = eval(whole, index, variables, signals, a);
             divide(
+                at,
                 Division::Quotient,
                 p,
                 eval(whole, index, variables, signals, b),
@@ -129,6 +131,7 @@ pub fn eval<'a>(
         17 => {
             let p = eval(whole, index, variables, signals, a);
             divide(
+                at,
                 Division::Modulo,
                 p,
                 eval(whole, index, variables, signals, b),
@@ -136,7 +139,12 @@ pub fn eval<'a>(
         }
         18 => {
             let p = eval(whole, index, variables, signals, a);
-            divide(Division::Rem, p, eval(whole, index, variables, signals, b))
+            divide(
+                at,
+                Division::Rem,
+                p,
+                eval(whole, index, variables, signals, b),
+            )
         }
         _ => Value::Of(0),
     }

@@ -6,8 +6,9 @@ ghost use lib.IntN.{natAbs};
 ghost use mir.Syntax.{w32};
 ghost use mir.Val.{ofZ};
 ghost use Rattle.integers.specs.Division.{divisionOf};
-ghost use Rattle.rules.specs.Evaluation.{truth, int, ranged, negateOf, sumOf, differenceOf, equalOf, lessOf, productOf, divided, one, two, decidedBy, notBy, andBy, orBy, xorBy};
+ghost use Rattle.rules.specs.Evaluation.{truth, int, failedAt, ranged, negateOf, sumOf, differenceOf, equalOf, lessOf, productOf, divided, one, two, decidedBy, notBy, andBy, orBy, xorBy};
 use integers::division::Division;
+use rules::value::Failure;
 use rules::value::Value;
 
 // The integer that 32 bits hold.
@@ -33,15 +34,22 @@ fn bits_of(z: i64) -> u32
     }
 }
 
-// An integer's 32 bits, or fault 1 if it is out of range.
-fn in_range(z: i64) -> Value
-    ensures { λ r. ⌜ r ≡ ranged z ⌝ }
+// A fault of node n.
+fn failed(n: u32, fault: u32) -> Value
+    ensures { λ r. ⌜ r ≡ failedAt n fault ⌝ }
+{
+    Value::Fault(Failure { fault, node: n })
+}
+
+// The 32 bits of an integer, the value of node n, or fault 1 if it is out of range.
+fn in_range(n: u32, z: i64) -> Value
+    ensures { λ r. ⌜ r ≡ ranged n z ⌝ }
 {
     if z < -2147483647 {
-        return Value::Fault(1);
+        return failed(n, 1);
     }
     if 2147483647 < z {
-        return Value::Fault(1);
+        return failed(n, 1);
     }
     Value::Of(bits_of(z))
 }
@@ -52,35 +60,35 @@ fn truth(t: bool) -> u32
     if t { 1 } else { 0 }
 }
 
-pub(crate) fn negate(p: Value) -> Value
-    ensures { λ r. ⌜ r ≡ one p negateOf ⌝ }
+pub(crate) fn negate(n: u32, p: Value) -> Value
+    ensures { λ r. ⌜ r ≡ one p (negateOf n) ⌝ }
 {
     match p {
         Value::Fault(e) => Value::Fault(e),
-        Value::Of(x) => in_range(0 - int(x)),
+        Value::Of(x) => in_range(n, 0 - int(x)),
     }
 }
 
-pub(crate) fn plus(p: Value, q: Value) -> Value
-    ensures { λ r. ⌜ r ≡ two p q sumOf ⌝ }
+pub(crate) fn plus(n: u32, p: Value, q: Value) -> Value
+    ensures { λ r. ⌜ r ≡ two p q (sumOf n) ⌝ }
 {
     match p {
         Value::Fault(e) => Value::Fault(e),
         Value::Of(x) => match q {
             Value::Fault(e) => Value::Fault(e),
-            Value::Of(y) => in_range(int(x) + int(y)),
+            Value::Of(y) => in_range(n, int(x) + int(y)),
         },
     }
 }
 
-pub(crate) fn minus(p: Value, q: Value) -> Value
-    ensures { λ r. ⌜ r ≡ two p q differenceOf ⌝ }
+pub(crate) fn minus(n: u32, p: Value, q: Value) -> Value
+    ensures { λ r. ⌜ r ≡ two p q (differenceOf n) ⌝ }
 {
     match p {
         Value::Fault(e) => Value::Fault(e),
         Value::Of(x) => match q {
             Value::Fault(e) => Value::Fault(e),
-            Value::Of(y) => in_range(int(x) - int(y)),
+            Value::Of(y) => in_range(n, int(x) - int(y)),
         },
     }
 }
@@ -109,21 +117,21 @@ pub(crate) fn less(p: Value, q: Value) -> Value
     }
 }
 
-pub(crate) fn product(p: Value, q: Value) -> Value
-    ensures { λ r. ⌜ r ≡ two p q productOf ⌝ }
+pub(crate) fn product(n: u32, p: Value, q: Value) -> Value
+    ensures { λ r. ⌜ r ≡ two p q (productOf n) ⌝ }
 {
     match p {
         Value::Fault(e) => Value::Fault(e),
         Value::Of(x) => match q {
             Value::Fault(e) => Value::Fault(e),
-            Value::Of(y) => in_range(int(x) * int(y)),
+            Value::Of(y) => in_range(n, int(x) * int(y)),
         },
     }
 }
 
 // Quotient, mod or rem; a divisor of 0 is fault 4.
-pub(crate) fn divide(which: Division, p: Value, q: Value) -> Value
-    ensures { λ r. ⌜ r ≡ two p q (divided (divisionOf which)) ⌝ }
+pub(crate) fn divide(n: u32, which: Division, p: Value, q: Value) -> Value
+    ensures { λ r. ⌜ r ≡ two p q (divided n (divisionOf which)) ⌝ }
 {
     match p {
         Value::Fault(e) => Value::Fault(e),
@@ -131,7 +139,7 @@ pub(crate) fn divide(which: Division, p: Value, q: Value) -> Value
             Value::Fault(e) => Value::Fault(e),
             Value::Of(y) => {
                 if y == 0 {
-                    Value::Fault(4)
+                    failed(n, 4)
                 } else {
                     Value::Of(bits_of(integers::divide(which, int(x), int(y))))
                 }

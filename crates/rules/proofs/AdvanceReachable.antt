@@ -2,6 +2,7 @@
 use mathlib.Core.Path.{_≡_, refl, _∙_}
 use mathlib.Core.List.{List, [], _∷_, _++_, map}
 use mathlib.Core.Option.{Option, none, some}
+use mathlib.Core.Logic.{inl}
 use Prim.Native.Nat.{ℕ, zero, suc, _-_, _≤_, _<_, min}
 use native.Mathlib.Omega.{arith}
 use lib.Dec.{eqb, lit≤}
@@ -13,22 +14,22 @@ use Rattle.base.proofs.Below.{at-append, map-at, list-length, list-at}
 use Rattle.blocks.specs.Records.{bus, Model, signalAt, driverAt, statementAt}
 use Rattle.blocks.specs.declared.records.StatementRecord.{StatementRecord}
 use Rattle.fields.specs.Fields.{absent, valueOk}
-use Rattle.trees.specs.Trees.{boolean}
 use Rattle.model.specs.Facts.{Facts}
 use Rattle.rules.specs.declared.value.Value.{Value}
 use Rattle.rules.specs.declared.value.Value.the-variants.{Of, Fault}
 use Rattle.rules.specs.Configuration.{ProcessState, Configuration, driverIn, processIn, pastOf, currentOf, waiting, lastTime}
 use Rattle.rules.specs.Evaluation.{Environment, environmentOf, evalOf}
+use Rattle.rules.specs.Failing.{FaultNamed}
 use Rattle.rules.specs.Steps.{taken, deadlineDue, active, withCurrent, undriven, valueAfter, signalAfter, signalsAfter, changedIn, wakes, wokenBy, wokenIf, wokenAt, processAfterDelta, deltaStep, shifted, timeStep}
 use Rattle.rules.specs.Orders.{optional, earliest, dueTimes}
 use Rattle.rules.specs.Invariant.{ValueOf, DriverValid, DeadlineValid, ProcessValid, Reachable}
 use Rattle.rules.proofs.Lists.{All}
-use Rattle.rules.proofs.Evaluation.{Typed, EnvironmentFits, value-typed}
+use Rattle.rules.proofs.Failing.{fault-named}
 use Rattle.rules.proofs.Waves.{driver-taken, driver-later}
 use Rattle.rules.proofs.Driving.{resolved-typed}
 use Rattle.rules.proofs.Earliest.{transactions-later, deadlines-later}
 use Rattle.rules.proofs.Effects.{own-statement, placed}
-use Rattle.rules.proofs.StepReachable.{next-place, stopped-valid, expression-fault-most}
+use Rattle.rules.proofs.StepReachable.{next-place, stopped-valid}
 
 -- a history of 32 values with another current value
 current-length : (v : ℕ) (h : List ℕ) → length h ≡ 32 → length (withCurrent v h) ≡ 32
@@ -92,9 +93,6 @@ module _ (M : Model) (fs : Facts M) (c : Configuration) (r : Reachable M c) wher
   abbrev now : Environment
   now = environmentOf (c .variables) (signalsAfter M c)
 
-  pub new-environment : EnvironmentFits M now
-  new-environment = record { variable = r .variable-values; signal = λ s k h l. signals-typed s k h (omega arith) }
-
   module _ (p : ℕ) (h : p < length (M .processes)) where
     abbrev q : ProcessState
     q = processIn (c .processes) p
@@ -105,42 +103,44 @@ module _ (M : Model) (fs : Facts M) (c : Configuration) (r : Reachable M c) wher
     abbrev Valid : ProcessState → Type 0
     Valid = ProcessValid M p (c .time)
 
-    wakes-valid : Valid (wakes M p q)
-    wakes-valid =
-        let n = next-place M fs p h (q .place) (placed M c r p h) in
-        record {
-          from = n .from;
-          within = n .below;
-          standing = lit≤ tt;
-          fault = r .each-process p h .fault;
-          at-wait = λ e. absurd (omega arith);
-          no-deadline = λ e. refl;
-          deadline = tt;
-        }
+    module _ (waits : q .standing ≡ waiting) where
+      wakes-valid : Valid (wakes M p q)
+      wakes-valid =
+          let n = next-place M fs p h (q .place) (placed M c r p h) in
+          record {
+            from = n .from;
+            within = n .below;
+            standing = lit≤ tt;
+            failed = λ e. absurd (omega arith);
+            running = λ e. r .each-process p h .running (omega (arith, waits));
+            at-wait = λ e. absurd (omega arith);
+            no-deadline = λ e. refl;
+            deadline = tt;
+          }
 
-    woken-by : (v : Value) → Typed boolean v → Valid (wokenBy M p q v)
-    woken-by (Fault f) t = stopped-valid M p (c .time) q (r .each-process p h) f (expression-fault-most t)
-    woken-by (Of x) t = by-test Valid (eqb x 1) _ _ (λ e. wakes-valid) (λ e. r .each-process p h)
+      woken-by : (v : Value) → FaultNamed M now v → Valid (wokenBy M p q v)
+      woken-by (Fault f) g = stopped-valid M p (c .time) q (r .each-process p h) f (inl (g .fault, g .node))
+      woken-by (Of x) g = by-test Valid (eqb x 1) _ _ (λ e. wakes-valid) (λ e. r .each-process p h)
 
-    woken-if : s .kind ≡ 5 → Valid (wokenIf M p now s q)
-    unfolding wokenIf
-    woken-if k =
-        by-test Valid (eqb (s .b) absent) _ _ (λ e. wakes-valid)
-        (λ e.
-        let x = own-statement M fs p h (q .place) (placed M c r p h) .wait k .condition (eqb-false (s .b) absent e) in
-        woken-by (evalOf M now (s .b)) (rw (x .type) at (value-typed M fs now new-environment (s .b) (x .node))))
+      woken-if : Valid (wokenIf M p now s q)
+      unfolding wokenIf
+      woken-if =
+          by-test Valid (eqb (s .b) absent) _ _ (λ e. wakes-valid)
+          (λ e.
+          let w = own-statement M fs p h (q .place) (placed M c r p h) .wait (r .each-process p h .at-wait waits) in
+          woken-by (evalOf M now (s .b)) (fault-named M fs now (s .b) (w .condition (eqb-false (s .b) absent e) .node)))
 
-    woken-at : s .kind ≡ 5 → Valid (wokenAt M p c (signalsAfter M c) s q)
-    unfolding wokenAt
-    woken-at k =
-        by-test Valid (deadlineDue (c .time) q) _ _ (λ e. wakes-valid)
-        (λ e. by-test Valid (changedIn M (s .set) (c .signals) (signalsAfter M c)) _ _ (λ f. woken-if k) (λ f. r .each-process p h))
+      woken-at : Valid (wokenAt M p c (signalsAfter M c) s q)
+      unfolding wokenAt
+      woken-at =
+          by-test Valid (deadlineDue (c .time) q) _ _ (λ e. wakes-valid)
+          (λ e. by-test Valid (changedIn M (s .set) (c .signals) (signalsAfter M c)) _ _ (λ f. woken-if) (λ f. r .each-process p h))
 
     process-delta : Valid (processAfterDelta M c (signalsAfter M c) p)
     unfolding processAfterDelta
     process-delta =
         by-test Valid (eqb (q .standing) waiting) _ _
-        (λ e. woken-at (r .each-process p h .at-wait (eqb-true (q .standing) waiting e))) (λ e. r .each-process p h)
+        (λ e. woken-at (eqb-true (q .standing) waiting e)) (λ e. r .each-process p h)
 
   processes-delta : (p : ℕ) → p < length (M .processes) → ProcessValid M p (c .time) (processIn (deltaStep M c .processes) p)
   unfolding deltaStep
@@ -189,7 +189,8 @@ module _ (M : Model) (c : Configuration) (r : Reachable M c) (t : ℕ) (e : earl
         from = f .from;
         within = f .within;
         standing = f .standing;
-        fault = f .fault;
+        failed = f .failed;
+        running = f .running;
         at-wait = f .at-wait;
         no-deadline = f .no-deadline;
         deadline = deadline-later (c .time) t (processIn (c .processes) p .deadline) (deadlines-later M c t e p h) (f .deadline);

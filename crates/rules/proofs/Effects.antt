@@ -21,39 +21,42 @@ use Rattle.model.specs.Owners.{driverFor}
 use Rattle.model.specs.Facts as Facts
 use Rattle.model.specs.Facts.{Facts, StatementFits, SignalAssignment, NullAssignment, Expression}
 use Rattle.rules.specs.declared.driven.Driven.the-variants.{To, Null}
+use Rattle.rules.specs.declared.value.Failure.{Failure}
 use Rattle.rules.specs.declared.value.Value.{Value}
 use Rattle.rules.specs.declared.value.Value.the-variants.{Of, Fault}
 use Rattle.rules.specs.declared.effect.Effect.{Effect}
 use Rattle.rules.specs.declared.effect.Effect.the-variants.{Wait, WaitFor, Stop}
 use Rattle.rules.specs.Configuration.{Configuration, processIn}
-use Rattle.rules.specs.Evaluation.{Environment, environmentOf, int, evalOf}
+use Rattle.rules.specs.Evaluation.{Environment, environmentOf, failure, noNode, int, evalOf}
+use Rattle.rules.specs.Failing.{FaultNamed}
 use Rattle.rules.specs.Statements.{withValue, withDelay, effectBy, effectOf}
-use Rattle.rules.specs.Invariant.{ExpressionFault, EffectFits, ScheduleFits, Reachable}
+use Rattle.rules.specs.Invariant.{ExpressionFails, EffectFits, ScheduleFits, Reachable}
 use Rattle.rules.proofs.Evaluation.{Typed, EnvironmentFits, value-typed}
+use Rattle.rules.proofs.Failing.{fault-named}
 use Rattle.rules.proofs.Signed.{below-half, not-negative}
 
 -- what holds of every stop that a statement can make
-abbrev Stops : (Effect → Type 0) → Type 0
-Stops P = (f : ℕ) → ExpressionFault f ⊎ (f ≡ 2) → P (Stop f)
-
--- what holds after any value of the type, and of a stop, holds after a value
-value-then : (P : Effect → Type 0) (ty : ℕ) (v : Value) (next : ℕ → Effect) → Typed ty v → Stops P → ((x : ℕ) → valueOk ty x ≡ true → P (next x)) → P (withValue v next)
-value-then P ty (Of x) next h s g = g x h
-value-then P ty (Fault f) next h s g = s f (inl h)
-
--- the same after a delay
-delay-then : (P : Effect → Type 0) (v : Value) (next : ℕ → Effect) → Typed integer v → Stops P → ((d : ℕ) → d < 2147483648 → P (next d)) → P (withDelay v next)
-unfolding withDelay
-delay-then P v next h s g =
-    value-then P integer v _ h s (λ x _. by-test P (ltZ (int x) (pos 0)) _ _ (λ e. s 2 (inr refl)) (λ e. g (natAbs (int x)) (rw (not-negative x e) (below-half x e))))
+abbrev Stops : Model → (Effect → Type 0) → Type 0
+Stops M P = (r : Failure) → ExpressionFails M r ⊎ (r ≡ failure noNode 2) → P (Stop r)
 
 module _ (M : Model) (fs : Facts M) (p : ℕ) where
   module _ (e : Environment) (ok : EnvironmentFits M e) where
-    expression : (P : Effect → Type 0) (ty n : ℕ) (next : ℕ → Effect) → Expression M p ty n → Stops P → ((x : ℕ) → valueOk ty x ≡ true → P (next x)) → P (withValue (evalOf M e n) next)
-    expression P ty n next x s g = value-then P ty (evalOf M e n) next (rw (x .type) at (value-typed M fs e ok n (x .node))) s g
+    -- what holds after any value of the type, and of a stop, holds after a value
+    value-then : (P : Effect → Type 0) (ty : ℕ) (v : Value) (next : ℕ → Effect) → Typed ty v → FaultNamed M e v → Stops M P → ((x : ℕ) → valueOk ty x ≡ true → P (next x))
+        → P (withValue v next)
+    value-then P ty (Of x) next h k s g = g x h
+    value-then P ty (Fault r) next h k s g = s r (inl (k .fault, k .node))
 
-    delay : (P : Effect → Type 0) (n : ℕ) (next : ℕ → Effect) → Expression M p integer n → Stops P → ((d : ℕ) → d < 2147483648 → P (next d)) → P (withDelay (evalOf M e n) next)
-    delay P n next x s g = delay-then P (evalOf M e n) next (rw (x .type) at (value-typed M fs e ok n (x .node))) s g
+    expression : (P : Effect → Type 0) (ty n : ℕ) (next : ℕ → Effect) → Expression M p ty n → Stops M P → ((x : ℕ) → valueOk ty x ≡ true → P (next x)) → P (withValue (evalOf M e n) next)
+    expression P ty n next x s g =
+        value-then P ty (evalOf M e n) next (rw (x .type) at (value-typed M fs e ok n (x .node))) (fault-named M fs e n (x .node)) s g
+
+    -- the same after a delay
+    delay : (P : Effect → Type 0) (n : ℕ) (next : ℕ → Effect) → Expression M p integer n → Stops M P → ((d : ℕ) → d < 2147483648 → P (next d)) → P (withDelay (evalOf M e n) next)
+    unfolding withDelay
+    delay P n next x s g =
+        expression P integer n _ x s
+        (λ y _. by-test P (ltZ (int y) (pos 0)) _ _ (λ t. s (failure noNode 2) (inr refl)) (λ t. g (natAbs (int y)) (rw (not-negative y t) (below-half y t))))
 
     module _ (s : StatementRecord) (f : StatementFits M p s) where
       abbrev Fits : Effect → Type 0

@@ -30,8 +30,7 @@ use Rattle.model.specs.Owners.{readsOwn}
 use Rattle.model.specs.Facts.{Facts, NodeFits, NodeTyped}
 use Rattle.rules.specs.declared.value.Value.{Value}
 use Rattle.rules.specs.declared.value.Value.the-variants.{Of, Fault}
-use Rattle.rules.specs.Evaluation.{Environment, truth, int, one, two, unlessFirst, notBy, andBy, orBy, xorBy, ranged, negateOf, sumOf, differenceOf, equalOf, lessOf, productOf, divided, valueBy, nextValue, evalOf}
-use Rattle.rules.specs.Invariant.{ExpressionFault}
+use Rattle.rules.specs.Evaluation.{Environment, failedAt, truth, int, one, two, unlessFirst, notBy, andBy, orBy, xorBy, ranged, negateOf, sumOf, differenceOf, equalOf, lessOf, productOf, divided, valueBy, nextValue, evalOf}
 use Rattle.rules.proofs.Signed.{int-zero, int-size}
 
 -- node d is read in the same way with e, p and q as with e', p' and q': where its kind reads them they are the same
@@ -42,9 +41,9 @@ pub record Alike (d : NodeRecord) (e e' : Environment) (p p' q q' : Value) : Typ
   pub first : 6 ≤ d .kind → p ≡ p'
   pub second : 7 ≤ d .kind → (d .kind ≡ 10 → ⊥) → q ≡ q'
 
-module _ (d : NodeRecord) (ty : ℕ) (e e' : Environment) (p p' q q' : Value) (s : Alike d e e' p p' q q') where
+module _ (n : ℕ) (d : NodeRecord) (ty : ℕ) (e e' : Environment) (p p' q q' : Value) (s : Alike d e e' p p' q q') where
   abbrev SameBoth : Type 0
-  SameBoth = valueBy e d ty p q ≡ valueBy e' d ty p' q'
+  SameBoth = valueBy e n d ty p q ≡ valueBy e' n d ty p' q'
 
   -- by the kind
   pub same-value : 1 ≤ d .kind → d .kind ≤ 18 → SameBoth
@@ -78,9 +77,9 @@ module _ (d : NodeRecord) (ty : ℕ) (e e' : Environment) (p p' q q' : Value) (s
 
 module _ (M : Model) (e : Environment) (n : ℕ) (f : NodeFits M n) where
   -- a node's value from those of its operands; for an operand that it has not, any value serves
-  pub node-value : evalOf M e n ≡ valueBy e (nodeAt M n) (typeOf M n) (evalOf M e (nodeAt M n .a)) (evalOf M e (nodeAt M n .b))
+  pub node-value : evalOf M e n ≡ valueBy e n (nodeAt M n) (typeOf M n) (evalOf M e (nodeAt M n .a)) (evalOf M e (nodeAt M n .b))
   unfolding evalOf nextValue course
-  node-value = same-value (nodeAt M n) (typeOf M n) e e _ _ _ _ alike (f .kindLeast) (f .kindMost)
+  node-value = same-value n (nodeAt M n) (typeOf M n) e e _ _ _ _ alike (f .kindLeast) (f .kindMost)
     where
       alike : Alike (nodeAt M n) e e (getD (upTo (nextValue M e) n) (nodeAt M n .a) (Of 0)) (evalOf M e (nodeAt M n .a))
           (getD (upTo (nextValue M e) n) (nodeAt M n .b) (Of 0)) (evalOf M e (nodeAt M n .b))
@@ -95,13 +94,13 @@ module _ (M : Model) (e : Environment) (n : ℕ) (f : NodeFits M n) where
 
   -- v is the value of node n, whose record is d and whose type is ty, if it is so by the values of its operands, p and q
   module _ (d : NodeRecord) (ty : ℕ) (v : Value) (hd : d ≡ nodeAt M n) (ht : ty ≡ typeOf M n) where
-    pub binary : (p q : Value) → p ≡ evalOf M e (d .a) → q ≡ evalOf M e (d .b) → v ≡ valueBy e d ty p q → v ≡ evalOf M e n
+    pub binary : (p q : Value) → p ≡ evalOf M e (d .a) → q ≡ evalOf M e (d .b) → v ≡ valueBy e n d ty p q → v ≡ evalOf M e n
     binary p q hp hq w = rw (hp, hq, ht, hd) at w ∙ sym node-value
 
-    pub unary : (p : Value) → p ≡ evalOf M e (d .a) → ((q : Value) → v ≡ valueBy e d ty p q) → v ≡ evalOf M e n
+    pub unary : (p : Value) → p ≡ evalOf M e (d .a) → ((q : Value) → v ≡ valueBy e n d ty p q) → v ≡ evalOf M e n
     unary p hp w = binary p (evalOf M e (d .b)) hp refl (w (evalOf M e (d .b)))
 
-    pub leaf : ((p q : Value) → v ≡ valueBy e d ty p q) → v ≡ evalOf M e n
+    pub leaf : ((p q : Value) → v ≡ valueBy e n d ty p q) → v ≡ evalOf M e n
     leaf w = unary (evalOf M e (d .a)) refl (λ q. w (evalOf M e (d .a)) q)
 
 -- two environments are the same on the signals that M has
@@ -117,7 +116,7 @@ module _ (M : Model) (fs : Facts M) (e e' : Environment) where
       → evalOf M e n ≡ evalOf M e' n
   next-same ss n h v a b =
       node-value M e n f
-      ∙ same-value (nodeAt M n) (typeOf M n) e e' _ _ _ _ alike (f .kindLeast) (f .kindMost)
+      ∙ same-value n (nodeAt M n) (typeOf M n) e e' _ _ _ _ alike (f .kindLeast) (f .kindMost)
       ∙ sym (node-value M e' n f)
     where
       f : NodeFits M n
@@ -163,10 +162,10 @@ module _ (M : Model) (fs : Facts M) (e e' : Environment) where
       → (n : ℕ) → n < length (M .nodes) → evalOf M e n ≡ evalOf M e' n
   agree-all same vs n h = agree-on (λ n. Unit {0}) same (λ n h r k. vs (nodeAt M n .a) (fs .node n h .variable k)) (λ n h r k. tt) (λ n h r k t. tt) n h tt
 
--- a fault of an expression, or a value of the type
+-- a fault, or a value of the type
 abbrev pub Typed : ℕ → Value → Type 0
 Typed ty (Of v) = valueOk ty v ≡ true
-Typed ty (Fault f) = ExpressionFault f
+Typed ty (Fault r) = Unit {0}
 
 one-typed : (s t : ℕ) (p : Value) (f : ℕ → Value) → Typed s p → ((x : ℕ) → valueOk s x ≡ true → Typed t (f x)) → Typed t (one p f)
 one-typed s t (Of x) f h g = g x h
@@ -200,17 +199,17 @@ inside-typed z l = rw (ne-eqb (ofZ w32 z) 2147483648 (apart z l))
     apart (pos n) l e = omega arith
     apart (negsuc n) l e = omega arith
 
-ranged-typed : (z : ℤ) → Typed integer (ranged z)
+ranged-typed : (n : ℕ) (z : ℤ) → Typed integer (ranged n z)
 unfolding ranged
-ranged-typed z =
+ranged-typed n z =
     by-test (Typed integer) (ltb (natAbs z) 2147483648) _ _
-    (λ e. inside-typed z (ltb-true (natAbs z) 2147483648 e)) (λ e. inl refl)
+    (λ e. inside-typed z (ltb-true (natAbs z) 2147483648 e)) (λ e. tt)
 
 -- so is a quotient, a mod or a rem of two integers: each is in the range, as they are
-divided-typed : (w : Division) (x y : ℕ) → valueOk integer x ≡ true → valueOk integer y ≡ true → Typed integer (divided (divisionOf w) x y)
+divided-typed : (n : ℕ) (w : Division) (x y : ℕ) → valueOk integer x ≡ true → valueOk integer y ≡ true → Typed integer (divided n (divisionOf w) x y)
 unfolding divided
-divided-typed w x y h k =
-    by-test (Typed integer) (eqb y 0) _ _ (λ e. inr refl)
+divided-typed n w x y h k =
+    by-test (Typed integer) (eqb y 0) _ _ (λ e. tt)
     (λ e. inside-typed (divisionOf w (int x) (int y)) (omega (arith, stays w (int x) (int y) 2147483647 (λ z. eqb-false y 0 e (int-zero y z)) (int-size x h) (int-size y k))))
 
 -- the operators of a type that is logic or boolean
@@ -247,7 +246,7 @@ module _ (M : Model) (fs : Facts M) (e : Environment) (ok : EnvironmentFits M e)
       t = fs .typed n h
 
       abbrev TypedHere : Type 0
-      TypedHere = Typed (typeOf M n) (valueBy e (nodeAt M n) (typeOf M n) p q)
+      TypedHere = Typed (typeOf M n) (valueBy e n (nodeAt M n) (typeOf M n) p q)
 
       leaves : 1 ≤ nodeAt M n .kind → nodeAt M n .kind ≤ 5 → TypedHere
       unfolding valueBy
@@ -295,15 +294,15 @@ module _ (M : Model) (fs : Facts M) (e : Environment) (ok : EnvironmentFits M e)
       unfolding valueBy negateOf sumOf differenceOf equalOf lessOf productOf
       numbers l m =
           among (λ k. nodeAt M n .kind ≡ k → TypedHere) 10 9 (nodeAt M n .kind)
-          ((λ k. rw (k, t .arithmetic l (λ z. omega arith) (λ z. omega arith)) (one-typed _ integer p _ (hp (omega arith)) (λ x v. ranged-typed (negℤ (int x)))))
-          and (λ k. rw k (number (omega arith) (λ z. omega arith) (λ z. omega arith) sumOf (λ x y v w. ranged-typed (int x +ℤ int y))))
-          and (λ k. rw k (number (omega arith) (λ z. omega arith) (λ z. omega arith) differenceOf (λ x y v w. ranged-typed (int x -ℤ int y))))
+          ((λ k. rw (k, t .arithmetic l (λ z. omega arith) (λ z. omega arith)) (one-typed _ integer p _ (hp (omega arith)) (λ x v. ranged-typed n (negℤ (int x)))))
+          and (λ k. rw k (number (omega arith) (λ z. omega arith) (λ z. omega arith) (sumOf n) (λ x y v w. ranged-typed n (int x +ℤ int y))))
+          and (λ k. rw k (number (omega arith) (λ z. omega arith) (λ z. omega arith) (differenceOf n) (λ x y v w. ranged-typed n (int x -ℤ int y))))
           and (λ k. rw k (relation (omega arith) (omega arith) equalOf (λ x y. truth-typed (eqb x y))))
           and (λ k. rw k (relation (omega arith) (omega arith) lessOf (λ x y. truth-typed (ltZ (int x) (int y)))))
-          and (λ k. rw k (number (omega arith) (λ z. omega arith) (λ z. omega arith) productOf (λ x y v w. ranged-typed (int x *ℤ int y))))
-          and (λ k. rw k (number (omega arith) (λ z. omega arith) (λ z. omega arith) (divided quotient) (divided-typed Quotient)))
-          and (λ k. rw k (number (omega arith) (λ z. omega arith) (λ z. omega arith) (divided modulo) (divided-typed Modulo)))
-          and (λ k. rw k (number (omega arith) (λ z. omega arith) (λ z. omega arith) (divided rem) (divided-typed Rem)))
+          and (λ k. rw k (number (omega arith) (λ z. omega arith) (λ z. omega arith) (productOf n) (λ x y v w. ranged-typed n (int x *ℤ int y))))
+          and (λ k. rw k (number (omega arith) (λ z. omega arith) (λ z. omega arith) (divided n quotient) (divided-typed n Quotient)))
+          and (λ k. rw k (number (omega arith) (λ z. omega arith) (λ z. omega arith) (divided n modulo) (divided-typed n Modulo)))
+          and (λ k. rw k (number (omega arith) (λ z. omega arith) (λ z. omega arith) (divided n rem) (divided-typed n Rem)))
           and tt)
           l (omega arith) refl
 

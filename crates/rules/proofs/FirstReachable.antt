@@ -37,7 +37,7 @@ module _ (M : Model) (fs : Facts M) where
   past-typed : (s k : ℕ) → s < length (M .signals) → k < 32 → ValueOf (signalAt M s .ty) (pastOf (first M .signals) s k)
   past-typed s k h l = rw (signal-at s h, getD-replicate 32 k (firstSignal M s) 0 l) (first-typed s h)
 
-  pub process-at : (p : ℕ) → p < length (M .processes) → processIn (first M .processes) p ≡ record { place = processAt M p .first; standing = ready; deadline = none; fault = 0 }
+  pub process-at : (p : ℕ) → p < length (M .processes) → processIn (first M .processes) p ≡ record { place = processAt M p .first; standing = ready; deadline = none; fault = 0; node = 0 }
   unfolding first
   process-at p h = map-at _ (M .processes) p _ _ h
 
@@ -49,7 +49,8 @@ module _ (M : Model) (fs : Facts M) where
         from = s .from;
         within = s .below;
         standing = lit≤ tt;
-        fault = lit≤ tt;
+        failed = λ e. absurd (omega arith);
+        running = λ e. (refl, refl);
         at-wait = λ e. absurd (omega arith);
         no-deadline = λ e. refl;
         deadline = tt;

@@ -1,19 +1,41 @@
--- Each order hands back a reachable configuration. Assumes nothing.
-use Prim.Native.Nat.{ℕ, zero, suc}
+-- Each order hands back a reachable configuration, and what of it an answer tells is small. Assumes nothing.
+use mathlib.Core.Path.{_≡_, ap}
+use mathlib.Core.Logic.{⊎-elim}
+use Prim.Native.Nat.{ℕ, zero, suc, _≤_, _<_}
+use native.Mathlib.Omega.{arith}
 use borrow.Author.Tests.{ltb-true}
 use lib.Dec.{ltb}
 use lib.ListN.{length}
 use Rattle.base.proofs.Cases.{by-test}
+use Rattle.base.proofs.Below.{split}
 use Rattle.base.proofs.Course.{first-at}
 use Rattle.blocks.specs.Records.{Model}
 use Rattle.model.specs.Facts.{Facts}
-use Rattle.rules.specs.Configuration.{Configuration}
+use Rattle.rules.specs.declared.value.Failure.{Failure}
+use Rattle.rules.specs.Configuration.{ProcessState, Configuration}
 use Rattle.rules.specs.Statements.{stepped}
 use Rattle.rules.specs.Orders.{Outcome, isReady, picked, advanced, lowestReady, Settled, settledFrom, settled, readOf}
-use Rattle.rules.specs.Invariant.{Reachable}
+use Rattle.rules.specs.Evaluation.{failure, noNode}
+use Rattle.rules.specs.Invariant.{Stopping, ProcessValid, Reachable}
 use Rattle.rules.proofs.Outcomes.{Pick, pick-refused, pick-done, pick-is, Advance, advance-refused, delta-done, time-done, advance-is, Read, read-refused, read-done, read-is}
 use Rattle.rules.proofs.StepReachable.{stepped-reachable}
 use Rattle.rules.proofs.AdvanceReachable.{delta-reachable, time-reachable}
+
+-- a fault is at most 4, and its node a number of 16 bits
+abbrev pub Small : Failure → Type 0
+Small r = (r .fault ≤ 4) × (r .node ≤ 65535)
+
+stopping-small : (M : Model) → Facts M → (r : Failure) → Stopping M r → Small r
+stopping-small M fs r s =
+    ⊎-elim
+    (λ a. let n = a .1 in (⊎-elim (λ e. omega arith) (λ e. omega arith) (a .0), omega (arith, fs .totals .nodes)))
+    (λ a. ⊎-elim (λ (e : r ≡ failure noNode 2). rw e (omega arith, omega arith)) (λ (e : r ≡ failure noNode 3). rw e (omega arith, omega arith)) a) s
+
+pub failure-small : (M : Model) → Facts M → (p t : ℕ) (q : ProcessState) → ProcessValid M p t q → Small (failure (q .node) (q .fault))
+failure-small M fs p t q f =
+    ⊎-elim
+    (λ (h : q .standing < 2). let r = f .running h in (omega (arith, r .0), omega (arith, r .1)))
+    (λ (h : 2 ≤ q .standing). stopping-small M fs _ (f .failed (omega (arith, f .standing)))) (split (q .standing) 2)
 
 -- of the picks of a settle each is of the lowest ready process
 settled-from : (M : Model) → Facts M → (n k : ℕ) (c : Configuration) → Reachable M c → Reachable M (settledFrom M k n c .end)

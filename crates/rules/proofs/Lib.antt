@@ -4,6 +4,7 @@ pub mod DueTimes
 pub mod Earliest
 pub mod Effects
 pub mod Evaluation
+pub mod Failing
 pub mod FirstReachable
 pub mod Invariant
 pub mod Lists

@@ -3,7 +3,7 @@ use mathlib.Core.Path.{_≡_, refl, _∙_}
 use mathlib.Core.Bool.{Bool, true, false}
 use mathlib.Core.List.{List}
 use mathlib.Core.Option.{Option, none, some}
-use mathlib.Core.Logic.{⊎-elim}
+use mathlib.Core.Logic.{inl, inr, ⊎-elim}
 use Prim.Native.Nat.{ℕ, _+_, _≤_, _<_}
 use native.Mathlib.Omega.{arith}
 use lib.Dec.{ltb, lit≤}
@@ -14,12 +14,14 @@ use Rattle.blocks.specs.Records.{Model, signalAt, variableAt, driverAt, stateme
 use Rattle.fields.specs.Fields.{endOf}
 use Rattle.fields.specs.Facts.{Spans}
 use Rattle.model.specs.Facts.{Facts}
+use Rattle.rules.specs.declared.value.Failure.{Failure}
 use Rattle.rules.specs.declared.effect.Effect.{Effect}
 use Rattle.rules.specs.declared.effect.Effect.the-variants.{Skip, Store, Schedule, Jump, Wait, WaitFor, Stop}
 use Rattle.rules.specs.Configuration.{DriverState, ProcessState, Configuration, driverIn, processIn, ready, lastTime}
+use Rattle.rules.specs.Evaluation.{failure, noNode}
 use Rattle.rules.specs.Statements.{nextPlace, moved, waits, stops, processAfter, variablesAfter, driversAfter, applied, stepped, effectOf}
 use Rattle.rules.specs.Orders.{isReady}
-use Rattle.rules.specs.Invariant.{ValueOf, DriverValid, DeadlineValid, ProcessValid, ExpressionFault, EffectFits, Reachable}
+use Rattle.rules.specs.Invariant.{ValueOf, DriverValid, DeadlineValid, ProcessValid, Stopping, EffectFits, Reachable}
 use Rattle.rules.proofs.Lists.{set-each}
 use Rattle.rules.proofs.Waves.{driver-scheduled}
 use Rattle.rules.proofs.Effects.{effect-fits, placed}
@@ -31,18 +33,16 @@ next-place M fs p h i s =
     by-test (Spans M p) (ltb (i + 1) (endOf M p)) _ _
     (λ e. fs .process p h .next i s (ltb-true (i + 1) (endOf M p) e)) (λ e. fs .process p h .first)
 
-pub expression-fault-most : {f : ℕ} → ExpressionFault f → f ≤ 4
-expression-fault-most h = ⊎-elim (λ e. omega arith) (λ e. omega arith) h
-
 -- a ready process, and what an effect makes of it
 module _ (M : Model) (p t : ℕ) (q : ProcessState) (f : ProcessValid M p t q) where
-  pub stopped-valid : (n : ℕ) → n ≤ 4 → ProcessValid M p t (stops q n)
-  stopped-valid n h =
+  pub stopped-valid : (s : Failure) → Stopping M s → ProcessValid M p t (stops q s)
+  stopped-valid s h =
       record {
         from = f .from;
         within = f .within;
         standing = lit≤ tt;
-        fault = h;
+        failed = λ e. h;
+        running = λ e. absurd (omega arith);
         at-wait = λ e. absurd (omega arith);
         no-deadline = λ e. absurd (omega arith);
         deadline = f .deadline;
@@ -55,7 +55,8 @@ module _ (M : Model) (p t : ℕ) (q : ProcessState) (f : ProcessValid M p t q) w
           from = s .from;
           within = s .below;
           standing = f .standing;
-          fault = f .fault;
+          failed = f .failed;
+          running = f .running;
           at-wait = λ e. absurd (omega arith);
           no-deadline = f .no-deadline;
           deadline = f .deadline;
@@ -67,7 +68,8 @@ module _ (M : Model) (p t : ℕ) (q : ProcessState) (f : ProcessValid M p t q) w
           from = f .from;
           within = f .within;
           standing = lit≤ tt;
-          fault = f .fault;
+          failed = λ e. absurd (omega arith);
+          running = λ e. f .running (omega arith);
           at-wait = λ e. k;
           no-deadline = λ e. absurd (omega arith);
           deadline = d;
@@ -76,12 +78,12 @@ module _ (M : Model) (p t : ℕ) (q : ProcessState) (f : ProcessValid M p t q) w
     process-after : (e : Effect) (full : Bool) (next : ℕ) → t ≤ lastTime → Spans M p next → EffectFits M p (statementAt M (q .place) .kind) e → ProcessValid M p t (processAfter e full t next q)
     process-after Skip full next h s x = moved-valid next s
     process-after (Store a v) full next h s x = moved-valid next s
-    process-after (Schedule k d v) true next h s x = stopped-valid 3 (lit≤ tt)
+    process-after (Schedule k d v) true next h s x = stopped-valid (failure noNode 3) (inr (inr refl))
     process-after (Schedule k d v) false next h s x = moved-valid next s
     process-after (Jump a) full next h s x = moved-valid a x
     process-after Wait full next h s x = waits-valid x none tt
     process-after (WaitFor d) full next h s x = waits-valid (x .0) (some (t + d)) (omega arith, omega (arith, x .1))
-    process-after (Stop n) full next h s x = stopped-valid n (⊎-elim expression-fault-most (λ e. omega arith) x)
+    process-after (Stop r) full next h s x = stopped-valid r (⊎-elim inl (λ e. inr (inl e)) x)
 
 -- the variables and the drivers after an effect
 length-variables : (e : Effect) (vs : List ℕ) → length (variablesAfter e vs) ≡ length vs

@@ -1,6 +1,7 @@
 -- The configuration: "It holds the time, the count of delta steps at this time, and per signal the current value and those of
 -- 1 to 31 time units ago; per driver a current value and a waveform of at most eight pending transactions (time, value),
--- rising in time; per process variables, place, standing (0 ready, 1 waiting, 2 stopped), deadline and fault."
+-- rising in time; per process variables, place, standing (0 ready, 1 waiting, 2 stopped), deadline and fault." Document 02, item 3:
+-- "A process keeps the node (0 without a fault) beside its fault".
 -- A value is 32 bits: an integer in two's complement, a logic value as its code 0 to 8, a boolean as 0 or 1. What a transaction
 -- carries, a pending one or a driver's current one, is a value or null (`Driven`: `To v` or `Null`); a driver that is null is off.
 use mathlib.Core.List.{List, [], _∷_, map}
@@ -45,6 +46,8 @@ pub record ProcessState : Type 0 where
   pub standing : ℕ
   pub deadline : Option ℕ
   pub fault : ℕ
+  -- the node at fault
+  pub node : ℕ
 
 pub record Configuration : Type 0 where
   pub time : ℕ
@@ -62,7 +65,7 @@ abbrev pub driverIn : List DriverState → ℕ → DriverState
 driverIn ds n = getD ds n (record { current = To 0; pending = [] })
 
 abbrev pub processIn : List ProcessState → ℕ → ProcessState
-processIn ps n = getD ps n (record { place = 0; standing = stopped; deadline = none; fault = 0 })
+processIn ps n = getD ps n (record { place = 0; standing = stopped; deadline = none; fault = 0; node = 0 })
 
 -- signal s of k units ago
 abbrev pub pastOf : List (List ℕ) → ℕ → ℕ → ℕ
@@ -102,7 +105,7 @@ unfoldable pub firstSignal : Model → ℕ → ℕ
 firstSignal M s = resolvedOr (signalAt M s .start) (drivingOf M (firstDrivers M) s)
 
 -- "At first time and count are 0, all processes are ready at their first statement with no deadline and fault 0, variables have
--- their starting values [..] Values before time 0 are that first current value."
+-- their starting values [..] Values before time 0 are that first current value." The node is "0 without a fault".
 unfoldable pub first : Model → Configuration
 first M =
     record {
@@ -110,6 +113,6 @@ first M =
       deltas = 0;
       signals = listBelow (λ s. replicate 32 (firstSignal M s)) (length (M .signals));
       drivers = firstDrivers M;
-      processes = map (λ p. record { place = p .first; standing = ready; deadline = none; fault = 0 }) (M .processes);
+      processes = map (λ p. record { place = p .first; standing = ready; deadline = none; fault = 0; node = 0 }) (M .processes);
       variables = map (λ v. v .start) (M .variables);
     }

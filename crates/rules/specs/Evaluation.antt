@@ -18,6 +18,7 @@ use Rattle.integers.specs.Division.{quotient, rem, modulo}
 use Rattle.blocks.specs.Records.{Model, nodeAt}
 use Rattle.blocks.specs.declared.records.NodeRecord.{NodeRecord}
 use Rattle.trees.specs.Trees.{boolean, typeOf}
+use Rattle.rules.specs.declared.value.Failure.{Failure}
 use Rattle.rules.specs.declared.value.Value.{Value}
 use Rattle.rules.specs.declared.value.Value.the-variants.{Of, Fault}
 use Rattle.rules.specs.Configuration.{pastOf}
@@ -40,18 +41,30 @@ truth false = 0
 abbrev pub int : ℕ → ℤ
 int x = toZ w32 x
 
--- "Integers run from -2,147,483,647 to 2,147,483,647"; fault 1: "an integer out of range"
-unfoldable pub ranged : ℤ → Value
-ranged z = ltb (natAbs z) 2147483648 ⇒ Of (ofZ w32 z) ∣ Fault 1
+-- The node at fault (document 02, item 3): "the number of the first node that failed in the order of evaluation, 65,535 for faults 2
+-- and 3". An operation that fails gives its fault and the number n of its own node, which every node above it hands on (`one`, `two`).
+abbrev pub failure : ℕ → ℕ → Failure
+failure n f = record { fault = f; node = n }
 
-unfoldable pub negateOf : ℕ → Value
-negateOf x = ranged (negℤ (int x))
+abbrev pub noNode : ℕ
+noNode = 65535
 
-unfoldable pub sumOf : ℕ → ℕ → Value
-sumOf x y = ranged (int x +ℤ int y)
+-- the operation of node n fails
+abbrev pub failedAt : ℕ → ℕ → Value
+failedAt n f = Fault (failure n f)
 
-unfoldable pub differenceOf : ℕ → ℕ → Value
-differenceOf x y = ranged (int x -ℤ int y)
+-- "Integers run from -2,147,483,647 to 2,147,483,647"; fault 1: "an integer out of range". z is the result of node n's operation.
+unfoldable pub ranged : ℕ → ℤ → Value
+ranged n z = ltb (natAbs z) 2147483648 ⇒ Of (ofZ w32 z) ∣ failedAt n 1
+
+unfoldable pub negateOf : ℕ → ℕ → Value
+negateOf n x = ranged n (negℤ (int x))
+
+unfoldable pub sumOf : ℕ → ℕ → ℕ → Value
+sumOf n x y = ranged n (int x +ℤ int y)
+
+unfoldable pub differenceOf : ℕ → ℕ → ℕ → Value
+differenceOf n x y = ranged n (int x -ℤ int y)
 
 unfoldable pub equalOf : ℕ → ℕ → Value
 equalOf x y = Of (truth (eqb x y))
@@ -60,13 +73,13 @@ unfoldable pub lessOf : ℕ → ℕ → Value
 lessOf x y = Of (truth (ltZ (int x) (int y)))
 
 -- "A product out of range is fault 1"
-unfoldable pub productOf : ℕ → ℕ → Value
-productOf x y = ranged (int x *ℤ int y)
+unfoldable pub productOf : ℕ → ℕ → ℕ → Value
+productOf n x y = ranged n (int x *ℤ int y)
 
--- "A divisor of 0 is the new fault 4": the division f of two operands. It never leaves the range, which has both ends alike
+-- "A divisor of 0 is the new fault 4": the division f of node n's operands. It never leaves the range, which has both ends alike
 -- (`integers/specs/Laws`).
-unfoldable pub divided : (ℤ → ℤ → ℤ) → ℕ → ℕ → Value
-divided f x y = eqb y 0 ⇒ Fault 4 ∣ Of (ofZ w32 (f (int x) (int y)))
+unfoldable pub divided : ℕ → (ℤ → ℤ → ℤ) → ℕ → ℕ → Value
+divided n f x y = eqb y 0 ⇒ failedAt n 4 ∣ Of (ofZ w32 (f (int x) (int y)))
 
 -- "a before b": f of one operand, or its fault
 abbrev pub one : Value → (ℕ → Value) → Value
@@ -99,9 +112,10 @@ orBy ty p q = eqb ty boolean ⇒ unlessFirst 1 p q ∣ two p q (λ x y. Of (orOf
 abbrev pub xorBy : ℕ → Value → Value → Value
 xorBy ty p q = eqb ty boolean ⇒ two p q (λ x y. Of (truth (not (eqb x y)))) ∣ two p q (λ x y. Of (xorOf x y))
 
--- the value of node d of type ty, p and q being those of its operands. An accepted model has no other kind.
-unfoldable pub valueBy : Environment → NodeRecord → ℕ → Value → Value → Value
-valueBy e d ty p q =
+-- the value of node n, whose record is d and whose type is ty, p and q being those of its operands. An accepted model has no other
+-- kind.
+unfoldable pub valueBy : Environment → ℕ → NodeRecord → ℕ → Value → Value → Value
+valueBy e n d ty p q =
     d .kind is 1 ⇒ Of (d .k)
     ∣ d .kind is 2 ⇒ Of (d .k)
     ∣ d .kind is 3 ⇒ Of (e .variable (d .a))
@@ -111,20 +125,20 @@ valueBy e d ty p q =
     ∣ d .kind is 7 ⇒ andBy ty p q
     ∣ d .kind is 8 ⇒ orBy ty p q
     ∣ d .kind is 9 ⇒ xorBy ty p q
-    ∣ d .kind is 10 ⇒ one p negateOf
-    ∣ d .kind is 11 ⇒ two p q sumOf
-    ∣ d .kind is 12 ⇒ two p q differenceOf
+    ∣ d .kind is 10 ⇒ one p (negateOf n)
+    ∣ d .kind is 11 ⇒ two p q (sumOf n)
+    ∣ d .kind is 12 ⇒ two p q (differenceOf n)
     ∣ d .kind is 13 ⇒ two p q equalOf
     ∣ d .kind is 14 ⇒ two p q lessOf
-    ∣ d .kind is 15 ⇒ two p q productOf
-    ∣ d .kind is 16 ⇒ two p q (divided quotient)
-    ∣ d .kind is 17 ⇒ two p q (divided modulo)
-    ∣ d .kind is 18 ⇒ two p q (divided rem)
+    ∣ d .kind is 15 ⇒ two p q (productOf n)
+    ∣ d .kind is 16 ⇒ two p q (divided n quotient)
+    ∣ d .kind is 17 ⇒ two p q (divided n modulo)
+    ∣ d .kind is 18 ⇒ two p q (divided n rem)
     ∣ Of 0
 
 unfoldable pub nextValue : Model → Environment → ℕ → List Value → Value
 nextValue M e n values =
-    valueBy e (nodeAt M n) (typeOf M n) (getD values (nodeAt M n .a) (Of 0)) (getD values (nodeAt M n .b) (Of 0))
+    valueBy e n (nodeAt M n) (typeOf M n) (getD values (nodeAt M n .a) (Of 0)) (getD values (nodeAt M n .b) (Of 0))
 
 -- the value of node n
 unfoldable pub evalOf : Model → Environment → ℕ → Value

@@ -10,9 +10,11 @@ use Rattle.blocks.specs.Records.{Model, signalAt, variableAt, driverAt, process
 use Rattle.blocks.specs.declared.records.SignalRecord.{SignalRecord}
 use Rattle.fields.specs.Fields.{endOf, valueOk}
 use Rattle.fields.specs.Facts.{Spans}
-use Rattle.rules.specs.Configuration.{deltaLimit, lastTime, Transaction, DriverState, ProcessState, Configuration, driverIn, processIn, pastOf, ready, waiting}
+use Rattle.rules.specs.Configuration.{deltaLimit, lastTime, Transaction, DriverState, ProcessState, Configuration, driverIn, processIn, pastOf, ready, waiting, stopped}
+use Rattle.rules.specs.Evaluation.{failure, noNode}
 use Rattle.rules.specs.declared.driven.Driven.{Driven}
 use Rattle.rules.specs.declared.driven.Driven.the-variants.{To, Null}
+use Rattle.rules.specs.declared.value.Failure.{Failure}
 use Rattle.rules.specs.declared.effect.Effect.{Effect}
 use Rattle.rules.specs.declared.effect.Effect.the-variants.{Skip, Store, Schedule, Jump, Wait, WaitFor, Stop}
 
@@ -48,12 +50,22 @@ abbrev pub DeadlineValid : ℕ → Option ℕ → Type 0
 DeadlineValid t none = Unit {0}
 DeadlineValid t (some d) = (t ≤ d) × (d ≤ lastDue)
 
+-- the faults that an expression can have, "an integer out of range" and "A divisor of 0", at a node of the model
+abbrev pub ExpressionFails : Model → Failure → Type 0
+ExpressionFails M r = ((r .fault ≡ 1) ⊎ (r .fault ≡ 4)) × (r .node < length (M .nodes))
+
+-- what stops a process: an expression's fault at its node, or "65,535 for faults 2 and 3"
+abbrev pub Stopping : Model → Failure → Type 0
+Stopping M r = ExpressionFails M r ⊎ ((r ≡ failure noNode 2) ⊎ (r ≡ failure noNode 3))
+
 pub record ProcessValid (M : Model) (p t : ℕ) (q : ProcessState) : Type 0 where
   -- its place is one of its statements
   pub from : processAt M p .first ≤ q .place
   pub within : q .place < endOf M p
   pub standing : q .standing ≤ 2
-  pub fault : q .fault ≤ 4
+  -- a stopped process has a fault and its node, any other has "0 without a fault"
+  pub failed : q .standing ≡ stopped → Stopping M (failure (q .node) (q .fault))
+  pub running : q .standing < stopped → (q .fault ≡ 0) × (q .node ≡ 0)
   -- it waits at a wait
   pub at-wait : q .standing ≡ waiting → statementAt M (q .place) .kind ≡ 5
   -- a ready process has no deadline
@@ -88,10 +100,6 @@ pub record ScheduleFits (M : Model) (p k d : ℕ) (v : Driven) : Type 0 where
   pub delay : d < 2147483648
   pub value : Carries (signalAt M (driverAt M k .signal)) v
 
--- the faults that an expression can have: "an integer out of range", "A divisor of 0"
-abbrev pub ExpressionFault : ℕ → Type 0
-ExpressionFault f = (f ≡ 1) ⊎ (f ≡ 4)
-
 -- a jump to a statement of p; a wait at a wait, kind being that of the statement; a stop with an expression's fault, or with 2
 abbrev pub EffectFits : Model → ℕ → ℕ → Effect → Type 0
 EffectFits M p kind Skip = Unit {0}
@@ -100,4 +108,4 @@ EffectFits M p kind (Schedule k d v) = ScheduleFits M p k d v
 EffectFits M p kind (Jump a) = Spans M p a
 EffectFits M p kind Wait = kind ≡ 5
 EffectFits M p kind (WaitFor d) = (kind ≡ 5) × (d < 2147483648)
-EffectFits M p kind (Stop f) = ExpressionFault f ⊎ (f ≡ 2)
+EffectFits M p kind (Stop r) = ExpressionFails M r ⊎ (r ≡ failure noNode 2)

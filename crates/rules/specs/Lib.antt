@@ -1,5 +1,6 @@
 pub mod Configuration
 pub mod Evaluation
+pub mod Failing
 pub mod Invariant
 pub mod Orders
 pub mod Statements

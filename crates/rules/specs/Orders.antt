@@ -2,18 +2,18 @@
 use mathlib.Core.Bool.{Bool, not, _||_}
 use mathlib.Core.List.{List, [], _∷_, _++_}
 use mathlib.Core.Option.{Option, none, some}
-use Prim.Native.Nat.{ℕ, zero, suc, _+_, min}
+use Prim.Native.Nat.{ℕ, zero, suc, _+_, _*_, min}
 use lib.Dec.{eqb, ltb, leb}
 use lib.ListN.{length}
 use Rattle.base.specs.Below.{anyBelow, joinBelow}
 use Rattle.base.specs.Cases.{_∣_, _⇒_}
 use Rattle.base.specs.Course.{firstWith}
 use Rattle.blocks.specs.Records.{Model}
-use Rattle.rules.specs.Configuration.{deltaLimit, lastTime, Transaction, Configuration, driverIn, processIn, currentOf, ready, stopped}
+use Rattle.rules.specs.Configuration.{deltaLimit, lastTime, Transaction, ProcessState, Configuration, driverIn, processIn, currentOf, ready, stopped}
 use Rattle.rules.specs.Statements.{stepped}
 use Rattle.rules.specs.Steps.{transactionDue, deadlineDue, deltaStep, timeStep}
 
--- an order's answer and the configuration it hands back: the refusal or 0, byte 1, the picks made, the value
+-- an order's answer and the configuration it hands back: the refusal or 0, byte 1, the picks made, bytes 4 to 7 as a number
 pub record Outcome : Type 0 where
   pub refusal : ℕ
   pub byte : ℕ
@@ -32,10 +32,16 @@ isReady p c = eqb (processIn (c .processes) p .standing) ready
 unfoldable pub isStopped : ℕ → Configuration → Bool
 isStopped p c = eqb (processIn (c .processes) p .standing) stopped
 
--- a done pick: "for a pick the new standing [..] picks made [..] a pick's fault"
+-- bytes 4 to 7 of a pick's answer: "Byte 4 [..] stays the fault. Byte 5 is zero. Bytes 6-7 become the number of the first node that
+-- failed", little endian (`session/specs/FaultLaws`)
+abbrev pub faultAndNode : ℕ → ℕ → ℕ
+faultAndNode fault node = fault + 65536 * node
+
+-- a done pick: "for a pick the new standing [..] picks made"
 abbrev pub pickDone : ℕ → Configuration → Outcome
 pickDone p c =
-    record { refusal = 0; byte = processIn (c .processes) p .standing; picks = 1; value = processIn (c .processes) p .fault; after = c }
+    let q : ProcessState = processIn (c .processes) p in
+    record { refusal = 0; byte = q .standing; picks = 1; value = faultAndNode (q .fault) (q .node); after = c }
 
 -- 12. "Pick: no such process." 13. "Pick: not ready."
 unfoldable pub picked : Model → ℕ → Configuration → Outcome

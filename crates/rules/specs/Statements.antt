@@ -16,21 +16,22 @@ use Rattle.fields.specs.Fields.{absent, endOf}
 use Rattle.model.specs.Owners.{driverFor}
 use Rattle.rules.specs.declared.driven.Driven.{Driven}
 use Rattle.rules.specs.declared.driven.Driven.the-variants.{To, Null}
+use Rattle.rules.specs.declared.value.Failure.{Failure}
 use Rattle.rules.specs.declared.value.Value.{Value}
 use Rattle.rules.specs.declared.value.Value.the-variants.{Of, Fault}
 use Rattle.rules.specs.declared.effect.Effect.{Effect}
 use Rattle.rules.specs.declared.effect.Effect.the-variants.{Skip, Store, Schedule, Jump, Wait, WaitFor, Stop}
 use Rattle.rules.specs.Configuration.{Transaction, DriverState, ProcessState, Configuration, driverIn, processIn, waiting, stopped}
-use Rattle.rules.specs.Evaluation.{Environment, environmentOf, int, evalOf}
+use Rattle.rules.specs.Evaluation.{Environment, environmentOf, failure, noNode, int, evalOf}
 
--- what follows a value, or stop with its fault
+-- what follows a value, or stop with its fault and node
 abbrev pub withValue : Value → (ℕ → Effect) → Effect
 withValue (Fault f) next = Stop f
 withValue (Of x) next = next x
 
--- what follows a delay of 0 or more; fault 2: "c negative"
+-- what follows a delay of 0 or more; fault 2: "c negative", "65,535 for faults 2 and 3"
 unfoldable pub withDelay : Value → (ℕ → Effect) → Effect
-withDelay v next = withValue v (λ x. ltZ (int x) (pos 0) ⇒ Stop 2 ∣ next (natAbs (int x)))
+withDelay v next = withValue v (λ x. ltZ (int x) (pos 0) ⇒ Stop (failure noNode 2) ∣ next (natAbs (int x)))
 
 -- what statement s of process p does. Kind 2 "works out b, then c"; kind 5 "works out c once".
 unfoldable pub effectBy : Model → Environment → ℕ → StatementRecord → Effect
@@ -68,21 +69,21 @@ unfoldable pub nextPlace : Model → ℕ → ℕ → ℕ
 nextPlace M p i = ltb (i + 1) (endOf M p) ⇒ (i + 1) ∣ processAt M p .first
 
 abbrev pub moved : ProcessState → ℕ → ProcessState
-moved q to = record { place = to; standing = q .standing; deadline = q .deadline; fault = q .fault }
+moved q to = record { place = to; standing = q .standing; deadline = q .deadline; fault = q .fault; node = q .node }
 
 -- "sets the deadline time + c (none if absent) and waits, its place staying on the wait"
 abbrev pub waits : ProcessState → Option ℕ → ProcessState
-waits q deadline = record { place = q .place; standing = waiting; deadline = deadline; fault = q .fault }
+waits q deadline = record { place = q .place; standing = waiting; deadline = deadline; fault = q .fault; node = q .node }
 
--- "A fault stops the process; its other fields and its drivers stay."
-abbrev pub stops : ProcessState → ℕ → ProcessState
-stops q f = record { place = q .place; standing = stopped; deadline = q .deadline; fault = f }
+-- "A fault stops the process; its other fields and its drivers stay." "A process keeps the node [..] beside its fault"
+abbrev pub stops : ProcessState → Failure → ProcessState
+stops q f = record { place = q .place; standing = stopped; deadline = q .deadline; fault = f .fault; node = f .node }
 
 -- process q after an effect at the time t, next being the place after its own. `full` says that a schedule overflows.
 abbrev pub processAfter : Effect → Bool → ℕ → ℕ → ProcessState → ProcessState
 processAfter Skip full t next q = moved q next
 processAfter (Store a v) full t next q = moved q next
-processAfter (Schedule k d v) full t next q = full ⇒ stops q 3 ∣ moved q next
+processAfter (Schedule k d v) full t next q = full ⇒ stops q (failure noNode 3) ∣ moved q next
 processAfter (Jump a) full t next q = moved q a
 processAfter Wait full t next q = waits q none
 processAfter (WaitFor d) full t next q = waits q (some (t + d))

@@ -81,9 +81,9 @@ changedIn M set old new = anyBelow (λ s. inSet set s && not (eqb (currentOf old
 
 -- "becomes ready, past its wait [..] becoming ready removes its deadline"
 abbrev pub wakes : Model → ℕ → ProcessState → ProcessState
-wakes M p q = record { place = nextPlace M p (q .place); standing = ready; deadline = none; fault = q .fault }
+wakes M p q = record { place = nextPlace M p (q .place); standing = ready; deadline = none; fault = q .fault; node = q .node }
 
--- by the value of b: true wakes it; "A fault in b stops it, its place and deadline kept"
+-- by the value of b: true wakes it; "A fault in b stops it, its place and deadline kept"; its node is kept "for a wait's condition too"
 abbrev pub wokenBy : Model → ℕ → ProcessState → Value → ProcessState
 wokenBy M p q (Fault f) = stops q f
 wokenBy M p q (Of x) = eqb x 1 ⇒ wakes M p q ∣ q

@@ -1,5 +1,6 @@
 // The effect of a statement.
 use crate::driven::Driven;
+use crate::value::Failure;
 
 // What one statement does to its process, its variables and its drivers.
 pub enum Effect {
@@ -15,6 +16,6 @@ pub enum Effect {
     Wait,
     // waits, with a deadline after that many units
     WaitFor(u32),
-    // stops with a fault
-    Stop(u32),
+    // stops with a fault and its node
+    Stop(Failure),
 }

@@ -11,6 +11,9 @@ pub const WAITING: usize = 1;
 
 pub const STOPPED: usize = 2;
 
+// The node of a fault that no node has.
+pub const NO_NODE: u32 = 65535;
+
 // How many delta steps are done at one time, and the latest time.
 pub const DELTA_LIMIT: u64 = 1000;
 

@@ -1,14 +1,14 @@
--- What the bytes of an answer and of an order say: the refusal, the picks made, the count.
+-- What the bytes of an answer and of an order say: the refusal, the picks made, the fault and its node, the count.
 -- Assumes nothing.
 use mathlib.Core.Path.{_≡_}
 use mathlib.Core.List.{List, [], _∷_}
-use Prim.Native.Nat.{ℕ, zero, suc, _*_, _<_}
+use Prim.Native.Nat.{ℕ, zero, suc, _*_, _≤_, _<_}
 use native.Mathlib.Omega.{arith}
 use lib.ListN.{take, drop}
 use lib.Seq.{getD-take, getD-drop}
 use Rattle.base.specs.Below.{listBelow}
 use Rattle.base.specs.Bytes.{byteAt, wordAt}
-use Rattle.rules.specs.Orders.{Outcome}
+use Rattle.rules.specs.Orders.{Outcome, faultAndNode}
 use Rattle.rules.proofs.Lists.{All, all-append}
 use Rattle.session.specs.Lists.{Order, orderOf, ordersOf, answerOf}
 use Rattle.session.specs.Demand3.{Bytes}
@@ -22,6 +22,20 @@ refusal-byte r h = omega arith
 pub picks-word : (r : Outcome) → r .picks < 65536 → wordAt (answerOf r) 2 ≡ r .picks
 unfolding answerOf
 picks-word r h = omega arith
+
+-- bytes 4 to 7 of a fault and a node: byte 4 is the fault, byte 5 zero, bytes 6-7 are the node
+module _ (r : Outcome) {f n : ℕ} (e : r .value ≡ faultAndNode f n) (small : f ≤ 4) (short : n ≤ 65535) where
+  pub fault-byte : byteAt (answerOf r) 4 ≡ f
+  unfolding answerOf
+  fault-byte = omega arith
+
+  pub zero-byte : byteAt (answerOf r) 5 ≡ 0
+  unfolding answerOf
+  zero-byte = omega arith
+
+  pub node-word : wordAt (answerOf r) 6 ≡ n
+  unfolding answerOf
+  node-word = omega arith
 
 -- the count of an order is 16 bits
 abbrev pub Small : List Order → Type 0

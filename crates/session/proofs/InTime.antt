@@ -35,13 +35,13 @@ module _ (M : Model) (fs : Facts M) where
       (λ e. by-test Keeps (eqb (o .kind) 3) _ _ (λ k. settled-reachable M fs c r (o .count))
       (λ e. read-reachable M fs c r (o .argument)))))
 
-  played-reachable : (os : List Order) (c : Configuration) → Reachable M c → Reachable M (played M os c .end)
+  pub played-reachable : (os : List Order) (c : Configuration) → Reachable M c → Reachable M (played M os c .end)
   unfolding played
   played-reachable [] c r = r
   played-reachable (o ∷ os) c r = played-reachable os (performed M o c .after) (performed-reachable o c r)
 
 module _ (m orders old : List ℕ) where
-  not-refused : numberOf m orders old ≡ 0 → refusalOf m ≡ 0
+  pub not-refused : numberOf m orders old ≡ 0 → refusalOf m ≡ 0
   not-refused e = elim (ℕ-discrete (refusalOf m) 0) [ yes q ↦ q | no q ↦ sym (model-refused m orders old q) ∙ e ]
 
   pub ended-in-time : sessionOf m orders old .end .time ≤ lastTime

@@ -1,5 +1,6 @@
 pub mod Answers
 pub mod Demand3
+pub mod FaultLaws
 pub mod InTime
 pub mod ListLaws
 pub mod PlayLaws

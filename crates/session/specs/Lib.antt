@@ -1,4 +1,5 @@
 pub mod Demand3
+pub mod FaultLaws
 pub mod ListLaws
 pub mod Lists
 pub mod Sessions

@@ -50,8 +50,8 @@ performed M o c =
 abbrev pub byteOf : ℕ → ℕ → ℕ
 byteOf i x = x / 256 ^ i % 256
 
--- "Each answer has 16 bytes [..]: 0 refusal or 0; 1 [..]; 2-3 picks made; 4-7 the value read, or a pick's fault; 8-15 the time
--- after the order."
+-- "Each answer has 16 bytes [..]: 0 refusal or 0; 1 [..]; 2-3 picks made; 4-7 the value read [..]; 8-15 the time after the
+-- order." For a pick 4 to 7 are its fault and node (`rules/specs/Orders`: `faultAndNode`).
 abbrev pub answerBytes : ℕ → ℕ → ℕ → ℕ → ℕ → List ℕ
 answerBytes refusal byte picks value time =
     byteOf 0 refusal

@@ -5,6 +5,7 @@ pub mod play;
 ghost use mathlib.Core.Path.{_≡_};
 ghost use Rattle.base.specs.Rules.{firstFailing};
 ghost use Rattle.session.specs.Demand3.{Determinate};
+ghost use Rattle.session.specs.FaultLaws.{FaultLaws};
 ghost use Rattle.session.specs.ListLaws.{ListLaws};
 ghost use Rattle.session.specs.Sessions.{lengthRules, SessionIs};
 use crate::play::play;
@@ -38,6 +39,7 @@ pub fn session(model: &[u8], orders: &[u8], answers: &mut [u8]) -> Ended
     ensures { λ r. ⌜ SessionIs (now (model .entry)) (now (orders .entry)) (now (answers .entry)) (now (answers .exit)) r ⌝ }
     ensures { λ r. ⌜ Determinate ⌝ }
     ensures { λ r. ⌜ ListLaws ⌝ }
+    ensures { λ r. ⌜ FaultLaws ⌝ }
 {
     let loaded = load(model);
     let refusal = loaded.refusal;

@@ -17,6 +17,7 @@ use Rattle.fields.specs.Fields.{absent}
 use Rattle.fields.specs.Facts.{Spans}
 use Rattle.model.specs.Facts.{Facts}
 use Rattle.rules.specs.declared.value.Value.{Value}
+use Rattle.rules.specs.declared.value.Failure.{Failure}
 use Rattle.rules.specs.declared.value.Value.the-variants.{Of, Fault}
 use Rattle.rules.specs.Configuration.{ProcessState, ready, waiting, lastTime}
 use Rattle.rules.specs.Evaluation.{Environment, evalOf}
@@ -38,12 +39,12 @@ due-is t d h =
     (λ e. refl)
 
 -- ready, past the wait
-pub woken-is : (M : Model) (p place : ℕ) (q : Process) → place ≡ nextPlace M p (q .place) → stateOf (record { place = place; standing = ready; deadline = never; fault = q .fault }) ≡ wakes M p (stateOf q)
+pub woken-is : (M : Model) (p place : ℕ) (q : Process) → place ≡ nextPlace M p (q .place) → stateOf (record { place = place; standing = ready; deadline = never; fault = q .fault; node = q .node }) ≡ wakes M p (stateOf q)
 woken-is M p place q e = rw e
 
 -- by the value of the condition
 module _ (M : Model) (p : ℕ) (q : ProcessState) (v : Value) where
-  pub by-fault : (f : ℕ) → v ≡ Fault f → stops q f ≡ wokenBy M p q v
+  pub by-fault : (f : Failure) → v ≡ Fault f → stops q f ≡ wokenBy M p q v
   by-fault f e = rw e
 
   pub by-true : (x : ℕ) (r : ProcessState) → v ≡ Of x → x ≡ 1 → r ≡ wakes M p q → r ≡ wokenBy M p q v
@@ -132,6 +133,7 @@ pub record Sixteen (ps : Processes) : Type 0 where
   pub standings : length (ps .standings) ≡ 16
   pub deadlines : length (ps .deadlines) ≡ 16
   pub faults : length (ps .faults) ≡ 16
+  pub nodes : length (ps .nodes) ≡ 16
 
 -- the loop before process p
 pub record Waking (M : Model) (t changed : ℕ) (e : Environment) (ps : Processes) (p : ℕ) (r : Processes) : Type 0 where
@@ -146,6 +148,7 @@ withEntry ps p q =
       standings = set (ps .standings) p (q .standing);
       deadlines = set (ps .deadlines) p (q .deadline);
       faults = set (ps .faults) p (q .fault);
+      nodes = set (ps .nodes) p (q .node);
     }
 
 module _ (ps : Processes) (p : ℕ) (q : Process) where
@@ -156,6 +159,7 @@ module _ (ps : Processes) (p : ℕ) (q : Process) where
         standings = length-set (ps .standings) p (q .standing) ∙ l .standings;
         deadlines = length-set (ps .deadlines) p (q .deadline) ∙ l .deadlines;
         faults = length-set (ps .faults) p (q .fault) ∙ l .faults;
+        nodes = length-set (ps .nodes) p (q .node) ∙ l .nodes;
       }
 
   with-same : Sixteen ps → p < 16 → entryOf (withEntry ps p q) p ≡ q
@@ -164,11 +168,13 @@ module _ (ps : Processes) (p : ℕ) (q : Process) where
       let b : p < length (ps .standings) = omega (arith, l .standings) in
       let c : p < length (ps .deadlines) = omega (arith, l .deadlines) in
       let d : p < length (ps .faults) = omega (arith, l .faults) in
+      let e : p < length (ps .nodes) = omega (arith, l .nodes) in
       rw (
         getD-set-same (ps .places) p (q .place) 0 a,
         getD-set-same (ps .standings) p (q .standing) 0 b,
         getD-set-same (ps .deadlines) p (q .deadline) 0 c,
         getD-set-same (ps .faults) p (q .fault) 0 d,
+        getD-set-same (ps .nodes) p (q .node) 0 e,
       )
 
   with-other : (i : ℕ) → (i ≡ p → ⊥) → entryOf (withEntry ps p q) i ≡ entryOf ps i
@@ -178,6 +184,7 @@ module _ (ps : Processes) (p : ℕ) (q : Process) where
         getD-set-other (ps .standings) p i (q .standing) 0 n,
         getD-set-other (ps .deadlines) p i (q .deadline) 0 n,
         getD-set-other (ps .faults) p i (q .fault) 0 n,
+        getD-set-other (ps .nodes) p i (q .node) 0 n,
       )
 
 module _ (M : Model) (t changed : ℕ) (e : Environment) (ps : Processes) where

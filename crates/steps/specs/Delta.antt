@@ -40,11 +40,17 @@ pub record ResolvedTo (M : Model) (currents : List ℕ) (ndrivers active : ℕ) 
 
 -- the state of one process, and that of process p of the arrays
 abbrev pub stateOf : Process → ProcessState
-stateOf q = record { place = q .place; standing = q .standing; deadline = deadlineOf (q .deadline); fault = q .fault }
+stateOf q = record { place = q .place; standing = q .standing; deadline = deadlineOf (q .deadline); fault = q .fault; node = q .node }
 
 abbrev pub entryOf : Processes → ℕ → Process
 entryOf ps p =
-    record { place = getD (ps .places) p 0; standing = getD (ps .standings) p 0; deadline = getD (ps .deadlines) p 0; fault = getD (ps .faults) p 0 }
+    record {
+      place = getD (ps .places) p 0;
+      standing = getD (ps .standings) p 0;
+      deadline = getD (ps .deadlines) p 0;
+      fault = getD (ps .faults) p 0;
+      node = getD (ps .nodes) p 0;
+    }
 
 -- "b, read on the new values, is true or absent": wokenIf by the number of b
 unfoldable pub wokenFor : Model → ℕ → Environment → ℕ → ProcessState → ProcessState

@@ -89,6 +89,7 @@ pub struct Process {
     pub standing: usize,
     pub deadline: u64,
     pub fault: u32,
+    pub node: u32,
 }
 
 pub struct Processes {
@@ -96,6 +97,7 @@ pub struct Processes {
     pub standings: [usize; 16],
     pub deadlines: [u64; 16],
     pub faults: [u32; 16],
+    pub nodes: [u32; 16],
 }
 
 // Process p becomes ready, past its wait.
@@ -110,6 +112,7 @@ fn woken<'a>(m: &'a [u8], index: &'a Index, p: usize, q: Process) -> Process
         standing: READY,
         deadline: NEVER,
         fault: q.fault,
+        node: q.node,
     }
 }
 
@@ -125,7 +128,8 @@ fn woken_by<'a>(m: &'a [u8], index: &'a Index, p: usize, q: Process, v: Value) -
             place: q.place,
             standing: STOPPED,
             deadline: q.deadline,
-            fault: f,
+            fault: f.fault,
+            node: f.node,
         },
         Value::Of(x) => {
             if x == 1 {
@@ -213,6 +217,7 @@ pub fn wake<'a>(
             standing: ps.standings[p],
             deadline: ps.deadlines[p],
             fault: ps.faults[p],
+            node: ps.nodes[p],
         };
         let r = after_delta(m, index, variables, signals, changed, time, p, q);
         if r.standing != q.standing {
@@ -220,6 +225,7 @@ pub fn wake<'a>(
             ps.standings[p] = r.standing;
             ps.deadlines[p] = r.deadline;
             ps.faults[p] = r.fault;
+            ps.nodes[p] = r.node;
         }
         p += 1;
     }

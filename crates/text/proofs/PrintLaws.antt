@@ -5,15 +5,16 @@ use mathlib.Core.Bool.{false}
 use mathlib.Core.Logic.{⊎-elim}
 use mathlib.Core.List.{List, [], _∷_, _++_, append-assoc, append-nil}
 use Prim.Native.Nat.{ℕ, _+_, _*_, _-_, _/_, _≤_, _<_}
-use native.Mathlib.Nat.{le-antisymm}
+use native.Mathlib.Nat.{le-antisymm, add-zero}
 use native.Mathlib.Omega.{arith}
 use borrow.Author.Tests.{eqb-true, eqb-false, eq-eqb, ne-eqb}
 use lib.Dec.{eqb}
 use lib.ListN.{length, take, drop, replicate, length-take, length-replicate}
-use lib.Seq.{take-all}
+use lib.Seq.{take-all, getD-take, getD-drop}
 use Rattle.base.specs.Below.{listBelow}
+use Rattle.base.specs.Bytes.{byteAt}
 use Rattle.base.specs.Cases.{_∣_, _⇒_}
-use Rattle.base.proofs.Below.{split, list-none, list-more}
+use Rattle.base.proofs.Below.{split, list-none, list-more, list-length}
 use Rattle.base.proofs.Rules.{fails}
 use Rattle.base.proofs.Cases.{either-way}
 use Rattle.blocks.specs.Blocks.{lengthOk}
@@ -22,45 +23,63 @@ use Rattle.blocks.specs.Totals.{blockRules}
 use Rattle.blocks.proofs.Starts.{length-most}
 use Rattle.model.specs.Rules.{rulesOf, refusalOf}
 use Rattle.rules.specs.Configuration.{first}
-use Rattle.session.specs.Lists.{ordersOf, played}
+use Rattle.session.specs.Lists.{Order, orderOf, ordersOf, played}
 use Rattle.session.specs.Sessions.{ordersOk, bufferOk, numberOf, bytesOf, sessionOf}
-use Rattle.session.proofs.SessionLaws.{nine, orders-few, model-refused, model-accepted}
+use Rattle.session.proofs.SessionLaws.{nine, room, orders-few, model-refused, model-accepted}
+use Rattle.session.proofs.InTime.{not-refused}
 use Rattle.text.specs.Text.{lineMost, lineOf, numberLineOf, linesOf, answersIn, sessionText, textOf, modelRoom, ordersRoom, textRoom, RoomsSuffice, AnswerRoom, Written}
 
--- the lines of some answers and of one more
-lines-behind : (xs : List (List ℕ)) (a : List ℕ) → linesOf (xs ++ (a ∷ [])) ≡ linesOf xs ++ lineOf a
-lines-behind [] a = append-nil (lineOf a)
-lines-behind (x ∷ xs) a = rw (lines-behind xs a, append-assoc)
+-- the lines of the answers to some orders, and of one more
+lines-behind : (os : List Order) (xs : List (List ℕ)) (o : Order) (a : List ℕ) → length os ≡ length xs
+    → linesOf (os ++ (o ∷ [])) (xs ++ (a ∷ [])) ≡ linesOf os xs ++ lineOf (o .kind) a
+lines-behind [] [] o a e = append-nil (lineOf (o .kind) a)
+lines-behind [] (x ∷ xs) o a e = absurd (omega arith)
+lines-behind (p ∷ os) [] o a e = absurd (omega arith)
+lines-behind (p ∷ os) (x ∷ xs) o a e = rw (lines-behind os xs o a (omega arith), append-assoc)
 
--- answer i of a buffer
+-- order i of some bytes, and answer i of a buffer
+abbrev pub orderAt : List ℕ → ℕ → Order
+orderAt orders i = orderOf (take 4 (drop (4 * i) orders))
+
 abbrev pub answerAt : List ℕ → ℕ → List ℕ
 answerAt buffer i = take 16 (drop (16 * i) buffer)
 
 -- the lines of the answers below i stand in the first `at` bytes of `out`, which has `size` bytes
-pub record Lines (answers : List ℕ) (size : ℕ) (out : List ℕ) (at i : ℕ) : Type 0 where
+pub record Lines (orders answers : List ℕ) (size : ℕ) (out : List ℕ) (at i : ℕ) : Type 0 where
   pub few : i ≤ length answers / 16
   pub short : at ≤ lineMost * i
   pub same : length out ≡ size
-  pub lines : take at out ≡ linesOf (listBelow (answerAt answers) i)
+  pub lines : take at out ≡ linesOf (listBelow (orderAt orders) i) (listBelow (answerAt answers) i)
 
-pub no-lines : (answers out : List ℕ) → Lines answers (length out) out 0 0
-no-lines answers out = record { few = omega arith; short = omega arith; same = refl; lines = rw (list-none (answerAt answers)) }
+pub no-lines : (orders answers out : List ℕ) → Lines orders answers (length out) out 0 0
+no-lines orders answers out =
+    record { few = omega arith; short = omega arith; same = refl; lines = rw (list-none (orderAt orders)) }
+
+-- the kind of order i is its first byte
+kind-read : (orders : List ℕ) (i : ℕ) → orderAt orders i .kind ≡ byteAt orders (4 * i)
+unfolding orderOf
+kind-read orders i = rw (getD-take 4 (drop (4 * i) orders) 0 0 (omega arith), getD-drop, add-zero)
 
 -- one line more
-pub next-line : {answers out new : List ℕ} {size at i r : ℕ} → Lines answers size out at i → i < length answers / 16 → r ≤ at + lineMost
-    → length new ≡ length out → Written (lineOf (take (16 * i + 16 - 16 * i) (drop (16 * i) answers))) out new at r → Lines answers size new r (i + 1)
-next-line {answers} {i = i} l h m s w =
+pub next-line : {orders answers out new : List ℕ} {size at i r kind : ℕ} → Lines orders answers size out at i → i < length answers / 16
+    → kind ≡ byteAt orders (4 * i) → r ≤ at + lineMost → length new ≡ length out
+    → Written (lineOf kind (take (16 * i + 16 - 16 * i) (drop (16 * i) answers))) out new at r → Lines orders answers size new r (i + 1)
+next-line {orders} {answers} {i = i} l h k m s w =
     let e : 16 * i + 16 - 16 * i ≡ 16 = omega arith in
+    let n : length (listBelow (orderAt orders) i) ≡ length (listBelow (answerAt answers) i) = list-length (orderAt orders) i ∙ sym (list-length (answerAt answers) i) in
     record {
       few = omega arith;
       short = omega arith;
       same = s ∙ l .same;
-      lines = w .bytes ∙ rw (e, l .lines, list-more, lines-behind);
+      lines = w .bytes ∙ rw (e, k, l .lines, list-more, list-more, lines-behind _ _ (orderAt orders i) (answerAt answers i) n, kind-read);
     }
 
-pub all-lines : {answers out : List ℕ} {size at i : ℕ} → Lines answers size out at i → length answers / 16 ≤ i → take at out ≡ linesOf (answersIn answers)
-unfolding answersIn
-all-lines {i = i} l h = l .lines ∙ rw (le-antisymm (l .few) h)
+pub all-lines : {orders answers out : List ℕ} {size at i : ℕ} → Lines orders answers size out at i → length answers ≡ 16 * (length orders / 4)
+    → length answers / 16 ≤ i → take at out ≡ linesOf (ordersOf orders) (answersIn answers)
+unfolding answersIn ordersOf
+all-lines {orders} {answers} {i = i} l n h =
+    let e : length orders / 4 ≡ length answers / 16 = omega arith in
+    l .lines ∙ rw (e, le-antisymm (l .few) h)
 
 -- the room for the text has room for a line, and for that of each answer
 pub line-room : (n : ℕ) → textRoom ≤ n → lineMost ≤ n
@@ -79,7 +98,7 @@ long-model m l = either-way (lengthOk m) (λ e. let k = length-most m e in absur
 
 -- what a session prints where it is played
 abbrev answersText : List ℕ → List ℕ → List ℕ
-answersText m o = linesOf (answersIn (bytesOf (played (modelOf m) (ordersOf o) (first (modelOf m)) .answers)))
+answersText m o = linesOf (ordersOf o) (answersIn (bytesOf (played (modelOf m) (ordersOf o) (first (modelOf m)) .answers)))
 
 -- the number of a session of more orders than it takes: the model's or 9
 longNumber : List ℕ → ℕ
@@ -94,7 +113,7 @@ long-refused m =
 
 module _ (m o : List ℕ) where
   -- besides the model and the orders, a session's text depends on its number alone
-  by-number : (b : List ℕ) → sessionText (sessionOf m o b) ≡ (eqb (numberOf m o b) 0 ⇒ answersText m o ∣ numberLineOf (numberOf m o b))
+  by-number : (b : List ℕ) → sessionText (ordersOf o) (sessionOf m o b) ≡ (eqb (numberOf m o b) 0 ⇒ answersText m o ∣ numberLineOf (numberOf m o b))
   unfolding sessionText sessionOf
   by-number b = either-way (eqb (numberOf m o b) 0) (λ e. rw e) (λ e. rw (e, e))
 
@@ -123,17 +142,24 @@ module _ (m o : List ℕ) where
   same-number a b h = rw h
 
   -- a buffer of four times the orders' length, or any at all for more orders than a session takes
-  module _ (b : List ℕ) (room : length o ≤ 16384 → length b ≡ 4 * length o) where
+  module _ (b : List ℕ) (whole : length o ≤ 16384 → length b ≡ 4 * length o) where
     number-is : numberOf m o b ≡ numberOf m o (replicate (4 * length o) 0)
     number-is =
         ⊎-elim
         (λ (l : 16384 < length o). long-number l b ∙ sym (long-number l _))
-        (λ (l : length o ≤ 16384). same-number b _ (room l ∙ sym (length-replicate _ _)))
+        (λ (l : length o ≤ 16384). same-number b _ (whole l ∙ sym (length-replicate _ _)))
         (split 16384 (length o))
 
-    text-is : sessionText (sessionOf m o b) ≡ textOf m o
+    text-is : sessionText (ordersOf o) (sessionOf m o b) ≡ textOf m o
     unfolding textOf
     text-is = by-number b ∙ rw number-is (sym (by-number _))
+
+    -- a buffer that a session played into has 16 bytes for each order
+    pub played-room : {n : ℕ} → n ≡ sessionOf m o b .number → n ≡ 0 → length b ≡ 16 * (length o / 4)
+    unfolding sessionOf
+    played-room {n} e z =
+        let none : numberOf m o b ≡ 0 = either-way (eqb (numberOf m o b) 0) (eqb-true _ _) (λ t. rw t at (sym e ∙ z)) in
+        room o b (sym (model-accepted m o b (not-refused m o b none)) ∙ none)
 
     -- what the program writes: the number of a refused session, or the lines of the answers in the buffer
     module _ {n : ℕ} (e : n ≡ sessionOf m o b .number) where
@@ -141,7 +167,7 @@ module _ (m o : List ℕ) where
       unfolding sessionText
       refused-writes h = rw (← text-is, ← e, ne-eqb _ _ h)
 
-      pub played-writes : {new : List ℕ} → new ≡ sessionOf m o b .buffer → n ≡ 0 → linesOf (answersIn new) ≡ textOf m o
+      pub played-writes : {new : List ℕ} → new ≡ sessionOf m o b .buffer → n ≡ 0 → linesOf (ordersOf o) (answersIn new) ≡ textOf m o
       unfolding sessionText
       played-writes f h = rw (← text-is, ← e, ← f, eq-eqb _ _ h)
 

@@ -12,11 +12,11 @@ use lib.Dec.{ltb}
 use lib.ListN.{length, take, set, length-append, length-take}
 use lib.Seq.{take-at, take-suc-set}
 use Rattle.base.specs.Course.{firstWith}
-use Rattle.base.specs.Bytes.{byteAt, wordAt, longAt}
+use Rattle.base.specs.Bytes.{byteAt, wordAt}
 use Rattle.base.proofs.Below.{split}
 use Rattle.base.proofs.Course.{first-found, first-none, first-before}
 use Rattle.io.specs.Digits.{digits, Fewest}
-use Rattle.text.specs.Text.{placesOf, decimalOf, minus, space, lineFeed, signedOf, timeIn, ended, lineOf, Written}
+use Rattle.text.specs.Text.{placesOf, decimalOf, minus, space, lineFeed, signedOf, timeIn, ended, valueIn, nodeIn, lineOf, Written}
 
 digits-length : (b k n : ℕ) → length (digits b k n) ≡ k
 digits-length b zero n = refl
@@ -114,10 +114,10 @@ signed-most v h =
 pub place-behind : (text : List ℕ) (c : ℕ) {at r : ℕ} {old new : List ℕ} → Written (ended text c) old new at r → r ≡ at + length text + 1
 place-behind text c w = w .place ∙ simp length-append (omega arith)
 
--- the five texts of an answer's line
-pub line-written : (a : List ℕ) {x y z v t : ℕ} {old new : List ℕ} {at r : ℕ}
-    → x ≡ byteAt a 0 → y ≡ byteAt a 1 → z ≡ wordAt a 2 → v ≡ longAt a 4 → t ≡ timeIn a
-    → Written (ended (decimalOf x) space ++ ended (decimalOf y) space ++ ended (decimalOf z) space ++ ended (signedOf v) space ++ ended (decimalOf t) lineFeed) old new at r
-    → Written (lineOf a) old new at r
+-- the six texts of an answer's line
+pub line-written : (kind : ℕ) (a : List ℕ) {x y z v n t : ℕ} {old new : List ℕ} {at r : ℕ}
+    → x ≡ byteAt a 0 → y ≡ byteAt a 1 → z ≡ wordAt a 2 → v ≡ valueIn kind a → n ≡ nodeIn kind a → t ≡ timeIn a
+    → Written (ended (decimalOf x) space ++ ended (decimalOf y) space ++ ended (decimalOf z) space ++ ended (signedOf v) space ++ ended (decimalOf n) space ++ ended (decimalOf t) lineFeed) old new at r
+    → Written (lineOf kind a) old new at r
 unfolding lineOf
-line-written a e f g h i w = rw (e, f, g, h, i) at w
+line-written kind a e f g h i j w = rw (e, f, g, h, i, j) at w

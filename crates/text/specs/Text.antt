@@ -1,5 +1,6 @@
 -- The text that the program prints: "a line per answer: refusal, byte 1, picks, value (bytes 4-7, signed), time, in base ten with
--- one space between (a refused session: its number alone)".
+-- one space between (a refused session: its number alone)". Document 02, item 3: "From here on `playbench` prints value and node as two
+-- columns, in the bench case too: byte 4 and bytes 6-7 for a pick, bytes 4 to 7 and 0 for other orders."
 use mathlib.Core.Path.{_≡_}
 use mathlib.Core.List.{List, [], _∷_, _++_}
 use Prim.Native.Nat.{ℕ, suc, _+_, _*_, _-_, _/_, _^_, _≤_}
@@ -7,10 +8,11 @@ use lib.Dec.{eqb, ltb}
 use lib.ListN.{length, take, drop, replicate}
 use Rattle.base.specs.Below.{listBelow}
 use Rattle.base.specs.Bytes.{byteAt, wordAt, longAt}
-use Rattle.base.specs.Cases.{_∣_, _⇒_}
+use Rattle.base.specs.Cases.{_∣_, _⇒_, _is_⇒_}
 use Rattle.base.specs.Course.{firstWith}
 use Rattle.io.specs.Counts.{Counts}
 use Rattle.io.specs.Digits.{digits}
+use Rattle.session.specs.Lists.{Order, ordersOf}
 use Rattle.session.specs.Sessions.{Session, sessionOf}
 
 -- how many digits a number below 10 ^ 20 has in base ten
@@ -42,13 +44,21 @@ timeIn a = longAt a 8 + 4294967296 * longAt a 12
 abbrev pub ended : List ℕ → ℕ → List ℕ
 ended text c = text ++ (c ∷ [])
 
--- the line of an answer
-unfoldable pub lineOf : List ℕ → List ℕ
-lineOf a =
+-- value and node of the answer to an order of that kind: "byte 4 and bytes 6-7 for a pick, bytes 4 to 7 and 0 for other orders"
+abbrev pub valueIn : ℕ → List ℕ → ℕ
+valueIn kind a = kind is 1 ⇒ byteAt a 4 ∣ longAt a 4
+
+abbrev pub nodeIn : ℕ → List ℕ → ℕ
+nodeIn kind a = kind is 1 ⇒ wordAt a 6 ∣ 0
+
+-- the line of the answer to an order of that kind
+unfoldable pub lineOf : ℕ → List ℕ → List ℕ
+lineOf kind a =
     ended (decimalOf (byteAt a 0)) space
     ++ ended (decimalOf (byteAt a 1)) space
     ++ ended (decimalOf (wordAt a 2)) space
-    ++ ended (signedOf (longAt a 4)) space
+    ++ ended (signedOf (valueIn kind a)) space
+    ++ ended (decimalOf (nodeIn kind a)) space
     ++ ended (decimalOf (timeIn a)) lineFeed
 
 -- the line of a refused session
@@ -59,22 +69,23 @@ numberLineOf n = ended (decimalOf n) lineFeed
 unfoldable pub answersIn : List ℕ → List (List ℕ)
 answersIn buffer = listBelow (λ i. take 16 (drop (16 * i) buffer)) (length buffer / 16)
 
--- the lines of some answers, one after the other
-abbrev pub linesOf : List (List ℕ) → List ℕ
-linesOf [] = []
-linesOf (a ∷ rest) = lineOf a ++ linesOf rest
+-- the lines of the answers to some orders, one after the other
+abbrev pub linesOf : List Order → List (List ℕ) → List ℕ
+linesOf [] answers = []
+linesOf (o ∷ os) [] = []
+linesOf (o ∷ os) (a ∷ rest) = lineOf (o .kind) a ++ linesOf os rest
 
--- the text of a session: "a line per answer [..] (a refused session: its number alone)"
-unfoldable pub sessionText : Session → List ℕ
-sessionText s = eqb (s .number) 0 ⇒ linesOf (answersIn (s .buffer)) ∣ numberLineOf (s .number)
+-- the text of a session of some orders: "a line per answer [..] (a refused session: its number alone)"
+unfoldable pub sessionText : List Order → Session → List ℕ
+sessionText os s = eqb (s .number) 0 ⇒ linesOf os (answersIn (s .buffer)) ∣ numberLineOf (s .number)
 
 -- the text that the program prints for a model and orders, any bytes: the answer buffer is four times as long as the orders
 unfoldable pub textOf : List ℕ → List ℕ → List ℕ
-textOf model orders = sessionText (sessionOf model orders (replicate (4 * length orders) 0))
+textOf model orders = sessionText (ordersOf orders) (sessionOf model orders (replicate (4 * length orders) 0))
 
--- the most characters that a line has: 3, 3, 5, 11 and 20, and one behind each
+-- the most characters that a line has: 3, 3, 5, 11, 5 and 20, and one behind each
 abbrev pub lineMost : ℕ
-lineMost = 47
+lineMost = 53
 
 -- the program's rooms for its two files, each a byte more than the longest that is played, and for the text of 4,096 answers
 abbrev pub modelRoom : ℕ

@@ -2,8 +2,9 @@
 ghost use mathlib.Core.Path.{_≡_};
 ghost use Prim.Native.Nat.{_+_, _*_, _/_, _≤_, _<_};
 ghost use lib.ListN.{length, take, replicate};
+ghost use Rattle.session.specs.Lists.{ordersOf};
 ghost use Rattle.session.specs.Sessions.{sessionOf};
-ghost use Rattle.text.specs.Text.{decimalOf, signedOf, space, ended, timeIn, lineOf, numberLineOf, answersIn, linesOf, textOf, lineMost, modelRoom, ordersRoom, textRoom, RoomsSuffice, AnswerRoom, Prints, Written};
+ghost use Rattle.text.specs.Text.{decimalOf, signedOf, space, ended, timeIn, valueIn, nodeIn, lineOf, numberLineOf, answersIn, linesOf, textOf, lineMost, modelRoom, ordersRoom, textRoom, RoomsSuffice, AnswerRoom, Prints, Written};
 use base::byte;
 use base::long;
 use base::word;
@@ -14,7 +15,7 @@ const MODEL_ROOM: usize = 32769;
 
 const ORDERS_ROOM: usize = 16385;
 
-const TEXT_ROOM: usize = 192512;
+const TEXT_ROOM: usize = 217088;
 
 // Writes a number in base ten, and a character behind it.
 fn put_number(n: u64, after: u8, out: &mut [u8], at: usize) -> usize
@@ -50,37 +51,64 @@ fn time_in(answer: &[u8]) -> u64
     (long(answer, 8) + 4294967296 * long(answer, 12)) as u64
 }
 
-// Writes the line of an answer.
-fn put_line(answer: &[u8], out: &mut [u8], at: usize) -> usize
+// Value and node of the answer to an order of that kind.
+fn value_in(kind: usize, answer: &[u8]) -> u64
+    requires { ⌜ length (now answer) ≡ 16 ⌝ }
+    ensures { λ r. ⌜ r ≡ valueIn kind (now (answer .entry)) ⌝ }
+    ensures { λ r. ⌜ r < 4294967296 ⌝ }
+{
+    if kind == 1 {
+        return byte(answer, 4) as u64;
+    }
+    long(answer, 4) as u64
+}
+
+fn node_in(kind: usize, answer: &[u8]) -> u64
+    requires { ⌜ length (now answer) ≡ 16 ⌝ }
+    ensures { λ r. ⌜ r ≡ nodeIn kind (now (answer .entry)) ⌝ }
+    ensures { λ r. ⌜ r < 65536 ⌝ }
+{
+    if kind == 1 {
+        return word(answer, 6) as u64;
+    }
+    0
+}
+
+// Writes the line of the answer to an order of that kind.
+fn put_line(kind: usize, answer: &[u8], out: &mut [u8], at: usize) -> usize
     requires { ⌜ length (now answer) ≡ 16 ⌝ }
     requires { ⌜ at + lineMost ≤ length (now out) ⌝ }
     ensures { λ r. ⌜ r ≤ at + lineMost ⌝ }
-    ensures { λ r. ⌜ Written (lineOf (now (answer .entry))) (now (out .entry)) (now (out .exit)) at r ⌝ }
+    ensures { λ r. ⌜ Written (lineOf kind (now (answer .entry))) (now (out .entry)) (now (out .exit)) at r ⌝ }
 {
     let refusal = byte(answer, 0) as u64;
     let said = byte(answer, 1) as u64;
     let picks = word(answer, 2) as u64;
-    let value = long(answer, 4) as u64;
+    let value = value_in(kind, answer);
+    let node = node_in(kind, answer);
     let time = time_in(answer);
     let a = put_number(refusal, 32, out, at);
     let b = put_number(said, 32, out, a);
     let c = put_number(picks, 32, out, b);
     let d = put_signed(value, out, c);
-    put_number(time, 10, out, d)
+    let e = put_number(node, 32, out, d);
+    put_number(time, 10, out, e)
 }
 
-// Writes the line of each answer, and answers how many bytes they have.
-fn put_lines(answers: &[u8], out: &mut [u8]) -> usize
+// Writes the line of the answer to each order, and answers how many bytes they have.
+fn put_lines(orders: &[u8], answers: &[u8], out: &mut [u8]) -> usize
+    requires { ⌜ length (now answers) ≡ 16 * (length (now orders) / 4) ⌝ }
     requires { ⌜ lineMost * (length (now answers) / 16) ≤ length (now out) ⌝ }
     ensures { λ r. ⌜ r ≤ length (now (out .exit)) ⌝ }
-    ensures { λ r. ⌜ take r (now (out .exit)) ≡ linesOf (answersIn (now (answers .entry))) ⌝ }
+    ensures { λ r. ⌜ take r (now (out .exit)) ≡ linesOf (ordersOf (now (orders .entry))) (answersIn (now (answers .entry))) ⌝ }
 {
     let n = answers.len() / 16;
     let mut at = 0;
     let mut i = 0;
     while i < n {
+        let kind = byte(orders, 4 * i);
         let from = 16 * i;
-        at = put_line(&answers[from..from + 16], out, at);
+        at = put_line(kind, &answers[from..from + 16], out, at);
         i += 1;
     }
     at
@@ -115,7 +143,7 @@ fn put_text(model: &[u8], orders: &[u8], answers: &mut [u8], out: &mut [u8]) -> 
     if number != 0 {
         return put_refusal(number, out);
     }
-    put_lines(answers, out)
+    put_lines(orders, answers, out)
 }
 
 // How many bytes the answers have; none where the orders are more than a session takes.

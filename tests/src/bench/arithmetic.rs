@@ -4,25 +4,27 @@ use super::*;
 use crate::integers::*;
 
 /// What is left of a model that assigns an expression to a variable: its value, or
-/// the fault with the variable at its start.
-fn assigned(b: &Builder, what: &str) -> Result<i32, u8> {
+/// the fault and its node with the variable at its start.
+fn assigned(b: &Builder, what: &str) -> Result<i32, Failed> {
     let (a, c) = play(b, &[(PICK, 0, 0), (PICK, 0, 0)]);
-    let fault = c.processes[0].fault;
-    if fault == 0 {
-        assert_eq!(a, [(0, 0, 1, 0, 0), (0, 0, 1, 0, 0)], "{what}");
+    let failed = failed_at(&c, 0);
+    if failed == NONE {
+        assert_eq!(a, [(0, 0, 1, 0, 0, 0), (0, 0, 1, 0, 0, 0)], "{what}");
         return Ok(c.variables[0]);
     }
-    let stopped = [(0, 2, 1, fault as i32, 0), (13, 0, 0, 0, 0)];
+    let (fault, node) = failed;
+    let stopped = [(0, 2, 1, fault as i32, node, 0), (13, 0, 0, 0, 0, 0)];
     assert_eq!(a, stopped, "{what}");
-    assert_eq!(c.processes, [process(0, STOPPED, fault, None)], "{what}");
+    assert_eq!(c.processes, [process(0, STOPPED, failed, None)], "{what}");
     assert_eq!(c.variables, [5], "{what}");
-    Err(fault)
+    Err(failed)
 }
 
 #[test]
 fn every_operation() {
     for ((x, kind, y), result) in operations() {
         let what = format!("{x} and {y} in node kind {kind}");
+        let result = result.map_err(|fault| (fault, 2));
         assert_eq!(assigned(&sum(x, kind, y), &what), result, "{what}");
     }
 }
@@ -47,10 +49,10 @@ fn a_before_b_before_the_divisor() {
 
 #[test]
 fn the_value_before_its_delay() {
-    for (value, delay, fault) in scheduled_faults() {
+    for (value, delay, (fault, node)) in scheduled_faults() {
         let (a, c) = play(&scheduled(value, delay), &[(PICK, 0, 0)]);
         let standing = if fault == 0 { READY } else { STOPPED };
-        assert_eq!(a, [(0, standing, 1, fault as i32, 0)]);
+        assert_eq!(a, [(0, standing, 1, fault as i32, node, 0)]);
         let pending: &[(u64, Carried)] = if fault == 0 { &[(2, Some(2))] } else { &[] };
         assert_eq!(c.drivers[0].wave, pending, "{value:?} after {delay:?}");
     }
@@ -66,19 +68,19 @@ fn a_divisor_of_zero_in_every_role() {
             assert_eq!(c.drivers[0].wave, [(1, Some(1))]);
             assert!(c.drivers[1].wave.is_empty());
             if role == Role::Until {
-                assert_eq!(a[1], (0, 1, 1, 0, 0));
-                assert_eq!(c.processes[0], process(1, WAITING, 0, Some(5)));
+                assert_eq!(a[1], (0, 1, 1, 0, 0, 0));
+                assert_eq!(c.processes[0], process(1, WAITING, NONE, Some(5)));
             } else {
-                assert_eq!(a[1], (0, 2, 1, 4, 0), "{role:?}");
-                assert_eq!(c.processes[0], process(1, STOPPED, 4, None));
+                assert_eq!(a[1], (0, 2, 1, 4, 4, 0), "{role:?}");
+                assert_eq!(c.processes[0], process(1, STOPPED, (4, 4), None));
             }
         }
-        // A wait's condition, asked for when the signal changes: the rest of the
-        // delta step is done.
+        // A wait's condition, asked for when the signal changes: the node is kept,
+        // and the rest of the delta step is done.
         let (a, c) = play(&by_zero(kind, Role::Until), &[SET, ADV, ADV, SET, ADV]);
-        assert_eq!(a[2..4], [(0, 1, 0, 0, 1), (0, 0, 1, 0, 1)]);
+        assert_eq!(a[2..4], [(0, 1, 0, 0, 0, 1), (0, 0, 1, 0, 0, 1)]);
         assert_eq!(a[4].0, 15);
-        assert_eq!(c.processes[0], process(1, STOPPED, 4, Some(5)));
+        assert_eq!(c.processes[0], process(1, STOPPED, (4, 4), Some(5)));
         assert_eq!(c.signals[0][0], 1);
     }
 }

@@ -162,8 +162,12 @@ fn null_among_eight() {
     ] {
         let list = [&eight[..], &[(last, carried)]].concat();
         let (a, c) = play(&releases(BUS, &list), &[(SETTLE, 0, 8), (PICK, 0, 0)]);
-        let standing = if fault == 3 { STOPPED } else { READY };
-        assert_eq!((a[1].1, a[1].2, a[1].3), (standing, 1, fault));
+        let (standing, node) = if fault == 3 {
+            (STOPPED, 65_535)
+        } else {
+            (READY, 0)
+        };
+        assert_eq!(a[1], (0, standing, 1, fault, node, 0));
         let mut kept = wave.clone();
         if fault == 0 {
             kept.retain(|t| t.0 < last as u64);
@@ -176,9 +180,14 @@ fn null_among_eight() {
 #[test]
 fn fault_order_of_a_null() {
     // c out of range before a ninth, c negative before a ninth.
-    for (x, y, fault) in [(TOP, 1, 1), (-1, 0, 2), (9, 0, 3), (8, 0, 0)] {
+    for (x, y, failed) in [
+        (TOP, 1, (1, 14)),
+        (-1, 0, (2, 65_535)),
+        (9, 0, (3, 65_535)),
+        (8, 0, NONE),
+    ] {
         let (_, c) = play(&null_after(x, y), &[(SETTLE, 0, 9)]);
-        assert_eq!(c.processes[0].fault, fault, "{x} + {y}");
+        assert_eq!(failed_at(&c, 0), failed, "{x} + {y}");
         assert_eq!(c.drivers[0].wave.len(), 8);
     }
 }

@@ -301,8 +301,7 @@ fn run() -> Result<(), String> {
     let pairs = operands::pairs(number(0, 200_000)? as usize, number(1, 1)?);
     let sorts: Vec<&str> = SORTS.iter().map(|s| s.0).collect();
     let counts = count(&pairs);
-    println!("operand pairs");
-    tally::print_shown(&counts, &sorts);
+    tally::print_shown("operand pairs", &counts, &sorts);
     let list = operations(&pairs)?;
     let (done, faults): (Vec<Operation>, Vec<Operation>) =
         list.iter().partition(|o| o.expected.is_ok());

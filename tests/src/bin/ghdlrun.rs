@@ -521,8 +521,8 @@ fn main() {
         shown.add(what);
     }
     for feature in FEATURES {
-        println!("{} in the models that are compared", feature.name);
-        tally::print_shown(&shown, &(feature.session)());
+        let title = format!("{} in the models that are compared", feature.name);
+        tally::print_shown(&title, &shown, &(feature.session)());
     }
     let dir = scratch();
     let bad = compare_all(&cases, &alter, &dir);

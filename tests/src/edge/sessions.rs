@@ -3,14 +3,14 @@
 use crate::builder::Builder;
 use crate::cases::{self, in_64_blocks, inverter, inverter_orders, largest, ADVANCE, READ, SETTLE};
 use crate::damage;
-use crate::features::FEATURES;
+use crate::features;
 use crate::gen;
 use crate::model::*;
 use crate::numbers;
 use crate::rng::Rng;
 
 /// How many random sessions there are, and from which seed on.
-pub const RANDOM: u64 = 300;
+pub const RANDOM: u64 = 600;
 const SEED: u64 = 1;
 
 /// Two files for the program.
@@ -99,9 +99,9 @@ fn damaged_models() -> Vec<Case> {
             }
         }
     }
-    for feature in FEATURES {
+    for damages in features::damages() {
         for seed in 0..40 {
-            let (rule, what, model) = feature.damages.damaged(&mut Rng::new(seed));
+            let (rule, what, model) = damages.damaged(&mut Rng::new(seed));
             list.push(Case::new(what, &model, &inverter_orders(), rule));
         }
     }

@@ -2,7 +2,7 @@
 //! session is played again pick by pick; before a statement runs, and when a
 //! wait's condition is asked, the operators of its expressions are looked at.
 
-use super::{replay, Player, Seen};
+use super::{advance_asking, ready_place, replay, Player, Seen};
 use crate::cycle::*;
 use crate::integers::*;
 use crate::model::Role::*;
@@ -268,37 +268,17 @@ impl Player for Play<'_> {
     }
 
     fn pick(&mut self, p: usize) {
-        let ready = |p: &&Process| p.standing == READY;
-        let place = self.c.processes.get(p).filter(ready).map(|p| p.place);
-        if let Some(place) = place.filter(|&n| self.statements[n as usize]) {
-            self.statement(self.m.statements[place as usize]);
+        let place = ready_place(&self.c, p);
+        if let Some(place) = place.filter(|&n| self.statements[n]) {
+            self.statement(self.m.statements[place]);
         }
         // What is refused changes nothing.
         let _ = self.c.pick(self.m, p);
     }
 
     fn advance(&mut self) {
-        let current = |c: &Config| -> Vec<i32> { c.signals.iter().map(|s| s[0]).collect() };
-        let (now, old) = (self.c.time, current(&self.c));
-        let waiting = |p: &&Process| p.standing == WAITING && p.deadline != Some(now);
-        let waits: Vec<u16> = self
-            .c
-            .processes
-            .iter()
-            .filter(waiting)
-            .map(|p| p.place)
-            .collect();
-        if self.c.advance(self.m) != Ok(Step::Delta) {
-            return;
-        }
-        let new = current(&self.c);
-        let changed = (0..old.len()).filter(|&s| old[s] != new[s]);
-        let changed = changed.fold(0u32, |set, s| set | 1 << s);
-        for place in waits {
-            let s = self.m.statements[place as usize];
-            if s.set & changed != 0 && s.b != ABSENT {
-                self.expression(s.b, Until);
-            }
+        for condition in advance_asking(self.m, &mut self.c) {
+            self.expression(condition, Until);
         }
     }
 }
@@ -311,7 +291,8 @@ impl Play<'_> {
     }
 
     fn value(&self, node: u16) -> Result<Value, u8> {
-        self.c.evaluate(self.m, node)
+        let value = self.c.evaluate(self.m, node);
+        value.map_err(|fault| fault.number)
     }
 
     fn number(&self, node: u16) -> Result<i32, u8> {

@@ -185,7 +185,7 @@ impl Player for Play<'_> {
         let null = |t: &Pending| t.1.is_none();
         let before = driver.map(|d| self.c.drivers[d].wave.clone());
         let done = self.c.pick(m, p);
-        let (Some(d), Some(before), Ok((_, fault))) = (driver, before, done) else {
+        let (Some(d), Some(before), Ok(Process { fault, .. })) = (driver, before, done) else {
             return;
         };
         let nulls = before.iter().any(null);

@@ -33,6 +33,8 @@ struct Maker<'r> {
     process: u8,
     /// Its variable for results.
     result: u16,
+    /// Expressions with a fault that any process may use.
+    shared: Vec<u16>,
 }
 
 /// A random accepted model.
@@ -48,6 +50,7 @@ pub fn model(rng: &mut Rng) -> Model {
         b,
         process: 0,
         result: 0,
+        shared: vec![],
     };
     // A process that stops keeps the others from a delta step, where conditions
     // are asked for: in a model the faults are all in conditions, or none is.
@@ -157,14 +160,28 @@ impl Maker<'_> {
         self.operator(kind, (a, 0))
     }
 
-    /// A product out of range.
+    /// A product, or now and then a sum or a difference, out of range.
     fn too_large(&mut self) -> u16 {
-        let (kind, pair) = self.operation(&[PRODUCT], |r| r.is_err());
+        let kinds = [PRODUCT, PRODUCT, PRODUCT, SUM, DIFFERENCE];
+        let (kind, pair) = self.operation(&kinds, |r| r.is_err());
         self.operator(kind, pair)
     }
 
-    /// An expression with a fault; some have another one behind the first.
+    /// An expression with a fault, now and then one that another statement has.
     fn fault(&mut self) -> u16 {
+        if !self.shared.is_empty() && self.rng.chance(1, 8) {
+            return self.rng.choose(&self.shared);
+        }
+        let first = self.b.m.nodes.len();
+        let node = self.new_fault();
+        if self.b.m.nodes[first..].iter().all(|n| n.kind != 3) {
+            self.shared.push(node);
+        }
+        node
+    }
+
+    /// An expression with a fault; some have another one behind the first.
+    fn new_fault(&mut self) -> u16 {
         let kind = self.rng.choose(&[QUOTIENT, MOD, REM]);
         let (a, b) = match self.rng.weighted(&[18, 4, 2, 2, 2, 2]) {
             0 => return self.by_zero(),

@@ -22,7 +22,8 @@ fn kind_name(kind: u8) -> &'static str {
     ["", " bus", " register"][kind as usize]
 }
 
-fn expression(m: &Model, n: u16) -> String {
+/// The expression of a node, a group in parentheses.
+pub fn expression(m: &Model, n: u16) -> String {
     let d = &m.nodes[n as usize];
     let two = |op: &str| format!("({} {op} {})", expression(m, d.a), expression(m, d.b));
     match d.kind {
@@ -63,7 +64,7 @@ fn wait(m: &Model, s: &StatementRecord) -> String {
     out
 }
 
-fn statement(m: &Model, s: &StatementRecord) -> String {
+pub fn statement(m: &Model, s: &StatementRecord) -> String {
     match s.kind {
         0 => "null".to_string(),
         1 => format!("v{} := {}", s.a, expression(m, s.b)),
@@ -118,6 +119,7 @@ pub fn orders(bytes: &[u8]) -> String {
 #[cfg(test)]
 mod tests {
     use super::*;
+    use crate::explain::tests::failed;
     use crate::text;
     use second_kernel::rng::Rng;
     use second_kernel::{cases, gen, session};
@@ -127,12 +129,40 @@ mod tests {
         load(&text::model(&model(m)).expect("a listing is a model text")).ok()
     }
 
+    /// The model with its variables numbered by process, as one made from its listing has them.
+    fn by_process(m: &Model) -> Model {
+        let mut order: Vec<u16> = (0..m.variables.len() as u16).collect();
+        order.sort_by_key(|&v| m.variables[v as usize].process);
+        let number = |v: &mut u16| *v = order.iter().position(|o| o == v).expect("a variable") as u16;
+        let mut out = m.clone();
+        out.variables = order.iter().map(|&v| m.variables[v as usize]).collect();
+        out.nodes.iter_mut().filter(|d| d.kind == 3).for_each(|d| number(&mut d.a));
+        out.statements.iter_mut().filter(|s| s.kind == 1).for_each(|s| number(&mut s.a));
+        out
+    }
+
+    /// A session's answers without the nodes that failed, and these as expressions, each with its process.
+    fn played(m: &Model, orders: &[u8]) -> (Vec<u8>, Vec<(usize, String)>) {
+        let mut answers = vec![0; 4 * orders.len()];
+        let (number, end) = session::session(&encode(m), orders, &mut answers);
+        assert_eq!(number, 0);
+        for (order, answer) in orders.chunks(4).zip(answers.chunks_mut(16)) {
+            if order[0] == cases::PICK {
+                answer[6..8].fill(0);
+            }
+        }
+        let named = by_process(m);
+        let failed = failed(&end).into_iter().map(|(n, p)| (n, expression(&named, p.node)));
+        (answers, failed.collect())
+    }
+
     // A node used twice is made twice, a negative constant becomes a negation, and variables are numbered by process: the model
-    // made from a listing is another one, but it does the same, and its own listing makes exactly it. A driver that no statement
-    // uses is lost, so models that have one are passed over, and those that grow past a limit.
+    // made from a listing is another one, but it does the same, and its own listing makes exactly it; the node that fails has
+    // the same expression in both. A driver that no statement uses is lost, so models that have one are passed over, and those
+    // that grow past a limit.
     #[test]
     fn a_listing_makes_a_model_that_does_the_same() {
-        let (mut compared, mut with_null, mut with_division) = (0, 0, 0);
+        let (mut compared, mut with_null, mut with_division, mut failed) = (0, 0, 0, 0);
         for seed in 0..4_000 {
             let mut rng = Rng::new(seed);
             let m = gen::model(&mut rng);
@@ -140,9 +170,10 @@ mod tests {
             assert_eq!(made_again(&again).as_ref(), Some(&again), "seed {seed}");
             if again.drivers == m.drivers {
                 let orders = gen::orders(&mut rng, &m, 60);
-                let (ours, theirs) = (encode(&m), encode(&again));
-                assert_eq!(session::print(&ours, &orders), session::print(&theirs, &orders), "seed {seed}");
+                let ours = played(&m, &orders);
+                assert_eq!(ours, played(&again, &orders), "seed {seed}");
                 compared += 1;
+                failed += ours.1.len();
                 with_null += m.statements.iter().any(|s| s.kind == 6) as usize;
                 with_division += m.nodes.iter().any(|d| (16..=18).contains(&d.kind)) as usize;
             }
@@ -150,6 +181,7 @@ mod tests {
         assert!(compared > 500, "{compared} models compared");
         assert!(with_null > 100, "{with_null} of them with a null transaction");
         assert!(with_division > 100, "{with_division} of them with a division");
+        assert!(failed > 30, "{failed} nodes that failed");
     }
 
     #[test]

@@ -8,13 +8,19 @@ use Rattle.text.proofs.put_lines.Statement.{statement}
 use Rattle.text.proofs.put_lines.Tie as tie
 
 abbrev Inv-loop : tie.InvT-loop
-Inv-loop answers out₀ n at₀ i₀ out at i = Lines answers (length out₀) out at i
+Inv-loop orders answers out₀ n at₀ i₀ out at i = Lines orders answers (length out₀) out at i
 
 abbrev μ-loop : tie.MeasureT-loop
-μ-loop answers out₀ n at₀ i₀ out at i = n - i
+μ-loop orders answers out₀ n at₀ i₀ out at i = n - i
 
 loop-holds : tie.Need-loop-holds Inv-loop μ-loop
-loop-holds c = no-lines _ _
+loop-holds c = no-lines _ _ _
+
+mul-byte : tie.Need-mul-byte Inv-loop μ-loop
+mul-byte c = search needs
+
+byte-requires : tie.Need-byte-requires Inv-loop μ-loop
+byte-requires c κs = omega (arith, c .loop-test .taken, c .before .before .before .before .before .pre .0)
 
 mul-from : tie.Need-mul-from Inv-loop μ-loop
 mul-from c = search needs
@@ -43,8 +49,9 @@ loop-less c = search needs
 loop-again : tie.Need-loop-again Inv-loop μ-loop
 loop-again c =
     let put = c .before .before in
-    let turn = put .before .before .before in
-    next-line (turn .before .loop .inv) (turn .loop-test .taken) (put .put-line .ensures .0) (put .put-line .kept .1 .0) (put .put-line .ensures .1)
+    let read = put .before .before .before in
+    let turn = read .before in
+    next-line (turn .before .loop .inv) (turn .loop-test .taken) (read .byte .ensures .value) (put .put-line .ensures .0) (put .put-line .kept .1 .1 .0) (put .put-line .ensures .1)
 
 same-length : tie.Need-same-length Inv-loop μ-loop
 same-length c = search needs
@@ -52,8 +59,8 @@ same-length c = search needs
 returns : tie.Need-returns Inv-loop μ-loop
 returns c =
     let inv = c .before .loop .inv in
-    let start = c .before .before .before .before in
-    (omega (arith, start .pre, inv .short, inv .few, inv .same), all-lines inv (c .loop-test .left))
+    let start = c .before .before .before .before .before in
+    (omega (arith, start .pre .1, inv .short, inv .few, inv .same), all-lines inv (start .pre .0) (c .loop-test .left))
 
 pub put-lines-spec : {M : Type 1} → statement M
 put-lines-spec =
@@ -62,6 +69,8 @@ put-lines-spec =
     Inv-loop
     μ-loop
     loop-holds
+    mul-byte
+    byte-requires
     mul-from
     add-put-line
     sub-put-line

@@ -1,6 +1,6 @@
 -- What is written is the text by the laws of a session's text: its number, or the lines of the answers. Assumes nothing.
 use mathlib.Core.Path.{_∙_}
-use Rattle.text.proofs.PrintLaws.{line-room, lines-room, refused-writes, played-writes}
+use Rattle.text.proofs.PrintLaws.{line-room, lines-room, played-room, refused-writes, played-writes}
 use Rattle.text.proofs.put_text.Statement.{statement}
 use Rattle.text.proofs.put_text.Tie as tie
 
@@ -28,14 +28,16 @@ returns c =
 
 put-lines-requires : tie.Need-put-lines-requires
 put-lines-requires c κs =
-    let done = c .before .before .before .before .before in
-    lines-room _ (start done .pre .0) (done .played .kept .1 .1 .0) (start done .pre .1)
+    let test = c .before .before in
+    let done = test .before .before .before in
+    let kept = done .played .kept .1 .1 .0 in
+    (kept ∙ played-room _ _ _ (start done .pre .0 .all) (done .played .ensures .0) (test .if1 .left), lines-room _ (start done .pre .0) kept (start done .pre .1))
 
 same-length-3 : tie.Need-same-length-3
 same-length-3 c = c .before .before .before .before .before .before .before .before .played .kept .1 .1 .0
 
 same-length-4 : tie.Need-same-length-4
-same-length-4 c = c .before .before .put-lines .kept .1 .0
+same-length-4 c = c .before .before .put-lines .kept .1 .1 .0
 
 returns-2 : tie.Need-returns-2
 returns-2 c =

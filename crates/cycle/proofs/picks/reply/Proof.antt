@@ -1,4 +1,5 @@
 -- By the order's picks. Assumes nothing.
+use native.Mathlib.Omega.{arith}
 use borrow.Author.Needs.{needs}
 use borrow.Author.Tests.{le-leb, lt-leb, eq-eqb, ne-eqb}
 use Rattle.cycle.proofs.picks.reply.Statement.{statement}
@@ -20,14 +21,22 @@ reply-spec =
     (λ c.
     let free = c .before .before in
     rw (free .before .before .which .given .1, lt-leb _ _ (free .if1 .left), eq-eqb _ _ (c .before .if2 .taken)) (c .refused2 .ensures))
-    -- mul-t10
+    -- mul-t11
     (λ c. search needs)
-    -- element-copy-out-t13
+    -- element-copy-out-t14
     (λ c. search needs)
-    -- mul-t14
+    -- mul-t15
     (λ c. search needs)
-    -- element-copy-out-t17
+    -- element-copy-out-t18
     (λ c. search needs)
+    -- mul-t19
+    (λ c. search needs)
+    -- element-copy-out-t22
+    (λ c. search needs)
+    -- mul-t23
+    (λ c. let free = c .before .before .before .before in omega (arith, free .before .before .before .before .pre .1 _ (free .if1 .left)))
+    -- add-t24
+    (λ c. let free = c .before .before .before .before in omega (arith, free .before .before .before .before .pre .1 _ (free .if1 .left)))
     -- enum-known-which-2
     (λ c. search needs)
     -- any-standing-requires
@@ -36,7 +45,7 @@ reply-spec =
     (λ c κs. search needs)
     -- returns-3
     (λ c.
-    let some = c .before .before in
+    let some = c .before .before .before in
     let free = some .before in
     rw (free .before .before .which .given .1, lt-leb _ _ (free .if1 .left), ne-eqb _ _ (some .if2 .left)))
     -- returns-4

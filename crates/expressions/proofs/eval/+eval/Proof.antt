@@ -83,6 +83,8 @@ unfolding valueBy
     eval.Post
     -- node-at-requires
     (λ c κs. (c .before .pre .1 .0 .usable .starts, c .before .pre .1 .1))
+    -- cast-fits
+    (λ c. omega (arith, c .before .before .pre .1 .1, c .before .before .pre .1 .0 .facts .totals .nodes))
     -- variable-of-requires
     (λ c κs. variable-below (c .before .before .before .pre) (c .before .node-at .ensures) (c .match .keys3))
     -- signal-of-requires

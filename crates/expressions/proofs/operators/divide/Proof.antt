@@ -23,6 +23,8 @@ divide-spec =
     (λ c. search needs)
     -- enum-known-q-2
     (λ c. search needs)
+    -- failed-requires
+    (λ c κs. search needs)
     -- int-requires
     (λ c κs. search needs)
     -- int-requires-2
@@ -41,7 +43,7 @@ divide-spec =
     -- returns-2
     (λ c. rw (c .before .before .before .before .p2 .given .1, c .before .q .given .1))
     -- returns-3
-    (λ c. let k = c .before in rw (k .before .before .before .before .p2 .given .1, k .before .q2 .given .1, c .if1 .taken))
+    (λ c. let k = c .before .before in rw (k .before .before .before .before .p2 .given .1, k .before .q2 .given .1, c .before .if1 .taken) (c .failed .ensures))
     -- returns-4
     (λ c.
     let i = c .before .before .before in

@@ -4,6 +4,7 @@ use native.Mathlib.Nat.{le-of-lt}
 use mir.Syntax.{w32}
 use mir.Val.{ofZ}
 use mir.Facts.{toZ-ofZ}
+use borrow.Author.Needs.{needs}
 use borrow.Author.Tests.{lt-ltb}
 use Rattle.rules.specs.Evaluation.{ranged}
 use Rattle.rules.specs.declared.value.Value.the-variants.{Of}
@@ -16,10 +17,14 @@ unfolding ranged
 in-range-spec =
     tie.close
     (tie.spec
+    -- failed-requires
+    (λ c κs. search needs)
     -- returns
-    (λ c. simp (too-low (c .before .args .z) (simp (toZ-ofZ (c .before .fits .z)) at (c .if1 .taken))))
+    (λ c. let s = c .before .before in simp (too-low (s .args .z) (simp (toZ-ofZ (s .fits .z)) at (c .before .if1 .taken))) (c .failed .ensures))
+    -- failed-requires-2
+    (λ c κs. search needs)
     -- returns-2
-    (λ c. simp (too-high (c .before .before .args .z) (simp (toZ-ofZ (c .before .before .fits .z)) at (c .if2 .taken))))
+    (λ c. let s = c .before .before .before in simp (too-high (s .args .z) (simp (toZ-ofZ (s .fits .z)) at (c .before .if2 .taken))) (c .failed2 .ensures))
     -- bits-of-requires
     (λ c κs. rw (toZ-ofZ (c .before .before .fits .z)) (le-of-lt (inside (c .before .before .args .z) (simp (toZ-ofZ (c .before .before .fits .z)) at (c .before .if1 .left)) (simp (toZ-ofZ (c .before .before .fits .z)) at (c .if2 .left)))))
     -- returns-3

@@ -37,4 +37,4 @@ minus-spec =
     (λ c.
     let k = c .before .before .before in
     rw (k .before .before .before .before .p2 .given .1, k .before .q2 .given .1)
-    (c .in-range .ensures ∙ ap ranged (difference-is _ (k .before .before .before .known-told2 .given .0 .1) (c .before .before .int .ensures) _ (k .known-told4 .given .0 .1) (c .before .int2 .ensures)))))
+    (c .in-range .ensures ∙ ap (ranged _) (difference-is _ (k .before .before .before .known-told2 .given .0 .1) (c .before .before .int .ensures) _ (k .known-told4 .given .0 .1) (c .before .int2 .ensures)))))

@@ -24,4 +24,4 @@ negate-spec =
     -- returns
     (λ c. rw (c .before .p .given .1))
     -- returns-2
-    (λ c. rw (c .before .before .before .p2 .given .1) (c .in-range .ensures ∙ ap ranged (negation-is _ (c .before .before .known-told2 .given .0 .1) (c .before .int .ensures)))))
+    (λ c. rw (c .before .before .before .p2 .given .1) (c .in-range .ensures ∙ ap (ranged _) (negation-is _ (c .before .before .known-told2 .given .0 .1) (c .before .int .ensures)))))

@@ -44,7 +44,7 @@ wake-spec =
     Inv-loop
     μ-loop
     -- loop-holds
-    (λ c. (zero-le, waking-none _ _ _ _ _ (record { places = search (length-unmapped); standings = search (length-unmapped); deadlines = search (length-unmapped); faults = search (length-unmapped) })))
+    (λ c. (zero-le, waking-none _ _ _ _ _ (record { places = search (length-unmapped); standings = search (length-unmapped); deadlines = search (length-unmapped); faults = search (length-unmapped); nodes = search (length-unmapped) })))
     -- mul-t14
     (λ c. eights c)
     -- element-copy-out-t17
@@ -61,35 +61,44 @@ wake-spec =
     (λ c. fours (c .before .before .before))
     -- element-copy-out-t29
     (λ c. small (c .before .before .before))
+    -- mul-t30
+    (λ c. fours (c .before .before .before .before))
+    -- element-copy-out-t33
+    (λ c. small (c .before .before .before .before))
     -- after-delta-requires
     (λ c κs.
-    let test = c .before .before .before .before .loop-test in
-    let head = c .before .before .before .before .before .loop in
-    let start = c .before .before .before .before .before .before .before in
-    (start .pre .0, (there (c .before .before .before .before), (start .pre .1 .1 .0, waking-valid _ _ _ _ _ _ _ _ (test .taken) (start .pre .1 .1 .1) (head .inv .1)))))
+    let turn = c .before .before .before .before .before in
+    let test = turn .loop-test in
+    let head = turn .before .loop in
+    let start = turn .before .before .before in
+    (start .pre .0, (there turn, (start .pre .1 .1 .0, waking-valid _ _ _ _ _ _ _ _ (test .taken) (start .pre .1 .1 .1) (head .inv .1)))))
     -- mul-ps
-    (λ c. eights (c .before .before .before .before .before .before .before .before))
+    (λ c. eights (c .before .before .before .before .before .before .before .before .before))
     -- element-write-ps
-    (λ c. small (c .before .before .before .before .before .before .before .before))
+    (λ c. small (c .before .before .before .before .before .before .before .before .before))
     -- mul-ps-2
-    (λ c. eights (c .before .before .before .before .before .before .before .before))
+    (λ c. eights (c .before .before .before .before .before .before .before .before .before))
     -- element-write-ps-2
-    (λ c. small (c .before .before .before .before .before .before .before .before))
+    (λ c. small (c .before .before .before .before .before .before .before .before .before))
     -- mul-ps-3
-    (λ c. eights (c .before .before .before .before .before .before .before .before))
+    (λ c. eights (c .before .before .before .before .before .before .before .before .before))
     -- element-write-ps-3
-    (λ c. small (c .before .before .before .before .before .before .before .before))
+    (λ c. small (c .before .before .before .before .before .before .before .before .before))
     -- mul-ps-4
-    (λ c. fours (c .before .before .before .before .before .before .before .before))
+    (λ c. fours (c .before .before .before .before .before .before .before .before .before))
     -- element-write-ps-4
-    (λ c. small (c .before .before .before .before .before .before .before .before))
+    (λ c. small (c .before .before .before .before .before .before .before .before .before))
+    -- mul-ps-5
+    (λ c. fours (c .before .before .before .before .before .before .before .before .before))
+    -- element-write-ps-5
+    (λ c. small (c .before .before .before .before .before .before .before .before .before))
     -- add-p
-    (λ c. next (c .before .before .before .before .before .before .before .before))
+    (λ c. next (c .before .before .before .before .before .before .before .before .before))
     -- loop-less
-    (λ c. falls _ _ (c .before .before .before .before .before .before .before .before .loop-test .taken))
+    (λ c. falls _ _ (c .before .before .before .before .before .before .before .before .before .loop-test .taken))
     -- loop-again
     (λ c.
-    let turn = c .before .before .before .before .before .before .before .before in
+    let turn = c .before .before .before .before .before .before .before .before .before in
     let after = c .before .before .before .after-delta in (
       turn-most _ _ (turn .loop-test .taken),
       ⊎-elim

@@ -151,19 +151,19 @@ advance-spec =
     (entry e .pre .0, (ndrivers-is _ _ (valid e .reachable), (nsignals-is _ _ (valid e .reachable), at .loop .inv .2 .signals))))
     -- wake-requires
     (λ c κs.
-    let at = c .before .before .before .before .before .before .before .before .before .before .before .before in
+    let at = c .before .before .before .before .before .before .before .before .before .before .before .before .before in
     let e = looked at in
     (entry e .pre .0, (nprocesses-is _ _ (valid e .reachable), (time-most _ _ (valid e), processes-kept _ (facts e) _ (valid e) _ (at .before .actives .ensures) _ _ (at .loop .inv .2)))))
     -- add-self
     (λ c.
-    let at = c .before .before .before .before .before .before .before .before .before .before .before .before .before .before .before .before .before in
+    let at = c .before .before .before .before .before .before .before .before .before .before .before .before .before .before .before .before .before .before .before in
     search (needs, deltas-kept _ _ _ (at .loop .inv .2), delta at .few))
     -- returns-2
     (λ c.
-    let processes = c .before .before .before .before .wake in
-    let signals = c .before .before .before .before .before .before .before .before .before .before .before .before .resolve in
-    let passed = c .before .before .before .before .before .before .before .before .before .before .before .before .before .before .before .before .loop-test in
-    let at = c .before .before .before .before .before .before .before .before .before .before .before .before .before .before .before .before .before in
+    let processes = c .before .before .before .before .before .wake in
+    let signals = c .before .before .before .before .before .before .before .before .before .before .before .before .before .before .resolve in
+    let passed = c .before .before .before .before .before .before .before .before .before .before .before .before .before .before .before .before .before .before .loop-test in
+    let at = c .before .before .before .before .before .before .before .before .before .before .before .before .before .before .before .before .before .before .before in
     let e = looked at in
     rw (delta at .is)
     (delta-answers _ (facts e) _ (valid e) _ (at .before .actives .ensures) _ (at .loop .self) _ _ _ (passed .left) (at .loop .inv .2) (record { resolved = signals .ensures; woken = processes .ensures }) (delta at .few)))

@@ -45,6 +45,7 @@ returns c =
       standings = refl;
       deadlines = refl;
       faults = refl;
+      nodes = refl;
     })
 
 pub first-spec : {M : Type 1} → statement M

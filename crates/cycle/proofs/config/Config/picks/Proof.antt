@@ -12,7 +12,7 @@ use Rattle.expressions.specs.Reading.{Runs}
 use Rattle.cycle.specs.declared.config.Config.{Config}
 use Rattle.cycle.specs.declared.picks.Turns.{Turns}
 use Rattle.cycle.proofs.Changes.{Sized}
-use Rattle.cycle.proofs.OrderLaws.{turns-within, picks-answer}
+use Rattle.cycle.proofs.OrderLaws.{turns-within, picks-answer, tellable}
 use Rattle.cycle.proofs.Turning.{Turning, Turn, Stepped, statement-there, is-ready, turning-next, goes-on, turning-none, turning-past, turning-end, early, in-16, process-in-model, place-spans, in-variables, wait-small, skip-turn, store-turn, jump-turn, wait-turn, wait-for-turn, stop-turn, in-drivers, waveform, word-held, full-turn, schedule-turn}
 use Rattle.cycle.proofs.config.Config.picks.Statement.{statement}
 use Rattle.cycle.proofs.config.Config.picks.Tie as tie
@@ -87,6 +87,7 @@ sized c =
       standings = search needs;
       deadlines = search needs;
       faults = search needs;
+      nodes = search needs;
       variables = search needs;
     }
 
@@ -194,6 +195,12 @@ mul-self-5 c = omega (arith, in-16 (turn (c .before .before .before .before .bef
 element-write-self-5 : tie.Need-element-write-self-5 Inv-loop μ-loop
 element-write-self-5 c = in-16 (turn (c .before .before .before .before .before .before .before))
 
+mul-self-6 : tie.Need-mul-self-6 Inv-loop μ-loop
+mul-self-6 c = omega (arith, in-16 (turn (c .before .before .before .before .before .before .before)))
+
+element-write-self-6 : tie.Need-element-write-self-6 Inv-loop μ-loop
+element-write-self-6 c = in-16 (turn (c .before .before .before .before .before .before .before))
+
 loop-less-4 : tie.Need-loop-less-4 Inv-loop μ-loop
 loop-less-4 c = falls (c .before .before .before .before .before .before .before)
 
@@ -203,11 +210,11 @@ loop-again-4 c = next (c .before .before .before .before .before .before .before
 first-time-requires : tie.Need-first-time-requires Inv-loop μ-loop
 first-time-requires c κs = early (turn (c .before .before .before .before .before .before .before .before))
 
-mul-self-6 : tie.Need-mul-self-6 Inv-loop μ-loop
-mul-self-6 c = omega (arith, in-drivers (turn (c .before .before .before .before .before .before .before .before .before)) _ _ _ (c .before .before .before .before .before .before .effect2 .given .1))
+mul-self-7 : tie.Need-mul-self-7 Inv-loop μ-loop
+mul-self-7 c = omega (arith, in-drivers (turn (c .before .before .before .before .before .before .before .before .before)) _ _ _ (c .before .before .before .before .before .before .effect2 .given .1))
 
-element-write-self-6 : tie.Need-element-write-self-6 Inv-loop μ-loop
-element-write-self-6 c = in-drivers (turn (c .before .before .before .before .before .before .before .before .before)) _ _ _ (c .before .before .before .before .before .before .effect2 .given .1)
+element-write-self-7 : tie.Need-element-write-self-7 Inv-loop μ-loop
+element-write-self-7 c = in-drivers (turn (c .before .before .before .before .before .before .before .before .before)) _ _ _ (c .before .before .before .before .before .before .effect2 .given .1)
 
 mul-f : tie.Need-mul-f Inv-loop μ-loop
 mul-f c = omega (arith, in-drivers (turn (c .before .before .before .before .before .before .before .before .before)) _ _ _ (c .before .before .before .before .before .before .effect2 .given .1))
@@ -215,11 +222,11 @@ mul-f c = omega (arith, in-drivers (turn (c .before .before .before .before .bef
 element-set-from-f : tie.Need-element-set-from-f Inv-loop μ-loop
 element-set-from-f c = in-drivers (turn (c .before .before .before .before .before .before .before .before .before)) _ _ _ (c .before .before .before .before .before .before .effect2 .given .1)
 
-mul-self-7 : tie.Need-mul-self-7 Inv-loop μ-loop
-mul-self-7 c = omega (arith, in-16 (turn (c .before .before .before .before .before .before .before .before .before)))
+mul-self-8 : tie.Need-mul-self-8 Inv-loop μ-loop
+mul-self-8 c = omega (arith, in-16 (turn (c .before .before .before .before .before .before .before .before .before)))
 
-element-write-self-7 : tie.Need-element-write-self-7 Inv-loop μ-loop
-element-write-self-7 c = in-16 (turn (c .before .before .before .before .before .before .before .before .before))
+element-write-self-8 : tie.Need-element-write-self-8 Inv-loop μ-loop
+element-write-self-8 c = in-16 (turn (c .before .before .before .before .before .before .before .before .before))
 
 loop-less-5 : tie.Need-loop-less-5 Inv-loop μ-loop
 loop-less-5 c = falls (c .before .before .before .before .before .before .before .before .before)
@@ -230,11 +237,11 @@ loop-again-5 c = next (c .before .before .before .before .before .before .before
 enum-known-effect-3 : tie.Need-enum-known-effect-3 Inv-loop μ-loop
 enum-known-effect-3 c = search needs
 
-mul-self-8 : tie.Need-mul-self-8 Inv-loop μ-loop
-mul-self-8 c = omega (arith, in-16 (turn (c .before .before .before .before)))
+mul-self-9 : tie.Need-mul-self-9 Inv-loop μ-loop
+mul-self-9 c = omega (arith, in-16 (turn (c .before .before .before .before)))
 
-element-write-self-8 : tie.Need-element-write-self-8 Inv-loop μ-loop
-element-write-self-8 c = in-16 (turn (c .before .before .before .before))
+element-write-self-9 : tie.Need-element-write-self-9 Inv-loop μ-loop
+element-write-self-9 c = in-16 (turn (c .before .before .before .before))
 
 loop-less-6 : tie.Need-loop-less-6 Inv-loop μ-loop
 loop-less-6 c = falls (c .before .before .before .before)
@@ -245,11 +252,11 @@ loop-again-6 c = next (c .before .before .before .before) _ (jump-turn (turn (c 
 enum-told-2 : tie.Need-enum-told-2 Inv-loop μ-loop
 enum-told-2 c = search needs
 
-mul-self-9 : tie.Need-mul-self-9 Inv-loop μ-loop
-mul-self-9 c = omega (arith, in-16 (turn (c .before .before .before)))
+mul-self-10 : tie.Need-mul-self-10 Inv-loop μ-loop
+mul-self-10 c = omega (arith, in-16 (turn (c .before .before .before)))
 
-element-write-self-9 : tie.Need-element-write-self-9 Inv-loop μ-loop
-element-write-self-9 c = in-16 (turn (c .before .before .before))
+element-write-self-10 : tie.Need-element-write-self-10 Inv-loop μ-loop
+element-write-self-10 c = in-16 (turn (c .before .before .before))
 
 loop-less-7 : tie.Need-loop-less-7 Inv-loop μ-loop
 loop-less-7 c = falls (c .before .before .before)
@@ -260,11 +267,11 @@ loop-again-7 c = next (c .before .before .before) _ (wait-turn (turn (c .before 
 enum-known-effect-4 : tie.Need-enum-known-effect-4 Inv-loop μ-loop
 enum-known-effect-4 c = search needs
 
-mul-self-10 : tie.Need-mul-self-10 Inv-loop μ-loop
-mul-self-10 c = omega (arith, in-16 (turn (c .before .before .before .before)))
+mul-self-11 : tie.Need-mul-self-11 Inv-loop μ-loop
+mul-self-11 c = omega (arith, in-16 (turn (c .before .before .before .before)))
 
-element-write-self-10 : tie.Need-element-write-self-10 Inv-loop μ-loop
-element-write-self-10 c = in-16 (turn (c .before .before .before .before))
+element-write-self-11 : tie.Need-element-write-self-11 Inv-loop μ-loop
+element-write-self-11 c = in-16 (turn (c .before .before .before .before))
 
 cast-self : tie.Need-cast-self Inv-loop μ-loop
 cast-self c = search needs
@@ -272,11 +279,11 @@ cast-self c = search needs
 add-self : tie.Need-add-self Inv-loop μ-loop
 add-self c = omega (arith, early (turn (c .before .before .before .before)), wait-small (turn (c .before .before .before .before)) _ (c .before .effect4 .given .1))
 
-mul-self-11 : tie.Need-mul-self-11 Inv-loop μ-loop
-mul-self-11 c = omega (arith, in-16 (turn (c .before .before .before .before)))
+mul-self-12 : tie.Need-mul-self-12 Inv-loop μ-loop
+mul-self-12 c = omega (arith, in-16 (turn (c .before .before .before .before)))
 
-element-write-self-11 : tie.Need-element-write-self-11 Inv-loop μ-loop
-element-write-self-11 c = in-16 (turn (c .before .before .before .before))
+element-write-self-12 : tie.Need-element-write-self-12 Inv-loop μ-loop
+element-write-self-12 c = in-16 (turn (c .before .before .before .before))
 
 loop-less-8 : tie.Need-loop-less-8 Inv-loop μ-loop
 loop-less-8 c = falls (c .before .before .before .before)
@@ -287,17 +294,23 @@ loop-again-8 c = next (c .before .before .before .before) _ (wait-for-turn (turn
 enum-known-effect-5 : tie.Need-enum-known-effect-5 Inv-loop μ-loop
 enum-known-effect-5 c = search needs
 
-mul-self-12 : tie.Need-mul-self-12 Inv-loop μ-loop
-mul-self-12 c = omega (arith, in-16 (turn (c .before .before .before .before)))
-
-element-write-self-12 : tie.Need-element-write-self-12 Inv-loop μ-loop
-element-write-self-12 c = in-16 (turn (c .before .before .before .before))
-
 mul-self-13 : tie.Need-mul-self-13 Inv-loop μ-loop
 mul-self-13 c = omega (arith, in-16 (turn (c .before .before .before .before)))
 
 element-write-self-13 : tie.Need-element-write-self-13 Inv-loop μ-loop
 element-write-self-13 c = in-16 (turn (c .before .before .before .before))
+
+mul-self-14 : tie.Need-mul-self-14 Inv-loop μ-loop
+mul-self-14 c = omega (arith, in-16 (turn (c .before .before .before .before)))
+
+element-write-self-14 : tie.Need-element-write-self-14 Inv-loop μ-loop
+element-write-self-14 c = in-16 (turn (c .before .before .before .before))
+
+mul-self-15 : tie.Need-mul-self-15 Inv-loop μ-loop
+mul-self-15 c = omega (arith, in-16 (turn (c .before .before .before .before)))
+
+element-write-self-15 : tie.Need-element-write-self-15 Inv-loop μ-loop
+element-write-self-15 c = in-16 (turn (c .before .before .before .before))
 
 loop-less-9 : tie.Need-loop-less-9 Inv-loop μ-loop
 loop-less-9 c = falls (c .before .before .before .before)
@@ -306,11 +319,14 @@ loop-again-9 : tie.Need-loop-again-9 Inv-loop μ-loop
 loop-again-9 c = next (c .before .before .before .before) _ (stop-turn (turn (c .before .before .before .before)) _ (c .before .effect5 .given .1))
 
 reply-requires : tie.Need-reply-requires Inv-loop μ-loop
-reply-requires c κs = search needs
+reply-requires c κs =
+    let at = c .before .before .before .before .before in
+    let st = start at in
+    (search needs, tellable (st .pre .0 .facts) (at .loop .inv .valid) _ (at .loop .inv .whole))
 
 returns : tie.Need-returns Inv-loop μ-loop
 returns c =
-    let at = c .before .before .before .before .before in
+    let at = c .before .before .before .before .before .before in
     let inv = at .loop .inv in
     picks-answer (start at .args .which)
     (record {
@@ -318,7 +334,7 @@ returns c =
       valid = inv .valid;
       turns = part at;
       part = looked at .turns-of .ensures;
-      rest = turning-end inv (c .before .before .before .before .loop-test .left);
+      rest = turning-end inv (c .before .before .before .before .before .loop-test .left);
     })
     _ (c .reply .ensures)
 
@@ -360,41 +376,45 @@ picks-spec =
     element-write-self-4
     mul-self-5
     element-write-self-5
+    mul-self-6
+    element-write-self-6
     loop-less-4
     loop-again-4
     first-time-requires
-    mul-self-6
-    element-write-self-6
-    mul-f
-    element-set-from-f
     mul-self-7
     element-write-self-7
+    mul-f
+    element-set-from-f
+    mul-self-8
+    element-write-self-8
     loop-less-5
     loop-again-5
     enum-known-effect-3
-    mul-self-8
-    element-write-self-8
+    mul-self-9
+    element-write-self-9
     loop-less-6
     loop-again-6
     enum-told-2
-    mul-self-9
-    element-write-self-9
+    mul-self-10
+    element-write-self-10
     loop-less-7
     loop-again-7
     enum-known-effect-4
-    mul-self-10
-    element-write-self-10
-    cast-self
-    add-self
     mul-self-11
     element-write-self-11
+    cast-self
+    add-self
+    mul-self-12
+    element-write-self-12
     loop-less-8
     loop-again-8
     enum-known-effect-5
-    mul-self-12
-    element-write-self-12
     mul-self-13
     element-write-self-13
+    mul-self-14
+    element-write-self-14
+    mul-self-15
+    element-write-self-15
     loop-less-9
     loop-again-9
     reply-requires
