@@ -25,8 +25,9 @@ struct Way {
     below: bool,
     /// It is in an operand b; a has a value.
     after_a: bool,
-    /// It is in an operand a; b would fail too.
-    before_b: bool,
+    /// It is in an operand a, and b would fail too: the operator's kind, the lowest
+    /// such one.
+    before_b: Option<u8>,
     /// An operand that is skipped would fail.
     skipped: bool,
 }
@@ -91,7 +92,24 @@ const FAILURES: &[Row] = &[
     }),
     ("a node fails below another operator", |f| f.way.below),
     ("b fails behind a value of a", |f| f.way.after_a),
-    ("a fails, b would fail too", |f| f.way.before_b),
+    ("a sum's a fails, b would fail too", |f| {
+        f.way.before_b == Some(SUM)
+    }),
+    ("a difference's a fails, b would fail too", |f| {
+        f.way.before_b == Some(DIFFERENCE)
+    }),
+    ("a product's a fails, b would fail too", |f| {
+        f.way.before_b == Some(PRODUCT)
+    }),
+    ("a division's a fails, b would fail too", |f| {
+        matches!(f.way.before_b, Some(QUOTIENT | MOD | REM))
+    }),
+    ("a relation's a fails, b would fail too", |f| {
+        matches!(f.way.before_b, Some(13 | 14))
+    }),
+    ("a of `and`, `or`, `xor` fails, b would fail too", |f| {
+        matches!(f.way.before_b, Some(7..=9))
+    }),
     ("a value fails, its delay would fail too", |f| f.late),
     ("a node of several trees fails", |f| f.trees > 1),
 ];
@@ -283,7 +301,9 @@ impl Play<'_> {
             if let Some(found) = self.walk(operand, way) {
                 way.below |= can_fail(n);
                 way.after_a |= at == 1;
-                way.before_b |= at == 0 && operands.len() == 2 && self.fails(n.b);
+                if at == 0 && operands.len() == 2 && self.fails(n.b) {
+                    way.before_b.get_or_insert(n.kind);
+                }
                 return Some(found);
             }
         }
@@ -392,7 +412,7 @@ mod tests {
             below,
         ];
         let behind = "b fails behind a value of a";
-        let before = "a fails, b would fail too";
+        let before = "a sum's a fails, b would fail too";
         assert_eq!(of_nested(over, two), one);
         assert_eq!(of_nested(two, over), [&one[..], &[behind]].concat());
         assert_eq!(of_nested(over, by_zero), [&one[..], &[before]].concat());

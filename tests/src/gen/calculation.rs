@@ -182,8 +182,9 @@ impl Maker<'_> {
 
     /// An expression with a fault; some have another one behind the first.
     fn new_fault(&mut self) -> u16 {
-        let kind = self.rng.choose(&[QUOTIENT, MOD, REM]);
-        let (a, b) = match self.rng.weighted(&[18, 4, 2, 2, 2, 2]) {
+        let kinds = [SUM, DIFFERENCE, PRODUCT, QUOTIENT, MOD, REM];
+        let kind = self.rng.choose(&kinds);
+        let (a, b) = match self.rng.weighted(&[18, 4, 2, 2, 3, 3]) {
             0 => return self.by_zero(),
             1 => return self.too_large(),
             2 => (self.too_large(), self.leaf(0)),
@@ -197,17 +198,30 @@ impl Maker<'_> {
         self.b.binary(kind, a, b)
     }
 
-    /// A condition that compares an integer; now and then it is the second operand
-    /// of `and` or `or`, which may skip it.
-    fn condition(&mut self, node: u16) -> u16 {
-        let k = self.leaf(0);
-        let asks = self.b.binary(14, node, k);
-        if self.rng.chance(2, 3) {
-            return asks;
+    /// A condition that compares an integer. Now and then it is the second operand
+    /// of `and` or `or`, which may skip it; and behind one with a fault there may be
+    /// another.
+    fn condition(&mut self, node: u16, fault: bool) -> u16 {
+        let (relation, k) = (self.rng.choose(&[13, 14]), self.leaf(0));
+        match self.rng.weighted(&[8, 5, 2, 2]) {
+            2 if fault => {
+                let other = self.by_zero();
+                self.b.binary(relation, node, other)
+            }
+            3 if fault => {
+                let (other, asks) = (self.by_zero(), self.b.binary(relation, node, k));
+                let other = self.b.binary(14, other, k);
+                let kind = self.rng.choose(&[7, 8, 9]);
+                self.b.binary(kind, asks, other)
+            }
+            1 => {
+                let asks = self.b.binary(14, node, k);
+                let decides = self.b.binary(relation, k, k);
+                let kind = self.rng.choose(&[7, 8]);
+                self.b.binary(kind, decides, asks)
+            }
+            _ => self.b.binary(14, node, k),
         }
-        let decides = self.b.binary(self.rng.choose(&[13, 14]), k, k);
-        let kind = self.rng.choose(&[7, 8]);
-        self.b.binary(kind, decides, asks)
     }
 
     /// Puts an integer expression into a statement, in this role; behind a value
@@ -229,12 +243,12 @@ impl Maker<'_> {
             }
             NullDelay => self.b.release(LINE, node),
             Unless => {
-                let condition = self.condition(node);
+                let condition = self.condition(node, fault);
                 self.b.unless(condition, next)
             }
             Until => {
                 let value = self.leaf(other);
-                let condition = self.condition(node);
+                let condition = self.condition(node, fault);
                 let turn = self.b.integer(5);
                 self.b.schedule(s, value, soon);
                 self.b.wait(1 << s, condition, turn)
