@@ -8,6 +8,8 @@ use Rattle.values.specs.Bench as Values
 use Rattle.values.specs.Bench.{holds, Holds}
 use Rattle.integers.specs.Division.{quotient, rem, modulo}
 use Rattle.integers.proofs.Remainders.{division-laws}
+use Rattle.rules.specs.Evaluation.{failure}
+use Rattle.rules.specs.Failing.{AtFault}
 use Rattle.session.proofs.FaultLaws.{fault-laws}
 use Rattle.base.specs.Rules.{firstFailing}
 use Rattle.model.specs.Rules.{recordRules, Accepted}
@@ -55,6 +57,10 @@ inner-accepted : Accepted innerSum
 unfolding the-checks
 inner-accepted = record { totals = refl; fields = refl; trees = refl; types = refl; owners = refl; nulls = refl }
 
+inner-named : AtFault innerSum reading 3 (failure 2 1)
+unfolding the-orders
+inner-named = fault-laws .named innerSum inner-accepted reading 3 (omega arith)
+
 pub faults-used : FaultsUsed
 unfolding the-orders
 faults-used =
@@ -63,9 +69,11 @@ faults-used =
       accepted = inner-accepted;
       there = omega arith;
       fails = refl;
-      at-fault = fault-laws .named innerSum inner-accepted reading 3 (omega arith);
+      at-fault = inner-named;
+      order = inner-named .order;
       itself = refl;
-      first-operand = (_, refl);
+      before = inner-named .valued;
+      evaluated = refl;
       done = refl;
       stops = refl;
       fault-told = refl;

@@ -15,6 +15,7 @@ use Rattle.model.specs.Nulls.{nullOk, nullsOk}
 use Rattle.model.specs.Owners.{pairBelow, driversRise, driversOf, singleOk, driverFor, readsBy, nextReads, readsOwn, statementOwned, ownersOk}
 use Rattle.rules.specs.Configuration.{drivingOf, firstDrivers, firstSignal, first}
 use Rattle.rules.specs.Evaluation.{ranged, negateOf, sumOf, differenceOf, equalOf, lessOf, productOf, divided, valueBy, nextValue, evalOf}
+use Rattle.rules.specs.Failing.{orderBy, nextOrder, evaluationOrder}
 use Rattle.rules.specs.Statements.{withDelay, effectBy, effectOf, before, scheduled, overflows, nextPlace, driverAfter, applied, stepped}
 use Rattle.rules.specs.Steps.{transactionDue, taken, deadlineDue, active, undriven, signalAfter, signalsAfter, inSet, changedIn, wokenIf, wokenAt, processAfterDelta, deltaStep, shifted, timeStep}
 use Rattle.rules.specs.Orders.{isReady, isStopped, picked, dueTimes, dueNow, advanced, lowestReady, settledFrom, settled, readOf}
@@ -26,7 +27,7 @@ unfolding anyBelow joinBelow listBelow upTo course firstWith
     codeOf low high notOf standard inRow pairIn pairOf resolutionBy resolutionOf
     typeBy nextType typeOf driverFor
     drivingOf firstDrivers firstSignal first
-    quotient rem modulo ranged negateOf sumOf differenceOf equalOf lessOf productOf divided valueBy nextValue evalOf
+    quotient rem modulo ranged negateOf sumOf differenceOf equalOf lessOf productOf divided valueBy nextValue evalOf orderBy nextOrder evaluationOrder
     withDelay effectBy effectOf before scheduled overflows nextPlace driverAfter applied stepped
     transactionDue taken deadlineDue active undriven signalAfter signalsAfter inSet changedIn wokenIf wokenAt processAfterDelta deltaStep
     shifted timeStep

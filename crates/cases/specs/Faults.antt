@@ -7,14 +7,13 @@ use Rattle.base.specs.Bytes.{byteAt, longAt}
 use Rattle.base.specs.Rules.{firstFailing}
 use Rattle.values.specs.Bench.{Row, _gives_}
 use Rattle.blocks.specs.Records.{plain, Model}
-use Rattle.blocks.specs.declared.records.NodeRecord.{NodeRecord}
 use Rattle.fields.specs.Fields.{absent}
 use Rattle.trees.specs.Trees.{integer, boolean}
 use Rattle.model.specs.Rules.{recordRules, Accepted}
 use Rattle.rules.specs.Configuration.{processIn, first, stopped}
 use Rattle.rules.specs.declared.value.Value.the-variants.{Fault}
 use Rattle.rules.specs.Evaluation.{Environment, environmentOf, failure, noNode, evalOf}
-use Rattle.rules.specs.Failing.{HasValue, AtFault}
+use Rattle.rules.specs.Failing.{evaluationOrder, HaveValues, AtFault}
 use Rattle.rules.specs.Invariant.{Stopping}
 use Rattle.rules.specs.Orders.{Outcome, picked}
 use Rattle.session.specs.Lists.{Order, answerOf}
@@ -148,9 +147,12 @@ pub record FaultsUsed : Type 0 where
   pub accepted : Accepted innerSum
   pub there : 3 < length (innerSum .nodes)
   pub fails : evalOf innerSum reading 3 ≡ Fault (failure 2 1)
-  pub at-fault : AtFault innerSum reading (failure 2 1) by rw fails at (laws .named innerSum accepted reading 3 there)
+  pub at-fault : AtFault innerSum reading 3 (failure 2 1) by rw fails at (laws .named innerSum accepted reading 3 there)
+  pub order : evaluationOrder innerSum reading 3 ≡ at-fault .before ++ (2 ∷ at-fault .after) by at-fault .order
   pub itself : evalOf innerSum reading 2 ≡ Fault (failure 2 1) by at-fault .fails
-  pub first-operand : HasValue innerSum reading 0 by at-fault .first
+  pub before : HaveValues innerSum reading (at-fault .before) by at-fault .valued
+  -- the order is that of the expression (0 + 1) + 1: node 1 twice
+  pub evaluated : evaluationOrder innerSum reading 3 ≡ 0 ∷ 1 ∷ 2 ∷ 1 ∷ 3 ∷ []
   pub done : pick .refusal ≡ 0
   pub stops : processIn (pick .after .processes) 0 .standing ≡ stopped
   pub fault-told : faultIn (answerOf pick) ≡ processIn (pick .after .processes) 0 .fault by laws .told innerSum accepted [] 0 done .fault

@@ -2,7 +2,6 @@
 -- document 02 add their rows.
 use mathlib.Core.Path.{_≡_}
 use mathlib.Core.List.{List, [], _∷_, map, _++_}
-use Prim.Native.Nat.{ℕ}
 use lib.ListN.{length, replicate}
 use Rattle.values.specs.Nine.{U, X, ‘0’, ‘-’, W, L}
 use Rattle.values.specs.Bench as Values

@@ -118,7 +118,7 @@ module _ (M : Model) (fs : Facts M) (c : Configuration) (r : Reachable M c) wher
             deadline = tt;
           }
 
-      woken-by : (v : Value) → FaultNamed M now v → Valid (wokenBy M p q v)
+      woken-by : (v : Value) → FaultNamed M now (s .b) v → Valid (wokenBy M p q v)
       woken-by (Fault f) g = stopped-valid M p (c .time) q (r .each-process p h) f (inl (g .fault, g .node))
       woken-by (Of x) g = by-test Valid (eqb x 1) _ _ (λ e. wakes-valid) (λ e. r .each-process p h)
 

@@ -42,14 +42,14 @@ Stops M P = (r : Failure) → ExpressionFails M r ⊎ (r ≡ failure noNode 2) �
 module _ (M : Model) (fs : Facts M) (p : ℕ) where
   module _ (e : Environment) (ok : EnvironmentFits M e) where
     -- what holds after any value of the type, and of a stop, holds after a value
-    value-then : (P : Effect → Type 0) (ty : ℕ) (v : Value) (next : ℕ → Effect) → Typed ty v → FaultNamed M e v → Stops M P → ((x : ℕ) → valueOk ty x ≡ true → P (next x))
+    value-then : (P : Effect → Type 0) (ty n : ℕ) (v : Value) (next : ℕ → Effect) → Typed ty v → FaultNamed M e n v → Stops M P → ((x : ℕ) → valueOk ty x ≡ true → P (next x))
         → P (withValue v next)
-    value-then P ty (Of x) next h k s g = g x h
-    value-then P ty (Fault r) next h k s g = s r (inl (k .fault, k .node))
+    value-then P ty n (Of x) next h k s g = g x h
+    value-then P ty n (Fault r) next h k s g = s r (inl (k .fault, k .node))
 
     expression : (P : Effect → Type 0) (ty n : ℕ) (next : ℕ → Effect) → Expression M p ty n → Stops M P → ((x : ℕ) → valueOk ty x ≡ true → P (next x)) → P (withValue (evalOf M e n) next)
     expression P ty n next x s g =
-        value-then P ty (evalOf M e n) next (rw (x .type) at (value-typed M fs e ok n (x .node))) (fault-named M fs e n (x .node)) s g
+        value-then P ty n (evalOf M e n) next (rw (x .type) at (value-typed M fs e ok n (x .node))) (fault-named M fs e n (x .node)) s g
 
     -- the same after a delay
     delay : (P : Effect → Type 0) (n : ℕ) (next : ℕ → Effect) → Expression M p integer n → Stops M P → ((d : ℕ) → d < 2147483648 → P (next d)) → P (withDelay (evalOf M e n) next)

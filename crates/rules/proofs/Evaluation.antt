@@ -1,6 +1,6 @@
 -- The laws of evaluation: a node's value from those of its operands, what it depends on, and its type. Assumes nothing.
 use mathlib.Core.Path.{_≡_, refl, sym, ap, _∙_}
-use mathlib.Core.Logic.{inl, inr, ⊎-elim}
+use mathlib.Core.Logic.{⊎-elim}
 use mathlib.Core.Bool.{Bool, true, false, not}
 use Prim.Native.Nat.{ℕ, zero, suc, _+_, _≤_, _<_}
 use native.Mathlib.Omega.{arith}
@@ -30,7 +30,7 @@ use Rattle.model.specs.Owners.{readsOwn}
 use Rattle.model.specs.Facts.{Facts, NodeFits, NodeTyped}
 use Rattle.rules.specs.declared.value.Value.{Value}
 use Rattle.rules.specs.declared.value.Value.the-variants.{Of, Fault}
-use Rattle.rules.specs.Evaluation.{Environment, failedAt, truth, int, one, two, unlessFirst, notBy, andBy, orBy, xorBy, ranged, negateOf, sumOf, differenceOf, equalOf, lessOf, productOf, divided, valueBy, nextValue, evalOf}
+use Rattle.rules.specs.Evaluation.{Environment, truth, int, one, two, unlessFirst, notBy, andBy, orBy, xorBy, ranged, negateOf, sumOf, differenceOf, equalOf, lessOf, productOf, divided, valueBy, nextValue, evalOf}
 use Rattle.rules.proofs.Signed.{int-zero, int-size}
 
 -- node d is read in the same way with e, p and q as with e', p' and q': where its kind reads them they are the same

@@ -1,14 +1,20 @@
--- The node at fault: a fault of an expression names a node whose own operation failed. Assumes nothing.
-use mathlib.Core.Path.{_≡_, refl, sym, _∙_}
+-- The node at fault is the first that failed in the order of evaluation. Assumes nothing.
+use mathlib.Core.Path.{_≡_, refl, sym, subst, _∙_}
+use mathlib.Core.Bool.{Bool, true, false, true≢false}
 use mathlib.Core.Logic.{_⊎_, inl, inr, ⊎-elim}
+use mathlib.Core.List.{List, [], _∷_, _++_, append-assoc}
 use Prim.Native.Nat.{ℕ, zero, suc, _≤_, _<_}
 use native.Mathlib.Omega.{arith}
 use native.Mathlib.Nat.{not-suc-le-zero}
 use lib.Dec.{eqb, ltb}
 use lib.ListN.{length}
 use lib.IntN.{ℤ, natAbs, negℤ, _+ℤ_, _-ℤ_, _*ℤ_}
-use Rattle.base.proofs.Cases.{by-test}
+use borrow.Author.Tests.{lt-ltb, le-ltb}
+use Rattle.base.specs.Cases.{_∣_, _⇒_}
+use Rattle.base.specs.Course.{course}
+use Rattle.base.proofs.Cases.{by-test, either-way}
 use Rattle.base.proofs.Below.{Each, _and_, among}
+use Rattle.base.proofs.Course.{earlier}
 use Rattle.integers.specs.Division.{quotient, rem, modulo}
 use Rattle.blocks.specs.Records.{Model, nodeAt}
 use Rattle.blocks.specs.declared.records.NodeRecord.{NodeRecord}
@@ -17,8 +23,8 @@ use Rattle.model.specs.Facts.{Facts, NodeFits}
 use Rattle.rules.specs.declared.value.Failure.{Failure}
 use Rattle.rules.specs.declared.value.Value.{Value}
 use Rattle.rules.specs.declared.value.Value.the-variants.{Of, Fault}
-use Rattle.rules.specs.Evaluation.{Environment, int, failure, one, two, unlessFirst, ranged, negateOf, sumOf, differenceOf, equalOf, lessOf, productOf, divided, valueBy, evalOf}
-use Rattle.rules.specs.Failing.{AtFault, FaultNamed}
+use Rattle.rules.specs.Evaluation.{Environment, int, failure, one, two, unlessFirst, decidedBy, ranged, negateOf, sumOf, differenceOf, equalOf, lessOf, productOf, divided, valueBy, evalOf}
+use Rattle.rules.specs.Failing.{leavesB, orderBy, nextOrder, evaluationOrder, HaveValues, AtFault, FaultNamed}
 use Rattle.rules.proofs.Evaluation.{node-value}
 
 -- what the operation of node n gives: a value, or one of its faults at n
@@ -34,23 +40,133 @@ divided-own : (n : ℕ) (f : ℤ → ℤ → ℤ) (x y : ℕ) → Own n (divided
 unfolding divided
 divided-own n f x y = by-test (Own n) (eqb y 0) _ _ (λ e. inr refl) (λ e. tt)
 
+values-append : (M : Model) (e : Environment) (xs ys : List ℕ) → HaveValues M e xs → HaveValues M e ys → HaveValues M e (xs ++ ys)
+values-append M e [] ys h k = k
+values-append M e (x ∷ xs) ys h k = (h .0, values-append M e xs ys (h .1) k)
+
+module _ (M : Model) (e : Environment) (n : ℕ) (f : NodeFits M n) where
+  abbrev kind : ℕ
+  kind = nodeAt M n .kind
+
+  abbrev order : ℕ → List ℕ
+  order k = evaluationOrder M e k
+
+  -- the order of a node from those of its operands
+  order-leaf : kind < 6 → order n ≡ n ∷ []
+  unfolding evaluationOrder nextOrder course orderBy
+  order-leaf l = rw (lt-ltb kind 6 l)
+
+  order-node : 6 ≤ kind → order n ≡ order (nodeAt M n .a) ++ (leavesB M e n ⇒ [] ∣ order (nodeAt M n .b)) ++ (n ∷ [])
+  unfolding evaluationOrder nextOrder course orderBy
+  order-node l =
+      rw (le-ltb kind 6 l, earlier (nextOrder M e) [] n (nodeAt M n .a) (f .lowerA l))
+      (either-way (leavesB M e n) (λ t. rw t)
+      (λ t.
+      let no : (kind ≡ 6 → ⊥) × (kind ≡ 10 → ⊥) = (λ k. true≢false (rw k at t), λ k. true≢false (rw k at t)) in
+      rw (t, earlier (nextOrder M e) [] n (nodeAt M n .b) (f .lowerB (omega (arith, no .0)) (no .1)))))
+
 module _ (M : Model) (fs : Facts M) (e : Environment) where
-  abbrev Named : Value → Type 0
+  abbrev Named : ℕ → Value → Type 0
   Named = FaultNamed M e
 
-  one-named : (p : Value) (f : ℕ → Value) → Named p → ((x : ℕ) → p ≡ Of x → Named (f x)) → Named (one p f)
-  one-named (Of x) f h g = g x refl
-  one-named (Fault r) f h g = h
+  abbrev Values : List ℕ → Type 0
+  Values = HaveValues M e
 
-  two-named : (p q : Value) (f : ℕ → ℕ → Value) → Named p → Named q → ((x y : ℕ) → p ≡ Of x → q ≡ Of y → Named (f x y)) → Named (two p q f)
-  two-named p q f h k g = one-named p _ h (λ x a. one-named q _ k (λ y b. g x y a b))
+  -- a node with operands
+  module _ (n : ℕ) (h : n < length (M .nodes)) (l : 6 ≤ nodeAt M n .kind) where
+    abbrev a : ℕ
+    a = nodeAt M n .a
 
-  unless-named : (decides : ℕ) (p q : Value) → Named p → Named q → Named (unlessFirst decides p q)
-  unless-named decides p q h k = one-named p _ h (λ x a. by-test Named (eqb x decides) _ _ (λ t. tt) (λ t. k))
+    abbrev b : ℕ
+    b = nodeAt M n .b
+
+    -- the nodes of a, and those of b where it is evaluated
+    abbrev firsts : List ℕ
+    firsts = evaluationOrder M e a
+
+    abbrev seconds : List ℕ
+    seconds = leavesB M e n ⇒ [] ∣ evaluationOrder M e b
+
+    order-is : evaluationOrder M e n ≡ firsts ++ seconds ++ (n ∷ [])
+    order-is = order-node M e n (fs .node n h) l
+
+    -- a node of a failed
+    first-fails : (r : Failure) → AtFault M e a r → AtFault M e n r
+    first-fails r x =
+        record {
+          fault = x .fault;
+          node = x .node;
+          before = x .before;
+          after = x .after ++ seconds ++ (n ∷ []);
+          order = order-is ∙ rw (x .order, append-assoc, append-assoc, append-assoc);
+          valued = x .valued;
+          fails = x .fails;
+        }
+
+    -- those of a have values, and a node of b failed
+    second-fails : leavesB M e n ≡ false → Values firsts → (r : Failure) → AtFault M e b r → AtFault M e n r
+    second-fails t v r x =
+        record {
+          fault = x .fault;
+          node = x .node;
+          before = firsts ++ x .before;
+          after = x .after ++ (n ∷ []);
+          order = order-is ∙ rw (t, x .order, append-assoc, append-assoc, append-assoc);
+          valued = values-append M e firsts (x .before) v (x .valued);
+          fails = x .fails;
+        }
+
+    -- all of them have values: the node itself decides
+    module _ (v : Values firsts) (w : Values seconds) where
+      operands : Values (firsts ++ seconds)
+      operands = values-append M e firsts seconds v w
+
+      node-fails : (f : ℕ) → (f ≡ 1) ⊎ (f ≡ 4) → evalOf M e n ≡ Fault (failure n f) → AtFault M e n (failure n f)
+      node-fails f k x =
+          record { fault = k; node = h; before = firsts ++ seconds; after = []; order = order-is; valued = operands; fails = x }
+
+      node-gives : (x : Value) → evalOf M e n ≡ x → Own n x → Named n x
+      node-gives (Of x) k o = rw order-is (values-append M e (firsts ++ seconds) (n ∷ []) operands ((x, k), tt))
+      node-gives (Fault r) k o =
+          ⊎-elim
+          (λ (s : r ≡ failure n 1). rw s (node-fails 1 (inl refl) (rw s at k)))
+          (λ (s : r ≡ failure n 4). rw s (node-fails 4 (inr refl) (rw s at k))) o
+
+    -- by the values of the operands
+    by-one : leavesB M e n ≡ true → (p : Value) → Named a p → (f : ℕ → Value) → evalOf M e n ≡ one p f → ((x : ℕ) → Own n (f x)) → Named n (one p f)
+    by-one t (Of x) v f w o = node-gives v (rw t tt) (f x) w (o x)
+    by-one t (Fault r) v f w o = first-fails r v
+
+    by-two : leavesB M e n ≡ false → (p q : Value) → Named a p → Named b q → (f : ℕ → ℕ → Value) → evalOf M e n ≡ two p q f → ((x y : ℕ) → Own n (f x y)) → Named n (two p q f)
+    by-two t (Of x) (Of y) v u f w o = node-gives v (rw t u) (f x y) w (o x y)
+    by-two t (Of x) (Fault r) v u f w o = second-fails t v r u
+    by-two t (Fault r) q v u f w o = first-fails r v
+
+    -- `and` and `or`: by the type, and by a
+    module _ (decides : ℕ) (f : ℕ → ℕ → ℕ) where
+      abbrev ty : Bool
+      ty = eqb (typeOf M n) boolean
+
+      abbrev skipping : Value → Value → Value
+      skipping p q = ty ⇒ unlessFirst decides p q ∣ two p q (λ x y. Of (f x y))
+
+      -- b is the value where a does not decide
+      second-gives : leavesB M e n ≡ false → Values firsts → (q : Value) → Named b q → evalOf M e n ≡ q → Named n q
+      second-gives t v (Of y) u w = node-gives v (rw t u) (Of y) w tt
+      second-gives t v (Fault r) u w = second-fails t v r u
+
+      by-skipping : (p q : Value) → leavesB M e n ≡ decidedBy (typeOf M n) p decides → Named a p → Named b q → evalOf M e n ≡ skipping p q → Named n (skipping p q)
+      by-skipping (Fault r) q t v u w = by-test (Named n) ty _ _ (λ k. first-fails r v) (λ k. first-fails r v)
+      by-skipping (Of x) q t v u w =
+          by-test (Named n) ty _ _
+          (λ k. by-test (Named n) (eqb x decides) _ _
+          (λ d. let s : leavesB M e n ≡ true = t ∙ rw (k, d) in node-gives v (rw s tt) (Of x) (rw (k, d) at w) tt)
+          (λ d. second-gives (t ∙ rw (k, d)) v q u (rw (k, d) at w)))
+          (λ k. by-two (t ∙ rw k) (Of x) q v u (λ x y. Of (f x y)) (rw k at w) (λ x y. tt))
 
   module _ (n : ℕ) (h : n < length (M .nodes))
-      (hp : 6 ≤ nodeAt M n .kind → Named (evalOf M e (nodeAt M n .a)))
-      (hq : 7 ≤ nodeAt M n .kind → (nodeAt M n .kind ≡ 10 → ⊥) → Named (evalOf M e (nodeAt M n .b)))
+      (hp : 6 ≤ nodeAt M n .kind → Named (nodeAt M n .a) (evalOf M e (nodeAt M n .a)))
+      (hq : 7 ≤ nodeAt M n .kind → (nodeAt M n .kind ≡ 10 → ⊥) → Named (nodeAt M n .b) (evalOf M e (nodeAt M n .b)))
     where
       abbrev d : NodeRecord
       d = nodeAt M n
@@ -62,60 +178,57 @@ module _ (M : Model) (fs : Facts M) (e : Environment) where
       q = evalOf M e (d .b)
 
       abbrev NamedHere : Type 0
-      NamedHere = Named (valueBy e n d (typeOf M n) p q)
+      NamedHere = Named n (valueBy e n d (typeOf M n) p q)
 
-      -- what the operation gives, where it is the node's value and the operands have values
-      own : (v : Value) → evalOf M e n ≡ v → Own n v → (x : ℕ) → p ≡ Of x → ((d .kind ≡ 10 → ⊥) → (y : ℕ) × (q ≡ Of y)) → Named v
-      own (Of z) w o x a b = tt
-      own (Fault r) w o x a b =
-          ⊎-elim
-          (λ (s : r ≡ failure n 1). rw s (record { fault = inl refl; node = h; fails = rw s at w; first = (x, a); second = b }))
-          (λ (s : r ≡ failure n 4). rw s (record { fault = inr refl; node = h; fails = rw s at w; first = (x, a); second = b })) o
+      leaf : d .kind < 6 → (x : ℕ) → evalOf M e n ≡ Of x → Named n (Of x)
+      leaf l x w = rw (order-leaf M e n (fs .node n h) l) ((x, w), tt)
 
-      own-two : (f : ℕ → ℕ → Value) → 7 ≤ d .kind → (d .kind ≡ 10 → ⊥) → evalOf M e n ≡ two p q f → ((x y : ℕ) → Own n (f x y)) → Named (two p q f)
-      own-two f l k w o =
-          two-named p q f (hp (omega arith)) (hq l k) (λ x y a b. own (f x y) (rw (a, b) at w) (o x y) x a (λ t. (y, b)))
+      unary : 6 ≤ d .kind → leavesB M e n ≡ true → (f : ℕ → Value) → evalOf M e n ≡ one p f → ((x : ℕ) → Own n (f x)) → Named n (one p f)
+      unary l t f w o = by-one n h l t p (hp l) f w o
+
+      binary : 7 ≤ d .kind → (d .kind ≡ 10 → ⊥) → leavesB M e n ≡ false → (f : ℕ → ℕ → Value) → evalOf M e n ≡ two p q f → ((x y : ℕ) → Own n (f x y)) → Named n (two p q f)
+      binary l k t f w o = by-two n h (omega arith) t p q (hp (omega arith)) (hq l k) f w o
 
       named-here : evalOf M e n ≡ valueBy e n d (typeOf M n) p q → 1 ≤ d .kind → d .kind ≤ 18 → NamedHere
       unfolding valueBy negateOf sumOf differenceOf equalOf lessOf productOf
       named-here w l m = among (λ k. d .kind ≡ k → NamedHere) 1 18 (d .kind) cases l (omega arith) refl
         where
-          -- by the type: f of one or two operands which cannot fail, or the second operand unless the first decides
-          plain : (k : ℕ) → d .kind ≡ k → 7 ≤ k → (k ≡ 10 → ⊥) → (f : ℕ → ℕ → ℕ) → Named (two p q (λ x y. Of (f x y)))
-          plain k s g t f = two-named p q _ (hp (omega arith)) (hq (omega arith) (λ z. t (sym s ∙ z))) (λ x y a b. tt)
-
           cases : Each (λ k. d .kind ≡ k → NamedHere) 1 18
           cases =
-              (λ k. rw k tt)
-              and (λ k. rw k tt)
-              and (λ k. rw k tt)
-              and (λ k. rw k tt)
-              and (λ k. rw k tt)
-              and (λ k. rw k (by-test Named (eqb (typeOf M n) boolean) _ _ (λ t. one-named p _ (hp (omega arith)) (λ x a. tt)) (λ t. one-named p _ (hp (omega arith)) (λ x a. tt))))
-              and (λ k. rw k (by-test Named (eqb (typeOf M n) boolean) _ _ (λ t. unless-named 0 p q (hp (omega arith)) (hq (omega arith) (λ z. omega arith))) (λ t. plain 7 k (omega arith) (λ z. omega arith) _)))
-              and (λ k. rw k (by-test Named (eqb (typeOf M n) boolean) _ _ (λ t. unless-named 1 p q (hp (omega arith)) (hq (omega arith) (λ z. omega arith))) (λ t. plain 8 k (omega arith) (λ z. omega arith) _)))
-              and (λ k. rw k (by-test Named (eqb (typeOf M n) boolean) _ _ (λ t. plain 9 k (omega arith) (λ z. omega arith) _) (λ t. plain 9 k (omega arith) (λ z. omega arith) _)))
-              and (λ k. rw k (one-named p _ (hp (omega arith)) (λ x a. own (negateOf n x) (rw (k, a) at w) (ranged-own n (negℤ (int x))) x a (λ t. absurd (t k)))))
-              and (λ k. rw k (own-two (sumOf n) (omega arith) (λ z. omega arith) (rw k at w) (λ x y. ranged-own n (int x +ℤ int y))))
-              and (λ k. rw k (own-two (differenceOf n) (omega arith) (λ z. omega arith) (rw k at w) (λ x y. ranged-own n (int x -ℤ int y))))
-              and (λ k. rw k (plain 13 k (omega arith) (λ z. omega arith) _))
-              and (λ k. rw k (plain 14 k (omega arith) (λ z. omega arith) _))
-              and (λ k. rw k (own-two (productOf n) (omega arith) (λ z. omega arith) (rw k at w) (λ x y. ranged-own n (int x *ℤ int y))))
-              and (λ k. rw k (own-two (divided n quotient) (omega arith) (λ z. omega arith) (rw k at w) (divided-own n quotient)))
-              and (λ k. rw k (own-two (divided n modulo) (omega arith) (λ z. omega arith) (rw k at w) (divided-own n modulo)))
-              and (λ k. rw k (own-two (divided n rem) (omega arith) (λ z. omega arith) (rw k at w) (divided-own n rem)))
+              (λ k. rw k (leaf (omega arith) _ (rw k at w)))
+              and (λ k. rw k (leaf (omega arith) _ (rw k at w)))
+              and (λ k. rw k (leaf (omega arith) _ (rw k at w)))
+              and (λ k. rw k (leaf (omega arith) _ (rw k at w)))
+              and (λ k. rw k (leaf (omega arith) _ (rw k at w)))
+              and (λ k. rw k (by-test (Named n) (eqb (typeOf M n) boolean) _ _
+              (λ t. unary (omega arith) (rw k) _ (rw (k, t) at w) (λ x. tt))
+              (λ t. unary (omega arith) (rw k) _ (rw (k, t) at w) (λ x. tt))))
+              and (λ k. rw k (by-skipping n h (omega arith) 0 _ p q (rw k) (hp (omega arith)) (hq (omega arith) (λ z. omega arith)) (rw k at w)))
+              and (λ k. rw k (by-skipping n h (omega arith) 1 _ p q (rw k) (hp (omega arith)) (hq (omega arith) (λ z. omega arith)) (rw k at w)))
+              and (λ k. rw k (by-test (Named n) (eqb (typeOf M n) boolean) _ _
+              (λ t. binary (omega arith) (λ z. omega arith) (rw k) _ (rw (k, t) at w) (λ x y. tt))
+              (λ t. binary (omega arith) (λ z. omega arith) (rw k) _ (rw (k, t) at w) (λ x y. tt))))
+              and (λ k. rw k (unary (omega arith) (rw k) (negateOf n) (rw k at w) (λ x. ranged-own n (negℤ (int x)))))
+              and (λ k. rw k (binary (omega arith) (λ z. omega arith) (rw k) (sumOf n) (rw k at w) (λ x y. ranged-own n (int x +ℤ int y))))
+              and (λ k. rw k (binary (omega arith) (λ z. omega arith) (rw k) (differenceOf n) (rw k at w) (λ x y. ranged-own n (int x -ℤ int y))))
+              and (λ k. rw k (binary (omega arith) (λ z. omega arith) (rw k) equalOf (rw k at w) (λ x y. tt)))
+              and (λ k. rw k (binary (omega arith) (λ z. omega arith) (rw k) lessOf (rw k at w) (λ x y. tt)))
+              and (λ k. rw k (binary (omega arith) (λ z. omega arith) (rw k) (productOf n) (rw k at w) (λ x y. ranged-own n (int x *ℤ int y))))
+              and (λ k. rw k (binary (omega arith) (λ z. omega arith) (rw k) (divided n quotient) (rw k at w) (divided-own n quotient)))
+              and (λ k. rw k (binary (omega arith) (λ z. omega arith) (rw k) (divided n modulo) (rw k at w) (divided-own n modulo)))
+              and (λ k. rw k (binary (omega arith) (λ z. omega arith) (rw k) (divided n rem) (rw k at w) (divided-own n rem)))
               and tt
 
-  named-below : (m n : ℕ) → n < m → n < length (M .nodes) → Named (evalOf M e n)
+  named-below : (m n : ℕ) → n < m → n < length (M .nodes) → Named n (evalOf M e n)
   named-below zero n l h = absurd (not-suc-le-zero l)
   named-below (suc m) n l h =
       let f = fs .node n h in
-      rw (node-value M e n f)
+      subst (Named n) (sym (node-value M e n f))
       (named-here n h
       (λ k. let g = f .lowerA k in named-below m (nodeAt M n .a) (omega arith) (omega arith))
       (λ k t. let g = f .lowerB k t in named-below m (nodeAt M n .b) (omega arith) (omega arith))
       (node-value M e n f) (f .kindLeast) (f .kindMost))
 
-  -- a fault of a node names the node at fault
-  pub fault-named : (n : ℕ) → n < length (M .nodes) → Named (evalOf M e n)
+  -- a node's value says which node failed first, if any did
+  pub fault-named : (n : ℕ) → n < length (M .nodes) → Named n (evalOf M e n)
   fault-named n h = named-below (suc n) n (omega arith) h

@@ -1,27 +1,60 @@
--- What the node at fault is: "the number of the first node that failed in the order of evaluation" (document 02, item 3).
+-- The node at fault, by the order of evaluation: "the number of the first node that failed in the order of evaluation" (document 02,
+-- item 3).
 use mathlib.Core.Path.{_≡_}
+use mathlib.Core.Bool.{Bool, true, false}
 use mathlib.Core.Logic.{_⊎_}
+use mathlib.Core.List.{List, [], _∷_, _++_}
 use Prim.Native.Nat.{ℕ, _<_}
-use lib.ListN.{length}
+use lib.Dec.{ltb}
+use lib.ListN.{length, getD}
+use Rattle.base.specs.Cases.{_∣_, _⇒_, _is_⇒_}
+use Rattle.base.specs.Course.{course}
 use Rattle.blocks.specs.Records.{Model, nodeAt}
+use Rattle.trees.specs.Trees.{typeOf}
 use Rattle.rules.specs.declared.value.Failure.{Failure}
 use Rattle.rules.specs.declared.value.Value.{Value}
 use Rattle.rules.specs.declared.value.Value.the-variants.{Of, Fault}
-use Rattle.rules.specs.Evaluation.{Environment, evalOf}
+use Rattle.rules.specs.Evaluation.{Environment, decidedBy, evalOf}
 
--- node n has a value
+-- node n has no operand b, or "boolean `and` and `or` skip b when a decides"
+abbrev pub leavesB : Model → Environment → ℕ → Bool
+leavesB M e n =
+    nodeAt M n .kind is 6 ⇒ true
+    ∣ nodeAt M n .kind is 7 ⇒ decidedBy (typeOf M n) (evalOf M e (nodeAt M n .a)) 0
+    ∣ nodeAt M n .kind is 8 ⇒ decidedBy (typeOf M n) (evalOf M e (nodeAt M n .a)) 1
+    ∣ nodeAt M n .kind is 10 ⇒ true
+    ∣ false
+
+-- "a before b": the nodes of a, p, then those of b, q, then node n itself
+unfoldable pub orderBy : Model → Environment → ℕ → List ℕ → List ℕ → List ℕ
+orderBy M e n p q = ltb (nodeAt M n .kind) 6 ⇒ (n ∷ []) ∣ (p ++ (leavesB M e n ⇒ [] ∣ q) ++ (n ∷ []))
+
+unfoldable pub nextOrder : Model → Environment → ℕ → List (List ℕ) → List ℕ
+nextOrder M e n orders = orderBy M e n (getD orders (nodeAt M n .a) []) (getD orders (nodeAt M n .b) [])
+
+-- the nodes of which node n's value is worked out, itself the last, in the order of evaluation
+unfoldable pub evaluationOrder : Model → Environment → ℕ → List ℕ
+evaluationOrder M e n = course (nextOrder M e) n
+
+-- node n has a value; each of some nodes has one
 abbrev pub HasValue : Model → Environment → ℕ → Type 0
 HasValue M e n = (x : ℕ) × (evalOf M e n ≡ Of x)
 
--- a failure names a node of the model whose own operation failed: the node has this failure, and its operands have values
-pub record AtFault (M : Model) (e : Environment) (r : Failure) : Type 0 where
+abbrev pub HaveValues : Model → Environment → List ℕ → Type 0
+HaveValues M e [] = Unit {0}
+HaveValues M e (n ∷ ns) = HasValue M e n × HaveValues M e ns
+
+-- the failure of node n names the first node that failed: a node of the model, before which each has a value
+pub record AtFault (M : Model) (e : Environment) (n : ℕ) (r : Failure) : Type 0 where
   pub fault : (r .fault ≡ 1) ⊎ (r .fault ≡ 4)
   pub node : r .node < length (M .nodes)
+  pub before : List ℕ
+  pub after : List ℕ
+  pub order : evaluationOrder M e n ≡ before ++ (r .node ∷ after)
+  pub valued : HaveValues M e before
   pub fails : evalOf M e (r .node) ≡ Fault r
-  pub first : HasValue M e (nodeAt M (r .node) .a)
-  pub second : (nodeAt M (r .node) .kind ≡ 10 → ⊥) → HasValue M e (nodeAt M (r .node) .b)
 
--- where a node's value is a fault, it is at fault
-abbrev pub FaultNamed : Model → Environment → Value → Type 0
-FaultNamed M e (Of x) = Unit {0}
-FaultNamed M e (Fault r) = AtFault M e r
+-- what a value of node n says of the nodes: none of them failed, or which was the first
+abbrev pub FaultNamed : Model → Environment → ℕ → Value → Type 0
+FaultNamed M e n (Of x) = HaveValues M e (evaluationOrder M e n)
+FaultNamed M e n (Fault r) = AtFault M e n r

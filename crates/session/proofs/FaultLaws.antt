@@ -1,21 +1,19 @@
 -- The node at fault, and where a pick's answer tells it. Assumes nothing.
 use mathlib.Core.Path.{_≡_, refl}
-use mathlib.Core.List.{List}
-use Prim.Native.Nat.{ℕ, _<_}
+use Prim.Native.Nat.{ℕ}
 use native.Mathlib.Omega.{arith}
-use lib.ListN.{length}
 use Rattle.blocks.specs.Records.{Model}
 use Rattle.model.specs.Facts.{Facts}
 use Rattle.model.proofs.Facts.{facts}
-use Rattle.rules.specs.Configuration.{ProcessState, Configuration, processIn, first}
+use Rattle.rules.specs.Configuration.{Configuration, processIn, first}
 use Rattle.rules.specs.Invariant.{Reachable}
-use Rattle.rules.specs.Orders.{Outcome, picked}
+use Rattle.rules.specs.Orders.{Outcome}
 use Rattle.rules.proofs.Failing.{fault-named}
 use Rattle.rules.proofs.FirstReachable.{first-reachable}
 use Rattle.rules.proofs.Invariant.{failure-small}
 use Rattle.rules.proofs.Outcomes.{Pick, pick-refused, pick-done, pick-is}
 use Rattle.rules.proofs.StepReachable.{stepped-reachable}
-use Rattle.session.specs.Lists.{Order, answerOf, played}
+use Rattle.session.specs.Lists.{answerOf}
 use Rattle.session.specs.FaultLaws.{PickTold, FaultLaws}
 use Rattle.session.proofs.Answers.{fault-byte, zero-byte, node-word}
 use Rattle.session.proofs.InTime.{played-reachable}

@@ -29,8 +29,8 @@ after M os = played M os (first M) .end
 
 -- of every model that meets the rules of records
 pub record FaultLaws : Type 0 where
-  -- a fault of a node's value names a node whose own operation failed
-  pub named : (M : Model) → Accepted M → (e : Environment) (n : ℕ) → n < length (M .nodes) → FaultNamed M e (evalOf M e n)
+  -- "the number of the first node that failed in the order of evaluation"
+  pub named : (M : Model) → Accepted M → (e : Environment) (n : ℕ) → n < length (M .nodes) → FaultNamed M e n (evalOf M e n)
   -- after any orders, what a done pick answers
   pub told : (M : Model) → Accepted M → (os : List Order) (p : ℕ) → picked M p (after M os) .refusal ≡ 0
       → PickTold M (answerOf (picked M p (after M os))) (processIn (picked M p (after M os) .after .processes) p)
