@@ -119,7 +119,7 @@ module _ (M : Model) (fs : Facts M) (c : Configuration) (r : Reachable M c) wher
           }
 
       woken-by : (v : Value) → FaultNamed M now (s .b) v → Valid (wokenBy M p q v)
-      woken-by (Fault f) g = stopped-valid M p (c .time) q (r .each-process p h) f (inl (g .fault, g .node))
+      woken-by (Fault f) g = stopped-valid M p (c .time) q (r .each-process p h) f (inl (g .expression))
       woken-by (Of x) g = by-test Valid (eqb x 1) _ _ (λ e. wakes-valid) (λ e. r .each-process p h)
 
       woken-if : Valid (wokenIf M p now s q)

@@ -28,9 +28,9 @@ use Rattle.rules.specs.declared.effect.Effect.{Effect}
 use Rattle.rules.specs.declared.effect.Effect.the-variants.{Wait, WaitFor, Stop}
 use Rattle.rules.specs.Configuration.{Configuration, processIn}
 use Rattle.rules.specs.Evaluation.{Environment, environmentOf, failure, noNode, int, evalOf}
-use Rattle.rules.specs.Failing.{FaultNamed}
+use Rattle.rules.specs.Failing.{ExpressionFails, FaultNamed}
 use Rattle.rules.specs.Statements.{withValue, withDelay, effectBy, effectOf}
-use Rattle.rules.specs.Invariant.{ExpressionFails, EffectFits, ScheduleFits, Reachable}
+use Rattle.rules.specs.Invariant.{EffectFits, ScheduleFits, Reachable}
 use Rattle.rules.proofs.Evaluation.{Typed, EnvironmentFits, value-typed}
 use Rattle.rules.proofs.Failing.{fault-named}
 use Rattle.rules.proofs.Signed.{below-half, not-negative}
@@ -45,7 +45,7 @@ module _ (M : Model) (fs : Facts M) (p : ℕ) where
     value-then : (P : Effect → Type 0) (ty n : ℕ) (v : Value) (next : ℕ → Effect) → Typed ty v → FaultNamed M e n v → Stops M P → ((x : ℕ) → valueOk ty x ≡ true → P (next x))
         → P (withValue v next)
     value-then P ty n (Of x) next h k s g = g x h
-    value-then P ty n (Fault r) next h k s g = s r (inl (k .fault, k .node))
+    value-then P ty n (Fault r) next h k s g = s r (inl (k .expression))
 
     expression : (P : Effect → Type 0) (ty n : ℕ) (next : ℕ → Effect) → Expression M p ty n → Stops M P → ((x : ℕ) → valueOk ty x ≡ true → P (next x)) → P (withValue (evalOf M e n) next)
     expression P ty n next x s g =

@@ -94,8 +94,7 @@ module _ (M : Model) (fs : Facts M) (e : Environment) where
     first-fails : (r : Failure) → AtFault M e a r → AtFault M e n r
     first-fails r x =
         record {
-          fault = x .fault;
-          node = x .node;
+          expression = x .expression;
           before = x .before;
           after = x .after ++ seconds ++ (n ∷ []);
           order = order-is ∙ rw (x .order, append-assoc, append-assoc, append-assoc);
@@ -107,8 +106,7 @@ module _ (M : Model) (fs : Facts M) (e : Environment) where
     second-fails : leavesB M e n ≡ false → Values firsts → (r : Failure) → AtFault M e b r → AtFault M e n r
     second-fails t v r x =
         record {
-          fault = x .fault;
-          node = x .node;
+          expression = x .expression;
           before = firsts ++ x .before;
           after = x .after ++ (n ∷ []);
           order = order-is ∙ rw (t, x .order, append-assoc, append-assoc, append-assoc);
@@ -123,7 +121,7 @@ module _ (M : Model) (fs : Facts M) (e : Environment) where
 
       node-fails : (f : ℕ) → (f ≡ 1) ⊎ (f ≡ 4) → evalOf M e n ≡ Fault (failure n f) → AtFault M e n (failure n f)
       node-fails f k x =
-          record { fault = k; node = h; before = firsts ++ seconds; after = []; order = order-is; valued = operands; fails = x }
+          record { expression = (k, h); before = firsts ++ seconds; after = []; order = order-is; valued = operands; fails = x }
 
       node-gives : (x : Value) → evalOf M e n ≡ x → Own n x → Named n x
       node-gives (Of x) k o = rw order-is (values-append M e (firsts ++ seconds) (n ∷ []) operands ((x, k), tt))

@@ -16,7 +16,7 @@ use Rattle.rules.specs.declared.value.Value.{Value}
 use Rattle.rules.specs.declared.value.Value.the-variants.{Of, Fault}
 use Rattle.rules.specs.Evaluation.{Environment, decidedBy, evalOf}
 
--- node n has no operand b, or "boolean `and` and `or` skip b when a decides"
+-- b of node n is not evaluated: there is none, or "boolean `and` and `or` skip b when a decides", or a failed
 abbrev pub leavesB : Model → Environment → ℕ → Bool
 leavesB M e n =
     nodeAt M n .kind is 6 ⇒ true
@@ -44,10 +44,13 @@ abbrev pub HaveValues : Model → Environment → List ℕ → Type 0
 HaveValues M e [] = Unit {0}
 HaveValues M e (n ∷ ns) = HasValue M e n × HaveValues M e ns
 
--- the failure of node n names the first node that failed: a node of the model, before which each has a value
+-- the faults that an expression can have, "an integer out of range" and "A divisor of 0", at a node of the model
+abbrev pub ExpressionFails : Model → Failure → Type 0
+ExpressionFails M r = ((r .fault ≡ 1) ⊎ (r .fault ≡ 4)) × (r .node < length (M .nodes))
+
+-- the failure of node n names the first node that failed: each before it has a value, and it has this failure
 pub record AtFault (M : Model) (e : Environment) (n : ℕ) (r : Failure) : Type 0 where
-  pub fault : (r .fault ≡ 1) ⊎ (r .fault ≡ 4)
-  pub node : r .node < length (M .nodes)
+  pub expression : ExpressionFails M r
   pub before : List ℕ
   pub after : List ℕ
   pub order : evaluationOrder M e n ≡ before ++ (r .node ∷ after)

@@ -12,6 +12,7 @@ use Rattle.fields.specs.Fields.{endOf, valueOk}
 use Rattle.fields.specs.Facts.{Spans}
 use Rattle.rules.specs.Configuration.{deltaLimit, lastTime, Transaction, DriverState, ProcessState, Configuration, driverIn, processIn, pastOf, ready, waiting, stopped}
 use Rattle.rules.specs.Evaluation.{failure, noNode}
+use Rattle.rules.specs.Failing.{ExpressionFails}
 use Rattle.rules.specs.declared.driven.Driven.{Driven}
 use Rattle.rules.specs.declared.driven.Driven.the-variants.{To, Null}
 use Rattle.rules.specs.declared.value.Failure.{Failure}
@@ -49,10 +50,6 @@ pub record DriverValid (s : SignalRecord) (t : ℕ) (d : DriverState) : Type 0 w
 abbrev pub DeadlineValid : ℕ → Option ℕ → Type 0
 DeadlineValid t none = Unit {0}
 DeadlineValid t (some d) = (t ≤ d) × (d ≤ lastDue)
-
--- the faults that an expression can have, "an integer out of range" and "A divisor of 0", at a node of the model
-abbrev pub ExpressionFails : Model → Failure → Type 0
-ExpressionFails M r = ((r .fault ≡ 1) ⊎ (r .fault ≡ 4)) × (r .node < length (M .nodes))
 
 -- what stops a process: an expression's fault at its node, or "65,535 for faults 2 and 3"
 abbrev pub Stopping : Model → Failure → Type 0
