@@ -1,17 +1,13 @@
--- What the rows of the proved table read: the end configuration of a list of orders, played from the model's first configuration, and
--- the fields of an answer.
+-- What the rows of the proved table read of the answers to a list of orders, played from the model's first configuration.
 use mathlib.Core.List.{List, []}
 use Prim.Native.Nat.{ℕ}
 use lib.ListN.{getD}
 use Rattle.base.specs.Bytes.{byteAt, wordAt}
 use Rattle.blocks.specs.Records.{Model}
-use Rattle.rules.specs.Configuration.{Configuration, first}
+use Rattle.rules.specs.Configuration.{first}
 use Rattle.session.specs.Lists.{Order, played}
 
--- the end configuration of a list of orders, and the answer to order n of it
-abbrev pub after : Model → List Order → Configuration
-after M os = played M os (first M) .end
-
+-- the answer to order n of a list
 abbrev pub answerTo : Model → List Order → ℕ → List ℕ
 answerTo M os n = getD (played M os (first M) .answers) n []
 

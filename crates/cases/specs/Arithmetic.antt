@@ -5,6 +5,7 @@ use mathlib.Core.List.{List, [], _∷_, map, _++_}
 use Prim.Native.Nat.{ℕ, _-_}
 use lib.IntN.{ℤ, pos, negsuc}
 use lib.ListN.{length, getD}
+use Rattle.session.specs.Lists.{after}
 use Rattle.base.specs.Rules.{firstFailing}
 use Rattle.values.specs.Bench.{Row, _gives_}
 use Rattle.integers.specs.Laws.{Leaves}
@@ -13,7 +14,7 @@ use Rattle.blocks.specs.declared.records.NodeRecord.{NodeRecord}
 use Rattle.trees.specs.Trees.{integer}
 use Rattle.model.specs.Rules.{recordRules}
 use Rattle.cases.specs.Forms.{variable, process, node, statement, pickOrder}
-use Rattle.cases.specs.Answers.{after, answerTo, faultIn}
+use Rattle.cases.specs.Answers.{answerTo, faultIn}
 
 -- an expression: its nodes, the last of which is its root; and its value, or its fault
 pub record Case : Type 0 where

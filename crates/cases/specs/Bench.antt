@@ -7,9 +7,9 @@ use Rattle.values.specs.Bench.{Row, _gives_}
 use Rattle.blocks.specs.Records.{plain, Model}
 use Rattle.trees.specs.Trees.{integer}
 use Rattle.rules.specs.Configuration.{driverIn}
-use Rattle.session.specs.Lists.{Order}
+use Rattle.session.specs.Lists.{Order, after}
 use Rattle.cases.specs.Forms.{signal, variable, process, driver, node, statement, pickOrder, settleOrder}
-use Rattle.cases.specs.Answers.{after, answerTo, saidIn, picksIn, faultIn}
+use Rattle.cases.specs.Answers.{answerTo, saidIn, picksIn, faultIn}
 
 -- variable 0 starts at 2,147,483,646. Process 0: variable 0 := variable 0 + 1
 abbrev pub adder : Model

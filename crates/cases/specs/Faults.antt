@@ -3,6 +3,7 @@ use mathlib.Core.Path.{_≡_}
 use mathlib.Core.List.{List, [], _∷_, map, _++_}
 use Prim.Native.Nat.{ℕ, _<_}
 use lib.ListN.{length}
+use Rattle.base.specs.Below.{All}
 use Rattle.base.specs.Bytes.{byteAt, longAt}
 use Rattle.base.specs.Rules.{firstFailing}
 use Rattle.values.specs.Bench.{Row, _gives_}
@@ -13,13 +14,13 @@ use Rattle.model.specs.Rules.{recordRules, Accepted}
 use Rattle.rules.specs.Configuration.{processIn, first, stopped}
 use Rattle.rules.specs.declared.value.Value.the-variants.{Fault}
 use Rattle.rules.specs.Evaluation.{Environment, environmentOf, failure, noNode, evalOf}
-use Rattle.rules.specs.Failing.{evaluationOrder, HaveValues, AtFault}
+use Rattle.rules.specs.Failing.{evaluationOrder, HasValue, AtFault}
 use Rattle.rules.specs.Invariant.{Stopping}
 use Rattle.rules.specs.Orders.{Outcome, picked}
-use Rattle.session.specs.Lists.{Order, answerOf}
+use Rattle.session.specs.Lists.{Order, answerOf, after}
 use Rattle.session.specs.FaultLaws.{FaultLaws}
 use Rattle.cases.specs.Forms.{signal, variable, process, driver, node, statement, pickOrder, advanceOrder, settleOrder}
-use Rattle.cases.specs.Answers.{after, answerTo, faultIn, nodeIn}
+use Rattle.cases.specs.Answers.{answerTo, faultIn, nodeIn}
 use Rattle.cases.specs.Arithmetic.{minus, most, failing, worker}
 use Rattle.cases.specs.Bench.{adder, scheduler}
 use Rattle.cases.specs.Claims.{_by_}
@@ -150,7 +151,7 @@ pub record FaultsUsed : Type 0 where
   pub at-fault : AtFault innerSum reading 3 (failure 2 1) by rw fails at (laws .named innerSum accepted reading 3 there)
   pub order : evaluationOrder innerSum reading 3 ≡ at-fault .before ++ (2 ∷ at-fault .after) by at-fault .order
   pub itself : evalOf innerSum reading 2 ≡ Fault (failure 2 1) by at-fault .fails
-  pub before : HaveValues innerSum reading (at-fault .before) by at-fault .valued
+  pub before : All (HasValue innerSum reading) (at-fault .before) by at-fault .valued
   -- the order is that of the expression (0 + 1) + 1: node 1 twice
   pub evaluated : evaluationOrder innerSum reading 3 ≡ 0 ∷ 1 ∷ 2 ∷ 1 ∷ 3 ∷ []
   pub done : pick .refusal ≡ 0

@@ -15,9 +15,8 @@ use Rattle.model.specs.Rules.{recordRules, Accepted}
 use Rattle.rules.specs.declared.driven.Driven.{Driven}
 use Rattle.rules.specs.declared.driven.Driven.the-variants.{To, Null}
 use Rattle.rules.specs.Configuration.{DriverState, Configuration, currentOf}
-use Rattle.session.specs.Lists.{Order}
+use Rattle.session.specs.Lists.{Order, after}
 use Rattle.cases.specs.Forms.{signal, process, driver, node, statement, block, pickOrder, advanceOrder, settleOrder}
-use Rattle.cases.specs.Answers.{after}
 
 -- signal 0 is a bus and 1 a register, both starting at '0'; 2 is a bus without a driver, starting at '1'.
 -- Process 0: 0 and 1 <= '1' after 0; both <= null after 1; wait. Process 1: both <= null after 0; wait.

@@ -11,14 +11,14 @@ use mathlib.Core.Logic.{⊎-elim}
 use lib.Dec.{eqb}
 use lib.ListN.{length, getD}
 use borrow.Author.Tests.{eqb-true, ne-eqb, eq-eqb}
-use Rattle.base.specs.Below.{anyBelow, joinBelow, listBelow}
+use Rattle.base.specs.Below.{anyBelow, joinBelow, listBelow, All}
 use Rattle.base.proofs.Below.{any-fails, any-same}
 use Rattle.base.proofs.Cases.{by-test}
 use Rattle.blocks.specs.Records.{Model}
 use Rattle.rules.specs.Configuration.{Transaction, Configuration, driverIn, processIn}
 use Rattle.rules.specs.Steps.{dueIn, transactionDue, deadlineAt, deadlineDue}
 use Rattle.rules.specs.Orders.{timesIn, optional, least, earliest, dueTimes, dueNow}
-use Rattle.rules.proofs.Lists.{All, all-left, all-right, all-weaker, all-part}
+use Rattle.rules.proofs.Lists.{all-left, all-right, all-weaker, all-part}
 use Rattle.rules.proofs.Earliest.{none-earlier}
 use Rattle.rules.proofs.DueTimes.{Within, driver-within, process-within, each-within, due-within, due-after}
 use Rattle.waveforms.specs.Pending.{never, firstTime, pendingOf, noDriver, NoneBefore}

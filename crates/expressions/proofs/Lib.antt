@@ -1,4 +1,5 @@
 pub mod Logical
+pub mod Pairs
 pub mod Recursion
 pub mod Runs
 pub mod Statements

@@ -7,6 +7,7 @@ ghost use mir.Syntax.{w32};
 ghost use mir.Val.{ofZ};
 ghost use Rattle.integers.specs.Division.{divisionOf};
 ghost use Rattle.rules.specs.Evaluation.{truth, int, failedAt, ranged, negateOf, sumOf, differenceOf, equalOf, lessOf, productOf, divided, one, two, decidedBy, notBy, andBy, orBy, xorBy};
+ghost use Rattle.expressions.specs.Operators.{operandsOf};
 use integers::division::Division;
 use rules::value::Failure;
 use rules::value::Value;
@@ -60,6 +61,24 @@ fn truth(t: bool) -> u32
     if t { 1 } else { 0 }
 }
 
+// The values of two operands, or the first fault: "a before b".
+pub enum Operands {
+    Values(u32, u32),
+    Failed(Failure),
+}
+
+fn both(p: Value, q: Value) -> Operands
+    ensures { λ r. ⌜ r ≡ operandsOf p q ⌝ }
+{
+    match p {
+        Value::Fault(e) => Operands::Failed(e),
+        Value::Of(x) => match q {
+            Value::Fault(e) => Operands::Failed(e),
+            Value::Of(y) => Operands::Values(x, y),
+        },
+    }
+}
+
 pub(crate) fn negate(n: u32, p: Value) -> Value
     ensures { λ r. ⌜ r ≡ one p (negateOf n) ⌝ }
 {
@@ -72,60 +91,45 @@ pub(crate) fn negate(n: u32, p: Value) -> Value
 pub(crate) fn plus(n: u32, p: Value, q: Value) -> Value
     ensures { λ r. ⌜ r ≡ two p q (sumOf n) ⌝ }
 {
-    match p {
-        Value::Fault(e) => Value::Fault(e),
-        Value::Of(x) => match q {
-            Value::Fault(e) => Value::Fault(e),
-            Value::Of(y) => in_range(n, int(x) + int(y)),
-        },
+    match both(p, q) {
+        Operands::Failed(e) => Value::Fault(e),
+        Operands::Values(x, y) => in_range(n, int(x) + int(y)),
     }
 }
 
 pub(crate) fn minus(n: u32, p: Value, q: Value) -> Value
     ensures { λ r. ⌜ r ≡ two p q (differenceOf n) ⌝ }
 {
-    match p {
-        Value::Fault(e) => Value::Fault(e),
-        Value::Of(x) => match q {
-            Value::Fault(e) => Value::Fault(e),
-            Value::Of(y) => in_range(n, int(x) - int(y)),
-        },
+    match both(p, q) {
+        Operands::Failed(e) => Value::Fault(e),
+        Operands::Values(x, y) => in_range(n, int(x) - int(y)),
     }
 }
 
 pub(crate) fn equal(p: Value, q: Value) -> Value
     ensures { λ r. ⌜ r ≡ two p q equalOf ⌝ }
 {
-    match p {
-        Value::Fault(e) => Value::Fault(e),
-        Value::Of(x) => match q {
-            Value::Fault(e) => Value::Fault(e),
-            Value::Of(y) => Value::Of(truth(x == y)),
-        },
+    match both(p, q) {
+        Operands::Failed(e) => Value::Fault(e),
+        Operands::Values(x, y) => Value::Of(truth(x == y)),
     }
 }
 
 pub(crate) fn less(p: Value, q: Value) -> Value
     ensures { λ r. ⌜ r ≡ two p q lessOf ⌝ }
 {
-    match p {
-        Value::Fault(e) => Value::Fault(e),
-        Value::Of(x) => match q {
-            Value::Fault(e) => Value::Fault(e),
-            Value::Of(y) => Value::Of(truth(int(x) < int(y))),
-        },
+    match both(p, q) {
+        Operands::Failed(e) => Value::Fault(e),
+        Operands::Values(x, y) => Value::Of(truth(int(x) < int(y))),
     }
 }
 
 pub(crate) fn product(n: u32, p: Value, q: Value) -> Value
     ensures { λ r. ⌜ r ≡ two p q (productOf n) ⌝ }
 {
-    match p {
-        Value::Fault(e) => Value::Fault(e),
-        Value::Of(x) => match q {
-            Value::Fault(e) => Value::Fault(e),
-            Value::Of(y) => in_range(n, int(x) * int(y)),
-        },
+    match both(p, q) {
+        Operands::Failed(e) => Value::Fault(e),
+        Operands::Values(x, y) => in_range(n, int(x) * int(y)),
     }
 }
 
@@ -133,18 +137,15 @@ pub(crate) fn product(n: u32, p: Value, q: Value) -> Value
 pub(crate) fn divide(n: u32, which: Division, p: Value, q: Value) -> Value
     ensures { λ r. ⌜ r ≡ two p q (divided n (divisionOf which)) ⌝ }
 {
-    match p {
-        Value::Fault(e) => Value::Fault(e),
-        Value::Of(x) => match q {
-            Value::Fault(e) => Value::Fault(e),
-            Value::Of(y) => {
-                if y == 0 {
-                    failed(n, 4)
-                } else {
-                    Value::Of(bits_of(integers::divide(which, int(x), int(y))))
-                }
+    match both(p, q) {
+        Operands::Failed(e) => Value::Fault(e),
+        Operands::Values(x, y) => {
+            if y == 0 {
+                failed(n, 4)
+            } else {
+                Value::Of(bits_of(integers::divide(which, int(x), int(y))))
             }
-        },
+        }
     }
 }
 
@@ -179,18 +180,15 @@ pub(crate) fn and(ty: usize, p: Value, q: Value) -> Value
     requires { ⌜ decidedBy ty p 0 ≡ false ⌝ }
     ensures { λ r. ⌜ r ≡ andBy ty p q ⌝ }
 {
-    match p {
-        Value::Fault(e) => Value::Fault(e),
-        Value::Of(x) => match q {
-            Value::Fault(e) => Value::Fault(e),
-            Value::Of(y) => {
-                if ty == 2 {
-                    Value::Of(y)
-                } else {
-                    Value::Of(values::and(x, y))
-                }
+    match both(p, q) {
+        Operands::Failed(e) => Value::Fault(e),
+        Operands::Values(x, y) => {
+            if ty == 2 {
+                Value::Of(y)
+            } else {
+                Value::Of(values::and(x, y))
             }
-        },
+        }
     }
 }
 
@@ -198,35 +196,29 @@ pub(crate) fn or(ty: usize, p: Value, q: Value) -> Value
     requires { ⌜ decidedBy ty p 1 ≡ false ⌝ }
     ensures { λ r. ⌜ r ≡ orBy ty p q ⌝ }
 {
-    match p {
-        Value::Fault(e) => Value::Fault(e),
-        Value::Of(x) => match q {
-            Value::Fault(e) => Value::Fault(e),
-            Value::Of(y) => {
-                if ty == 2 {
-                    Value::Of(y)
-                } else {
-                    Value::Of(values::or(x, y))
-                }
+    match both(p, q) {
+        Operands::Failed(e) => Value::Fault(e),
+        Operands::Values(x, y) => {
+            if ty == 2 {
+                Value::Of(y)
+            } else {
+                Value::Of(values::or(x, y))
             }
-        },
+        }
     }
 }
 
 pub(crate) fn xor(ty: usize, p: Value, q: Value) -> Value
     ensures { λ r. ⌜ r ≡ xorBy ty p q ⌝ }
 {
-    match p {
-        Value::Fault(e) => Value::Fault(e),
-        Value::Of(x) => match q {
-            Value::Fault(e) => Value::Fault(e),
-            Value::Of(y) => {
-                if ty == 2 {
-                    Value::Of(truth(x != y))
-                } else {
-                    Value::Of(values::xor(x, y))
-                }
+    match both(p, q) {
+        Operands::Failed(e) => Value::Fault(e),
+        Operands::Values(x, y) => {
+            if ty == 2 {
+                Value::Of(truth(x != y))
+            } else {
+                Value::Of(values::xor(x, y))
             }
-        },
+        }
     }
 }

@@ -9,6 +9,7 @@ use lib.Dec.{eqb, lit≤}
 use lib.ListN.{length, getD, replicate, length-map, length-take, length-append, length-replicate, getD-replicate}
 use lib.Seq.{getD-take}
 use borrow.Author.Tests.{eqb-true, eqb-false}
+use Rattle.base.specs.Below.{All}
 use Rattle.base.proofs.Cases.{by-test}
 use Rattle.base.proofs.Below.{at-append, map-at, list-length, list-at}
 use Rattle.blocks.specs.Records.{bus, Model, signalAt, driverAt, statementAt}
@@ -23,7 +24,6 @@ use Rattle.rules.specs.Failing.{FaultNamed}
 use Rattle.rules.specs.Steps.{taken, deadlineDue, active, withCurrent, undriven, valueAfter, signalAfter, signalsAfter, changedIn, wakes, wokenBy, wokenIf, wokenAt, processAfterDelta, deltaStep, shifted, timeStep}
 use Rattle.rules.specs.Orders.{optional, earliest, dueTimes}
 use Rattle.rules.specs.Invariant.{ValueOf, DriverValid, DeadlineValid, ProcessValid, Reachable}
-use Rattle.rules.proofs.Lists.{All}
 use Rattle.rules.proofs.Failing.{fault-named}
 use Rattle.rules.proofs.Waves.{driver-taken, driver-later}
 use Rattle.rules.proofs.Driving.{resolved-typed}

@@ -8,14 +8,13 @@ use Prim.Native.Nat.{ℕ, _≤_, _<_}
 use native.Mathlib.Omega.{arith}
 use lib.ListN.{length}
 use borrow.Author.Tests.{eqb-false}
-use Rattle.base.specs.Below.{anyBelow}
+use Rattle.base.specs.Below.{anyBelow, All}
 use Rattle.base.proofs.Below.{or-left, or-right, any-none}
 use Rattle.blocks.specs.Records.{Model}
 use Rattle.rules.specs.Configuration.{Transaction, Configuration, driverIn, processIn}
 use Rattle.rules.specs.Steps.{dueIn, transactionDue, deadlineAt, deadlineDue}
 use Rattle.rules.specs.Orders.{timesIn, optional, earliest, dueTimes, dueNow}
 use Rattle.rules.specs.Invariant.{lastDue, Rising, DeadlineValid, Reachable}
-use Rattle.rules.proofs.Lists.{All}
 use Rattle.rules.proofs.Earliest.{earliest-is, due-each}
 
 pub record Within (now u : ℕ) : Type 0 where

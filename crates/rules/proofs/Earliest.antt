@@ -7,12 +7,12 @@ use Prim.Native.Nat.{ℕ, zero, suc, _+_, _≤_, _<_, min}
 use native.Mathlib.Nat.{le-antisymm, eq-or-lt-of-le, le-of-suc-le-suc}
 use native.Mathlib.Omega.{arith}
 use lib.ListN.{length}
-use Rattle.base.specs.Below.{joinBelow, listBelow}
+use Rattle.base.specs.Below.{joinBelow, listBelow, All}
 use Rattle.base.proofs.Below.{split, list-none, list-more}
 use Rattle.blocks.specs.Records.{Model}
 use Rattle.rules.specs.Orders.{least, earliest, timesIn, optional, dueTimes}
 use Rattle.rules.specs.Configuration.{Configuration, driverIn, processIn}
-use Rattle.rules.proofs.Lists.{All, all-left, all-right, all-append, all-join, all-part}
+use Rattle.rules.proofs.Lists.{all-left, all-right, all-append, all-join, all-part}
 
 -- nothing is earlier than the least
 from-least : (s t : ℕ) (ts : List ℕ) → s ≤ least t ts → (s ≤ t) × All (λ u. s ≤ u) ts

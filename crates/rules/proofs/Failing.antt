@@ -10,6 +10,7 @@ use lib.Dec.{eqb, ltb}
 use lib.ListN.{length}
 use lib.IntN.{ℤ, natAbs, negℤ, _+ℤ_, _-ℤ_, _*ℤ_}
 use borrow.Author.Tests.{lt-ltb, le-ltb}
+use Rattle.base.specs.Below.{All}
 use Rattle.base.specs.Cases.{_∣_, _⇒_}
 use Rattle.base.specs.Course.{course}
 use Rattle.base.proofs.Cases.{by-test, either-way}
@@ -24,7 +25,8 @@ use Rattle.rules.specs.declared.value.Failure.{Failure}
 use Rattle.rules.specs.declared.value.Value.{Value}
 use Rattle.rules.specs.declared.value.Value.the-variants.{Of, Fault}
 use Rattle.rules.specs.Evaluation.{Environment, int, failure, one, two, unlessFirst, decidedBy, ranged, negateOf, sumOf, differenceOf, equalOf, lessOf, productOf, divided, valueBy, evalOf}
-use Rattle.rules.specs.Failing.{leavesB, orderBy, nextOrder, evaluationOrder, HaveValues, AtFault, FaultNamed}
+use Rattle.rules.specs.Failing.{leavesB, orderBy, nextOrder, evaluationOrder, HasValue, AtFault, FaultNamed}
+use Rattle.rules.proofs.Lists.{all-append}
 use Rattle.rules.proofs.Evaluation.{node-value}
 
 -- what the operation of node n gives: a value, or one of its faults at n
@@ -39,10 +41,6 @@ ranged-own n z = by-test (Own n) (ltb (natAbs z) 2147483648) _ _ (λ e. tt) (λ 
 divided-own : (n : ℕ) (f : ℤ → ℤ → ℤ) (x y : ℕ) → Own n (divided n f x y)
 unfolding divided
 divided-own n f x y = by-test (Own n) (eqb y 0) _ _ (λ e. inr refl) (λ e. tt)
-
-values-append : (M : Model) (e : Environment) (xs ys : List ℕ) → HaveValues M e xs → HaveValues M e ys → HaveValues M e (xs ++ ys)
-values-append M e [] ys h k = k
-values-append M e (x ∷ xs) ys h k = (h .0, values-append M e xs ys (h .1) k)
 
 module _ (M : Model) (e : Environment) (n : ℕ) (f : NodeFits M n) where
   abbrev kind : ℕ
@@ -70,7 +68,7 @@ module _ (M : Model) (fs : Facts M) (e : Environment) where
   Named = FaultNamed M e
 
   abbrev Values : List ℕ → Type 0
-  Values = HaveValues M e
+  Values = All (HasValue M e)
 
   -- a node with operands
   module _ (n : ℕ) (h : n < length (M .nodes)) (l : 6 ≤ nodeAt M n .kind) where
@@ -110,21 +108,21 @@ module _ (M : Model) (fs : Facts M) (e : Environment) where
           before = firsts ++ x .before;
           after = x .after ++ (n ∷ []);
           order = order-is ∙ rw (t, x .order, append-assoc, append-assoc, append-assoc);
-          valued = values-append M e firsts (x .before) v (x .valued);
+          valued = all-append (HasValue M e) firsts (x .before) v (x .valued);
           fails = x .fails;
         }
 
     -- all of them have values: the node itself decides
     module _ (v : Values firsts) (w : Values seconds) where
       operands : Values (firsts ++ seconds)
-      operands = values-append M e firsts seconds v w
+      operands = all-append (HasValue M e) firsts seconds v w
 
       node-fails : (f : ℕ) → (f ≡ 1) ⊎ (f ≡ 4) → evalOf M e n ≡ Fault (failure n f) → AtFault M e n (failure n f)
       node-fails f k x =
           record { expression = (k, h); before = firsts ++ seconds; after = []; order = order-is; valued = operands; fails = x }
 
       node-gives : (x : Value) → evalOf M e n ≡ x → Own n x → Named n x
-      node-gives (Of x) k o = rw order-is (values-append M e (firsts ++ seconds) (n ∷ []) operands ((x, k), tt))
+      node-gives (Of x) k o = rw order-is (all-append (HasValue M e) (firsts ++ seconds) (n ∷ []) operands ((x, k), tt))
       node-gives (Fault r) k o =
           ⊎-elim
           (λ (s : r ≡ failure n 1). rw s (node-fails 1 (inl refl) (rw s at k)))

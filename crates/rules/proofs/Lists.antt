@@ -8,12 +8,7 @@ use native.Mathlib.Decide.{ℕ-discrete}
 use native.Mathlib.Omega.{arith}
 use lib.ListN.{length, getD, set, length-map}
 use lib.Seq.{getD-set-same, getD-set-other}
-use Rattle.base.specs.Below.{joinBelow}
-
--- P holds of each element
-abbrev pub All : {A : Type 0} → (A → Type 0) → List A → Type 0
-All P [] = Unit {0}
-All P (x ∷ xs) = P x × All P xs
+use Rattle.base.specs.Below.{joinBelow, All}
 
 module _ {A : Type 0} (P : A → Type 0) where
   pub all-left : (xs ys : List A) → All P (xs ++ ys) → All P xs

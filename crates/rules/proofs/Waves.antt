@@ -7,6 +7,7 @@ use native.Mathlib.Omega.{arith}
 use lib.Dec.{eqb, ltb}
 use lib.ListN.{length, length-append}
 use borrow.Author.Tests.{ltb-true, ltb-false, eqb-true, eqb-false}
+use Rattle.base.specs.Below.{All}
 use Rattle.base.proofs.Cases.{by-test}
 use Rattle.blocks.specs.declared.records.SignalRecord.{SignalRecord}
 use Rattle.rules.specs.declared.driven.Driven.{Driven}
@@ -15,7 +16,6 @@ use Rattle.rules.specs.Statements.{before, scheduled, overflows, driverA
 use Rattle.rules.specs.Steps.{taken, takenIn}
 use Rattle.rules.specs.Orders.{timesIn}
 use Rattle.rules.specs.Invariant.{lastDue, Rising, Carries, Values, DriverValid}
-use Rattle.rules.proofs.Lists.{All}
 
 -- all transactions of the waveform are before the time at
 abbrev pub Before : ℕ → List Transaction → Type 0

@@ -7,6 +7,7 @@ use mathlib.Core.List.{List, [], _∷_, _++_}
 use Prim.Native.Nat.{ℕ, _<_}
 use lib.Dec.{ltb}
 use lib.ListN.{length, getD}
+use Rattle.base.specs.Below.{All}
 use Rattle.base.specs.Cases.{_∣_, _⇒_, _is_⇒_}
 use Rattle.base.specs.Course.{course}
 use Rattle.blocks.specs.Records.{Model, nodeAt}
@@ -36,13 +37,9 @@ nextOrder M e n orders = orderBy M e n (getD orders (nodeAt M n .a) []) (getD or
 unfoldable pub evaluationOrder : Model → Environment → ℕ → List ℕ
 evaluationOrder M e n = course (nextOrder M e) n
 
--- node n has a value; each of some nodes has one
+-- node n has a value
 abbrev pub HasValue : Model → Environment → ℕ → Type 0
 HasValue M e n = (x : ℕ) × (evalOf M e n ≡ Of x)
-
-abbrev pub HaveValues : Model → Environment → List ℕ → Type 0
-HaveValues M e [] = Unit {0}
-HaveValues M e (n ∷ ns) = HasValue M e n × HaveValues M e ns
 
 -- the faults that an expression can have, "an integer out of range" and "A divisor of 0", at a node of the model
 abbrev pub ExpressionFails : Model → Failure → Type 0
@@ -54,10 +51,10 @@ pub record AtFault (M : Model) (e : Environment) (n : ℕ) (r : Failure) : Type 
   pub before : List ℕ
   pub after : List ℕ
   pub order : evaluationOrder M e n ≡ before ++ (r .node ∷ after)
-  pub valued : HaveValues M e before
+  pub valued : All (HasValue M e) before
   pub fails : evalOf M e (r .node) ≡ Fault r
 
 -- what a value of node n says of the nodes: none of them failed, or which was the first
 abbrev pub FaultNamed : Model → Environment → ℕ → Value → Type 0
-FaultNamed M e n (Of x) = HaveValues M e (evaluationOrder M e n)
+FaultNamed M e n (Of x) = All (HasValue M e) (evaluationOrder M e n)
 FaultNamed M e n (Fault r) = AtFault M e n r

@@ -6,10 +6,10 @@ use Prim.Native.Nat.{ℕ, zero, suc, _*_, _≤_, _<_}
 use native.Mathlib.Omega.{arith}
 use lib.ListN.{take, drop}
 use lib.Seq.{getD-take, getD-drop}
-use Rattle.base.specs.Below.{listBelow}
+use Rattle.base.specs.Below.{listBelow, All}
 use Rattle.base.specs.Bytes.{byteAt, wordAt}
 use Rattle.rules.specs.Orders.{Outcome, faultAndNode}
-use Rattle.rules.proofs.Lists.{All, all-append}
+use Rattle.rules.proofs.Lists.{all-append}
 use Rattle.session.specs.Lists.{Order, orderOf, ordersOf, answerOf}
 use Rattle.session.specs.Demand3.{Bytes}
 

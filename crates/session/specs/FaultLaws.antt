@@ -6,12 +6,12 @@ use lib.ListN.{length}
 use Rattle.base.specs.Bytes.{byteAt, wordAt}
 use Rattle.blocks.specs.Records.{Model}
 use Rattle.model.specs.Rules.{Accepted}
-use Rattle.rules.specs.Configuration.{ProcessState, Configuration, processIn, first, stopped}
+use Rattle.rules.specs.Configuration.{ProcessState, processIn, stopped}
 use Rattle.rules.specs.Evaluation.{Environment, failure, evalOf}
 use Rattle.rules.specs.Failing.{FaultNamed}
 use Rattle.rules.specs.Invariant.{Stopping}
 use Rattle.rules.specs.Orders.{picked}
-use Rattle.session.specs.Lists.{Order, answerOf, played}
+use Rattle.session.specs.Lists.{Order, answerOf, after}
 
 -- the answer to a done pick that left its process as q
 pub record PickTold (M : Model) (answer : List ℕ) (q : ProcessState) : Type 0 where
@@ -22,10 +22,6 @@ pub record PickTold (M : Model) (answer : List ℕ) (q : ProcessState) : Type 0 
   -- "65,535 for faults 2 and 3, and 0 when the pick had no fault"
   pub some-fault : q .standing ≡ stopped → Stopping M (failure (q .node) (q .fault))
   pub no-fault : q .standing < stopped → (q .fault ≡ 0) × (q .node ≡ 0)
-
--- the configuration that a list of orders comes to
-abbrev pub after : Model → List Order → Configuration
-after M os = played M os (first M) .end
 
 -- of every model that meets the rules of records
 pub record FaultLaws : Type 0 where

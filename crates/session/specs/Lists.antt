@@ -8,7 +8,7 @@ use Rattle.base.specs.Below.{listBelow}
 use Rattle.base.specs.Bytes.{byteAt, wordAt}
 use Rattle.base.specs.Cases.{_∣_, _⇒_, _is_⇒_}
 use Rattle.blocks.specs.Records.{Model}
-use Rattle.rules.specs.Configuration.{Configuration}
+use Rattle.rules.specs.Configuration.{Configuration, first}
 use Rattle.rules.specs.Orders.{Outcome, refused, picked, advanced, settled, readOf}
 
 -- "An order is 4 bytes: kind, argument, 16-bit count."
@@ -78,3 +78,7 @@ answered r rest = record { answers = answerOf r ∷ rest .answers; end = rest .e
 unfoldable pub played : Model → List Order → Configuration → Played
 played M [] c = record { answers = []; end = c }
 played M (o ∷ os) c = answered (performed M o c) (played M os (performed M o c .after))
+
+-- "A list's end configuration is the one that its last order handed back, for the empty list the first one"
+abbrev pub after : Model → List Order → Configuration
+after M os = played M os (first M) .end

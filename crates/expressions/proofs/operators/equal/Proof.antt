@@ -1,8 +1,9 @@
 -- `equal`: the test on the 32 bits. Assumes nothing.
-use mathlib.Core.Path.{ap}
+use mathlib.Core.Path.{refl, ap}
 use borrow.Author.Needs.{needs}
 use Rattle.rules.specs.Evaluation.{equalOf}
 use Rattle.rules.specs.declared.value.Value.the-variants.{Of}
+use Rattle.expressions.proofs.Pairs.{by-operands}
 use Rattle.expressions.proofs.operators.equal.Statement.{statement}
 use Rattle.expressions.proofs.operators.equal.Tie as tie
 
@@ -11,21 +12,20 @@ unfolding equalOf
 equal-spec =
     tie.close
     (tie.spec
-    -- enum-known-p
+    -- both-requires
+    (λ c κs. search needs)
+    -- enum-known-e
     (λ c. search needs)
-    -- enum-known-p-2
-    (λ c. search needs)
-    -- enum-known-q
-    (λ c. search needs)
-    -- enum-known-q-2
+    -- enum-known-x
     (λ c. search needs)
     -- truth-requires
     (λ c κs. search needs)
     -- returns
-    (λ c. rw (c .before .p .given .1))
+    (λ c.
+    let s = c .before .before .before in
+    by-operands (s .before .args .p) (s .before .args .q) _ (s .both .ensures) (c .before .e .given .1) refl)
     -- returns-2
-    (λ c. rw (c .before .before .before .before .p2 .given .1, c .before .q .given .1))
-    -- returns-3
     (λ c.
     let k = c .before in
-    rw (k .before .before .before .before .p2 .given .1, k .before .q2 .given .1) (ap Of (c .truth .ensures))))
+    let s = k .before .before .before in
+    by-operands (s .before .args .p) (s .before .args .q) _ (s .both .ensures) (k .before .x .given .1) (ap Of (c .truth .ensures))))
