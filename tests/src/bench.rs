@@ -1,6 +1,7 @@
 //! The paper's bench cases, and cases for its single sentences.
 
 mod arithmetic;
+mod delay_zero;
 mod failing_node;
 mod nulls;
 
@@ -195,6 +196,7 @@ fn no_orders() {
     assert_eq!(c.delta, 0);
     // One driver of -, two drivers of -, no driver.
     assert_eq!(c.signals, [[8; 32], [1; 32], [-7; 32]]);
+    assert_eq!(c.earlier, [8, 1, -7]);
     assert_eq!(
         c.drivers,
         vec![

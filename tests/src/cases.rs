@@ -491,6 +491,130 @@ pub fn failing_conditions() -> Builder {
     b
 }
 
+/// Three processes read a signal that starts at -, delayed by 0, to a variable each;
+/// so many of them drive it.
+pub fn first_reads(drivers: u8) -> Builder {
+    let mut b = Builder::new();
+    let s = b.signal(LOGIC, 8);
+    let before = b.delayed(s, 0);
+    for p in 0..3 {
+        let v = b.variable(LOGIC, p, 0);
+        b.process();
+        b.assign(v, before);
+        b.wait(0, ABSENT, ABSENT);
+    }
+    (0..drivers).for_each(|p| b.driver(p, s));
+    b
+}
+
+/// Process 0 gives a signal of this type each value after 0 and waits for the time
+/// beside it, in the end for good.
+fn pulses(ty: u8, start: i32, list: &[(i32, i32)]) -> Builder {
+    let mut b = Builder::new();
+    let s = b.signal(ty, start);
+    b.driver(0, s);
+    let zero = b.integer(0);
+    b.process();
+    for &(value, time) in list {
+        let kind = if ty == INTEGER { 1 } else { 2 };
+        let (value, time) = (b.node(kind, 0, 0, value), b.integer(time));
+        b.schedule(s, value, zero);
+        b.wait(0, ABSENT, time);
+    }
+    b.wait(0, ABSENT, ABSENT);
+    b
+}
+
+/// Values with the times after them: in delta steps, at later times, in both, and
+/// some that are no change. 2, 3, 1 and 7 are '0', '1', X and H.
+pub const PULSES: &[&[(i32, i32)]] = &[
+    &[],
+    &[(3, 0), (2, 0), (3, 0), (2, 0)],
+    &[(3, 2), (2, 1), (3, 40), (2, 1)],
+    &[(3, 0), (3, 1), (2, 1), (2, 0), (3, 0), (2, 2), (3, 0)],
+    &[
+        (1, 0),
+        (3, 1),
+        (2, 0),
+        (7, 0),
+        (3, 0),
+        (2, 0),
+        (1, 1),
+        (2, 0),
+    ],
+];
+
+/// Process 1 has the signal, 5 at first, delayed by k and as it is in variables 0
+/// and 1, at each change and one unit after it last did so.
+pub fn sampled(list: &[(i32, i32)], k: i32) -> Builder {
+    let mut b = pulses(INTEGER, 5, list);
+    let (before, now, one) = (b.delayed(0, k), b.read_signal(0), b.integer(1));
+    let (v, w) = (b.variable(INTEGER, 1, 0), b.variable(INTEGER, 1, 0));
+    b.process();
+    b.assign(v, before);
+    b.assign(w, now);
+    b.wait(1, ABSENT, one);
+    b
+}
+
+/// An edge detector: process 1 counts how often the signal, '0' at first, is '1' and
+/// was '0' a delta ago.
+pub fn rising_edges(list: &[(i32, i32)]) -> Builder {
+    let mut b = pulses(LOGIC, 2, list);
+    let (before, now) = (b.delayed(0, 0), b.read_signal(0));
+    let (low, high, one) = (b.logic(2), b.logic(3), b.integer(1));
+    let (was_low, is_high) = (b.binary(13, before, low), b.binary(13, now, high));
+    let rising = b.binary(7, is_high, was_low);
+    let v = b.variable(INTEGER, 1, 0);
+    let count = b.read_variable(v);
+    let more = b.binary(SUM, count, one);
+    b.process();
+    b.wait(1, rising, ABSENT);
+    b.assign(v, more);
+    b
+}
+
+/// Process 0 gives a signal, 0 at first, 1 and in the next delta step, or after the
+/// time, 2; with the 2 it changes another one. Process 1 waits on that one until a
+/// condition on the first, delayed by 0.
+fn asked(time: i32, condition: impl Fn(&mut Builder, u16) -> u16) -> Builder {
+    let mut b = Builder::new();
+    let (s, t) = (b.signal(INTEGER, 0), b.signal(INTEGER, 0));
+    let [zero, one, two, time] = [0, 1, 2, time].map(|k| b.integer(k));
+    let before = b.delayed(s, 0);
+    let condition = condition(&mut b, before);
+    b.process();
+    b.schedule(s, one, zero);
+    b.wait(0, ABSENT, zero);
+    b.schedule(s, two, time);
+    b.schedule(t, one, time);
+    b.wait(0, ABSENT, ABSENT);
+    b.process();
+    b.wait(1 << t, condition, ABSENT);
+    b.null();
+    b.driver(0, s);
+    b.driver(0, t);
+    b
+}
+
+/// The condition is that it was k.
+pub fn asked_equal(time: i32, k: i32) -> Builder {
+    asked(time, |b, before| {
+        let k = b.integer(k);
+        b.binary(13, before, k)
+    })
+}
+
+/// The condition fails, at node 7, if it was k.
+pub fn asked_quotient(time: i32, k: i32) -> Builder {
+    asked(time, |b, before| {
+        let k = b.integer(k);
+        let difference = b.binary(DIFFERENCE, before, k);
+        let quotient = b.binary(QUOTIENT, k, difference);
+        b.binary(14, quotient, difference)
+    })
+}
+
 /// One process waits `turns` times for `step`, then for each of `rest`, again
 /// and again.
 fn turns(turns: i32, step: i32, rest: &[i32]) -> Builder {
@@ -701,6 +825,30 @@ fn failing_sessions(add: &mut impl FnMut(String, &Builder, Vec<u8>)) {
     add(name, &failing_conditions(), [watched(3), picks(2)].concat());
 }
 
+/// Delays of 0 in statements and in conditions.
+fn delay_zero_sessions(add: &mut impl FnMut(String, &Builder, Vec<u8>)) {
+    for drivers in 0..4 {
+        let name = format!("first values of - with {drivers} drivers");
+        add(name, &first_reads(drivers), watched(1));
+    }
+    for (n, list) in PULSES.iter().enumerate() {
+        for k in 0..3 {
+            let name = format!("pulses {n} sampled, delayed by {k}");
+            add(name, &sampled(list, k), watched(14));
+        }
+        let name = format!("rising edges of pulses {n}");
+        add(name, &rising_edges(list), watched(14));
+    }
+    for time in [0, 3] {
+        for k in 0..3 {
+            let name = format!("it was {k}, asked after {time}");
+            add(name, &asked_equal(time, k), watched(4));
+            let name = format!("it fails if it was {k}, asked after {time}");
+            add(name, &asked_quotient(time, k), watched(4));
+        }
+    }
+}
+
 /// All named sessions.
 pub fn sessions() -> Vec<Case> {
     let mut list = vec![];
@@ -763,6 +911,7 @@ pub fn sessions() -> Vec<Case> {
     }
     null_sessions(&mut add);
     failing_sessions(&mut add);
+    delay_zero_sessions(&mut add);
     for turns in [998, 999, 1_000, 1_001, 1_002] {
         add(
             format!("{turns} delta steps"),

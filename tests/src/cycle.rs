@@ -79,6 +79,8 @@ pub struct Config {
     pub delta: u32,
     /// The current value, then those of 1 to 31 time units ago.
     pub signals: Vec<[i32; 32]>,
+    /// The value just before the latest delta step, or the first current value.
+    pub earlier: Vec<i32>,
     pub variables: Vec<i32>,
     pub drivers: Vec<Driver>,
     pub processes: Vec<Process>,
@@ -152,8 +154,8 @@ impl Config {
                 wave: Vec::new(),
             })
             .collect();
-        let signals = (0..m.signals.len())
-            .map(|s| [resolved(m, &drivers, s).unwrap_or(m.signals[s].start); 32])
+        let first: Vec<i32> = (0..m.signals.len())
+            .map(|s| resolved(m, &drivers, s).unwrap_or(m.signals[s].start))
             .collect();
         let processes = m
             .processes
@@ -169,11 +171,17 @@ impl Config {
         Config {
             time: 0,
             delta: 0,
-            signals,
+            signals: first.iter().map(|&value| [value; 32]).collect(),
+            earlier: first,
             variables: m.variables.iter().map(|v| v.start).collect(),
             drivers,
             processes,
         }
+    }
+
+    /// Every signal's current value.
+    pub fn current(&self) -> Vec<i32> {
+        self.signals.iter().map(|values| values[0]).collect()
     }
 
     /// Works out a node: its value, or the fault of the first node that fails.
@@ -191,6 +199,7 @@ impl Config {
             2 => Logic(n.k as u8),
             3 => Value::of(m.variables[a].ty, self.variables[a]),
             4 => Value::of(m.signals[a].ty, self.signals[a][0]),
+            5 if n.k == 0 => Value::of(m.signals[a].ty, self.earlier[a]),
             5 => Value::of(m.signals[a].ty, self.signals[a][n.k as usize]),
             6 => match self.evaluate(m, n.a)? {
                 Logic(v) => Logic(values::not(v)),
@@ -406,6 +415,7 @@ impl Config {
     fn delta_step(&mut self, m: &Model) {
         let now = self.time;
         self.delta += 1;
+        self.earlier = self.current();
         let mut active = vec![false; self.signals.len()];
         for (record, driver) in m.drivers.iter().zip(&mut self.drivers) {
             if let Some(n) = driver.wave.iter().position(|t| t.0 == now) {

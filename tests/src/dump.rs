@@ -6,10 +6,11 @@
 //! a value's 32 bits, or 4,294,967,296 for null.
 //! Process p at 13,584 + 16 p: place (2 bytes), standing, fault, 1 if it has
 //! a deadline, a zero byte, the fault's node (2 bytes), deadline (8 bytes).
+//! Signal s at 13,840 + 4 s: its earlier value.
 
 use crate::cycle::{Carried, Config};
 
-pub const DUMP: usize = 13_840;
+pub const DUMP: usize = 13_968;
 
 /// Stands for null; no value has more than 32 bits.
 pub const NULL: u64 = 1 << 32;
@@ -58,6 +59,9 @@ pub fn dump(config: &Config) -> [u8; DUMP] {
         put(at + 6, &process.node.to_le_bytes());
         put(at + 8, &process.deadline.unwrap_or(0).to_le_bytes());
     }
+    for (s, value) in config.earlier.iter().enumerate() {
+        put(13_840 + 4 * s, &value.to_le_bytes());
+    }
     out
 }
 
@@ -74,7 +78,7 @@ pub fn place_and_fault(dump: &[u8; DUMP], p: usize) -> (u16, u8) {
 }
 
 /// How many words the proved kernel's dump has (crates/exports, specs/Dump).
-pub const WORDS: usize = 2342;
+pub const WORDS: usize = 2374;
 
 /// Where word n stands in the layout of `dump`, and in how many bytes.
 fn place(n: usize) -> (usize, usize) {
@@ -85,12 +89,13 @@ fn place(n: usize) -> (usize, usize) {
         6..1030 => (16 + 4 * (n - 6), 4),
         1030..1094 => (4112 + 4 * (n - 1030), 4),
         1094..2246 => (4368 + 8 * (n - 1094), 8),
-        _ => {
+        2246..2342 => {
             // Place, standing, fault, node, whether it has a deadline, the deadline.
             let (p, j) = ((n - 2246) / 6, (n - 2246) % 6);
             let (within, bytes) = [(0, 2), (2, 1), (3, 1), (6, 2), (4, 1), (8, 8)][j];
             (13584 + 16 * p + within, bytes)
         }
+        _ => (13840 + 4 * (n - 2342), 4),
     }
 }
 
@@ -128,6 +133,7 @@ mod tests {
             time: 0x0102_0304_0506_0708,
             delta: 999,
             signals: vec![values; 32],
+            earlier: vec![-3; 32],
             variables: vec![7; 64],
             drivers: vec![
                 Driver {
@@ -160,9 +166,10 @@ mod tests {
         );
         assert_eq!(out[13_576..13_584], [255, 255, 255, 255, 0, 0, 0, 0]);
         assert_eq!(
-            out[13_824..],
+            out[13_824..13_840],
             [2, 1, 1, 2, 1, 0, 5, 4, 6, 0, 0, 0, 0, 0, 0, 0]
         );
+        assert_eq!(out[13_840..], [253, 255, 255, 255].repeat(32));
     }
 
     #[test]
@@ -211,6 +218,18 @@ mod tests {
         assert_eq!(process(65_535, None), [7, 2, 4, 65_535, 0, 0]);
     }
 
+    #[test]
+    fn the_words_of_earlier_values() {
+        let config = Config {
+            earlier: (-16..16).collect(),
+            ..Config::default()
+        };
+        let words = words(&dump(&config));
+        for (s, value) in (-16..16).enumerate() {
+            assert_eq!(words[2342 + s], value as u32 as u64);
+        }
+    }
+
     /// The words that a layout's fields hold.
     fn words(dump: &[u8; DUMP]) -> [u64; WORDS] {
         std::array::from_fn(|n| {
@@ -228,7 +247,7 @@ mod tests {
             let (at, many) = place(n);
             bytes[at..at + many].iter_mut().for_each(|b| *b += 1);
         }
-        let unused = |at: usize| at >= 13_584 && at % 16 == 5;
+        let unused = |at: usize| (13_584..13_840).contains(&at) && at % 16 == 5;
         for (at, &times) in bytes.iter().enumerate() {
             assert_eq!(times, !unused(at) as i32, "byte {at}");
         }

@@ -3,12 +3,13 @@
 //! new feature is a row of `FEATURES`.
 
 pub mod arithmetic;
+pub mod delay_zero;
 pub mod failing_node;
 pub mod nulls;
 
-use crate::cycle::{Config, Process, Step, READY, WAITING};
+use crate::cycle::{Config, Process, Step, Value, READY, WAITING};
 use crate::damage::{self, Ways};
-use crate::model::{Model, ABSENT};
+use crate::model::{expressions, operands, Model, NodeRecord, Role, ABSENT};
 use crate::session::{ADVANCE, PICK, SETTLE};
 use std::collections::BTreeSet;
 
@@ -59,6 +60,15 @@ pub const FEATURES: &[Feature] = &[
         of_model: |_| Seen::new(),
         of_session: failing_node::of_session,
     },
+    Feature {
+        name: "a delay of 0",
+        damages: Ways::NONE,
+        model: delay_zero::in_models,
+        session: delay_zero::in_sessions,
+        fault: || delay_zero::FAULT.to_vec(),
+        of_model: delay_zero::of_model,
+        of_session: delay_zero::of_session,
+    },
 ];
 
 /// The damages of the features that have some.
@@ -76,6 +86,37 @@ pub fn of_model(m: &Model) -> Seen {
 pub fn of_session(m: &Model, orders: &[u8]) -> Seen {
     let seen = FEATURES.iter().map(|f| (f.of_session)(m, orders));
     seen.flatten().collect()
+}
+
+/// For each node: does its tree have such a node?
+fn trees(m: &Model, wanted: impl Fn(usize) -> bool) -> Vec<bool> {
+    let mut list: Vec<bool> = vec![];
+    for (n, record) in m.nodes.iter().enumerate() {
+        let below = operands(record).iter().any(|&o| list[o as usize]);
+        list.push(below || wanted(n));
+    }
+    list
+}
+
+/// The names of the roles in which the model's statements have these trees.
+fn in_roles<'a>(
+    m: &Model,
+    trees: &[bool],
+    names: &'a [(&'static str, Role)],
+) -> impl Iterator<Item = &'static str> + 'a {
+    let all = m.statements.iter().flat_map(expressions);
+    let roles: Vec<Role> = all.filter(|e| trees[e.1 as usize]).map(|e| e.0).collect();
+    let had = names.iter().filter(move |row| roles.contains(&row.1));
+    had.map(|row| row.0)
+}
+
+/// Is it a boolean `and` or `or` whose a decides?
+fn decides(m: &Model, c: &Config, n: &NodeRecord) -> bool {
+    match n.kind {
+        7 => c.evaluate(m, n.a) == Ok(Value::Boolean(false)),
+        8 => c.evaluate(m, n.a) == Ok(Value::Boolean(true)),
+        _ => false,
+    }
 }
 
 /// One that plays a session again, pick by pick, and looks at what is done.
@@ -118,15 +159,14 @@ fn ready_place(c: &Config, process: usize) -> Option<usize> {
 
 /// Advances; gives the conditions that a delta step asked for.
 fn advance_asking(m: &Model, c: &mut Config) -> Vec<u16> {
-    let current = |c: &Config| -> Vec<i32> { c.signals.iter().map(|s| s[0]).collect() };
-    let (now, old) = (c.time, current(c));
+    let (now, old) = (c.time, c.current());
     let asleep = |p: &&Process| p.standing == WAITING && p.deadline != Some(now);
     let asleep = c.processes.iter().filter(asleep);
     let waits: Vec<usize> = asleep.map(|p| p.place as usize).collect();
     if c.advance(m) != Ok(Step::Delta) {
         return vec![];
     }
-    let new = current(c);
+    let new = c.current();
     let changed = (0..old.len()).filter(|&s| old[s] != new[s]);
     let changed = changed.fold(0u32, |set, s| set | 1 << s);
     let waits = waits.into_iter().map(|place| m.statements[place]);

@@ -1,6 +1,7 @@
 //! Seeded random models that are accepted, and order lists for them.
 
 mod calculation;
+mod edges;
 
 use crate::builder::Builder;
 use crate::cycle::{Config, READY, STOPPED};
@@ -32,6 +33,8 @@ struct Maker<'r> {
     /// Values at the ends of the range, negative delays and crowded
     /// waveforms occur.
     wild: bool,
+    /// Delays of 0 occur.
+    deltas: bool,
 }
 
 impl Maker<'_> {
@@ -152,14 +155,19 @@ impl Maker<'_> {
             }
             _ => {
                 let s = self.rng.choose(&signals);
-                let k = if self.rng.chance(1, 2) {
-                    self.rng.below(6)
-                } else {
-                    self.rng.below(32)
-                };
-                self.node(5, s, 0, k as i32)
+                let k = self.units();
+                self.node(5, s, 0, k)
             }
         }
+    }
+
+    /// By how much a read of the past is delayed.
+    fn units(&mut self) -> i32 {
+        if self.deltas && self.rng.chance(1, 2) {
+            return 0;
+        }
+        let most = self.rng.choose(&[5, 31]);
+        self.rng.range(1, most) as i32
     }
 
     /// An expression of at most `budget` nodes (a boolean one at least 3).
@@ -627,7 +635,9 @@ pub fn model_of(rng: &mut Rng, wild: bool) -> Model {
         sizes: vec![],
         readers: vec![],
         wild,
+        deltas: false,
     };
+    maker.deltas = maker.rng.chance(1, 3);
     // Plain signals alone in two models of five.
     let shared = maker.rng.chance(3, 5);
     for _ in 0..signals {
@@ -698,13 +708,17 @@ pub fn model_of(rng: &mut Rng, wild: bool) -> Model {
     maker.b.m
 }
 
-/// A random accepted model: one that calculates, a tame or a wild one.
+/// A random accepted model: one that calculates, one that looks a delta back, a
+/// tame or a wild one.
 pub fn model(rng: &mut Rng) -> Model {
-    if rng.chance(1, 10) {
-        return calculation::model(rng);
+    match rng.weighted(&[2, 1, 17]) {
+        0 => calculation::model(rng),
+        1 => edges::model(rng),
+        _ => {
+            let wild = rng.chance(2, 5);
+            model_of(rng, wild)
+        }
     }
-    let wild = rng.chance(2, 5);
-    model_of(rng, wild)
 }
 
 /// Puts these nodes in front of the model's own.
@@ -1069,7 +1083,7 @@ pub struct SessionCase {
 pub fn session_case(seed: u64) -> SessionCase {
     let mut rng = Rng::new(seed);
     let rng = &mut rng;
-    let form = rng.weighted(&[726, 80, 12, 12, 12, 8, 150]);
+    let form = rng.weighted(&[666, 80, 12, 12, 12, 8, 130, 80]);
     if form == 1 {
         let (what, model) = if rng.chance(1, 4) {
             let (_, what, model) = rng.choose(&features::damages()).damaged(rng);
@@ -1113,6 +1127,12 @@ pub fn session_case(seed: u64) -> SessionCase {
             let most = list_length(rng);
             let orders = self::orders(rng, &m, most);
             ("calculation", m, orders)
+        }
+        7 => {
+            let m = edges::model(rng);
+            let most = list_length(rng);
+            let orders = self::orders(rng, &m, most);
+            ("edges", m, orders)
         }
         _ => {
             let wild = rng.chance(2, 5);

@@ -385,7 +385,7 @@ fn part(at: usize) -> String {
         }
         4_112..=4_367 => format!("variable {}", (at - 4_112) / 4),
         4_368..=13_583 => format!("driver {}, byte {}", (at - 4_368) / 144, (at - 4_368) % 144),
-        _ => {
+        13_584..=13_839 => {
             let (process, byte) = ((at - 13_584) / 16, (at - 13_584) % 16);
             let what = match byte {
                 0 | 1 => "place",
@@ -396,6 +396,7 @@ fn part(at: usize) -> String {
             };
             format!("process {process}, {what}")
         }
+        _ => format!("signal {}, its earlier value", (at - 13_840) / 4),
     }
 }
 
@@ -613,11 +614,12 @@ mod tests {
             picks.for_each(|(_, x)| x.swap(5, 6));
         });
         assert!(byte.contains("to order Some([1, "), "{byte}");
-        // Null as 0, a signal's past, and a node that is not kept.
+        // Null as 0, a signal's past, a node and an earlier value that are not kept.
         for (at, part) in [
             (4_368 + 4, "driver 0, byte 4"),
             (16 + 124, "signal 0, 31 units ago"),
             (13_584 + 6, "process 0, node"),
+            (13_840, "signal 0, its earlier value"),
         ] {
             let found = told_of(|_, _, _, dump| dump[at] = 0);
             assert!(found.contains(part), "{found}");

@@ -7,7 +7,7 @@
 //! | variable n                | `vN` of its process                             |
 //! | process n                 | process `pN`: `case pc is`, a branch a statement|
 //! | driver without assignment | an assignment in the branch never taken         |
-//! | signal a delayed by k     | `sA_dK <= transport sA after k ns`; k = 0: `sA` |
+//! | signal a delayed by k     | `sA_dK <= transport sA after k ns`, k = 0 too    |
 //! | kind 2                    | `<= transport .. after ..`                      |
 //! | kind 6                    | `<= transport null after ..`                    |
 //! | node kinds 15 to 18       | `*`, `/`, `mod`, `rem`, in parentheses          |
@@ -32,6 +32,21 @@
 //! waveform in which a null follows another element, `'1' after 1 ns, null after
 //! 2 ns`: that is analysed and then lacks a symbol at elaboration. A translation
 //! has no such waveform, so that no model is left out for its guarded signals.
+//!
+//! Delays, of 0 too, are the process by which IEEE 1076-1987, 14.1, defines
+//! `sA'delayed (k ns)`, R <= transport S after T, and not the attribute itself: with
+//! 0 ns GHDL 2.0 does not do as that process does. Tried in single designs: its
+//! implicit signal misses changes (of a signal that starts at 3 and becomes 4, 5 in
+//! delta cycles of time 0 and 6, 7, 8 in those of 3 ns it rests at 3, then at 6), and
+//! a signal of several drivers at '-' that has the attribute starts as '-' and not as
+//! X. By the process document 02, item 4, is what VHDL does: in the cycle in which S
+//! changes R still has the value from before, in the next one S's; conditions and
+//! statements of a cycle read R after its update. What is not compared:
+//! - the first value, which the translation gives to R: 14.1 asks for S's initial one;
+//! - what R is when no process runs: it follows S in one cycle more of the same time,
+//!   where the earlier value stays until the next delta step;
+//! - with that cycle, which GHDL counts, a run that rests at a time after just 1,000
+//!   delta steps: there GHDL is allowed one more (`ghdlrun`).
 
 use crate::model::{Model, NodeRecord, StatementRecord, ABSENT, INTEGER};
 use crate::values;
@@ -125,11 +140,11 @@ fn signal(t: &mut String, m: &Model, n: usize, name: &str, kind: &str, start: i3
     );
 }
 
-/// The signals and delays above 0 that nodes read.
+/// The signals and delays that nodes read.
 fn delays(m: &Model) -> BTreeSet<(usize, i32)> {
     m.nodes
         .iter()
-        .filter(|n| n.kind == 5 && n.k > 0)
+        .filter(|n| n.kind == 5)
         .map(|n| (n.a as usize, n.k))
         .collect()
 }
@@ -268,8 +283,8 @@ impl Text<'_> {
             1 => literal(0, k),
             2 => literal(1, k),
             3 => format!("v{a}"),
-            5 if k > 0 => format!("s{a}_d{k}"),
-            4 | 5 => format!("s{a}"),
+            4 => format!("s{a}"),
+            5 => format!("s{a}_d{k}"),
             6 => format!("(not {})", self.expr(a)),
             7 => pair("and"),
             8 => pair("or"),
@@ -403,8 +418,8 @@ mod tests {
         let mut b = Builder::new();
         let s = b.signal(LOGIC, 8);
         let n = b.signal(INTEGER, -4);
-        let (now, past) = (b.delayed(s, 0), b.delayed(s, 31));
-        let same = b.binary(13, now, past);
+        let (earlier, past) = (b.delayed(s, 0), b.delayed(s, 31));
+        let same = b.binary(13, earlier, past);
         let (minus, read) = (b.integer(-1), b.delayed(n, 2));
         let sum = b.binary(11, read, minus);
         for p in 0..2 {
@@ -418,10 +433,12 @@ mod tests {
             &[
                 // Two drivers at '-' give X from the first.
                 "signal s0 : std_logic := std_ulogic'('-');",
+                "signal s0_d0 : std_logic := std_ulogic'('X');",
                 "signal s0_d31 : std_logic := std_ulogic'('X');",
+                "s0_d0 <= transport s0 after 0 ns;",
                 "s0_d31 <= transport s0 after 31 ns;",
                 "s1_d2 <= transport s1 after 2 ns;",
-                "when 0 => wait on s0, s1 until (s0 = s0_d31) \
+                "when 0 => wait on s0, s1 until (s0_d0 = s0_d31) \
                  for span (ranged (s1_d2 + integer'(-1))); pc := 1; steps := 0;",
                 "when 1 => wait for span (integer'(-1)); pc := 0; steps := 0;",
                 "s0 <= s0;",

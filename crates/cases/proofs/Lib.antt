@@ -4,3 +4,4 @@ pub mod Blocks
 pub mod Inverter
 pub mod Guarded
 pub mod Claims
+pub mod Delays

@@ -136,7 +136,7 @@ faultRefusals = map (λ M. firstFailing (recordRules M)) (waiter ∷ map (λ (t 
 
 -- what the nodes of the inner sum read
 abbrev pub reading : Environment
-reading = environmentOf (first innerSum .variables) (first innerSum .signals)
+reading = environmentOf (first innerSum .variables) (first innerSum .signals) (first innerSum .earlier)
 
 -- a pick of its process
 abbrev pub pick : Outcome

@@ -6,4 +6,5 @@ pub mod Bench
 pub mod Inverter
 pub mod Guarded
 pub mod Claims
+pub mod Delays
 pub mod Table

@@ -1,5 +1,5 @@
 // The bench cases of document 01, by the definitions alone: the proved table, what the inverter prints, and the claims over all
-// models and lists of orders, used on the inverter; and a bus and a register whose drivers turn off.
+// models and lists of orders, used on the inverter; a bus and a register whose drivers turn off; and delays of 0.
 ghost use mathlib.Core.Path.{_≡_};
 ghost use lib.ListN.{length};
 ghost use Rattle.values.specs.Bench.{Holds};
@@ -8,6 +8,7 @@ ghost use Rattle.cases.specs.Arithmetic.{DivisionUsed};
 ghost use Rattle.cases.specs.Faults.{FaultsUsed};
 ghost use Rattle.cases.specs.Inverter.{inverterLines, InverterPlayed};
 ghost use Rattle.cases.specs.Guarded.{guardedRows, GuardedPlayed};
+ghost use Rattle.cases.specs.Delays.{delayRows, DelaysPlayed, DelaysUsed};
 ghost use Rattle.cases.specs.Claims.{settling, tally, InverterDetermined, SharedDetermined, InverterLaws};
 
 // How many rows the proved table has; that they hold, that none is missing, and the laws of division and of faults used once.
@@ -46,4 +47,14 @@ pub fn guarded_rows() -> usize
     ensures { λ r. ⌜ SharedDetermined ⌝ }
 {
     9
+}
+
+// How many rows the table of delays of 0 has; that they hold, and the laws of the earlier values used once.
+pub fn delay_rows() -> usize
+    ensures { λ r. ⌜ r ≡ length delayRows ⌝ }
+    ensures { λ r. ⌜ Holds delayRows ⌝ }
+    ensures { λ r. ⌜ DelaysPlayed ⌝ }
+    ensures { λ r. ⌜ DelaysUsed ⌝ }
+{
+    13
 }

@@ -96,7 +96,7 @@ withDrivers c currents due drivers =
 -- the first k drivers of c have their due transactions taken, the others are as they were, and so is the rest
 pub record Taking (c : Config) (k : ℕ) (r : Config) : Type 0 where
   pub rest : r ≡ withDrivers c (r .currents) (r .due) (r .drivers)
-  pub signals : length (r .signals) ≡ 1024
+  pub signals : length (r .signals) ≡ 1056
   pub currents : length (r .currents) ≡ 64
   pub dues : length (r .due) ≡ 64
   pub drivers : length (r .drivers) ≡ 64
@@ -104,7 +104,7 @@ pub record Taking (c : Config) (k : ℕ) (r : Config) : Type 0 where
   pub left : (j : ℕ) → k ≤ j → slotOf r j ≡ slotOf c j
 
 module _ (c : Config) where
-  pub taking-none : length (c .signals) ≡ 1024 → length (c .currents) ≡ 64 → length (c .due) ≡ 64 → length (c .drivers) ≡ 64 → Taking c 0 c
+  pub taking-none : length (c .signals) ≡ 1056 → length (c .currents) ≡ 64 → length (c .due) ≡ 64 → length (c .drivers) ≡ 64 → Taking c 0 c
   taking-none s u d r =
       record { rest = refl; signals = s; currents = u; dues = d; drivers = r; done = below-none _; left = λ j h. refl }
 

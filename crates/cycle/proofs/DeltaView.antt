@@ -18,15 +18,15 @@ use Rattle.fields.specs.Fields.{absent}
 use Rattle.model.specs.Facts.{Facts}
 use Rattle.rules.specs.Configuration.{DriverState, ProcessState, Configuration, driverIn, currentOf, drivingOf, resolvedOr, waiting}
 use Rattle.rules.specs.Evaluation.{Environment, environmentOf, evalOf}
-use Rattle.rules.specs.Steps.{transactionDue, taken, active, withCurrent, undriven, signalAfter, signalsAfter, inSet, changedIn, wokenBy, wokenIf, wokenAt, processAfterDelta, deltaStep}
+use Rattle.rules.specs.Steps.{transactionDue, taken, active, withCurrent, undriven, signalAfter, signalsAfter, earlierAfter, inSet, changedIn, wokenBy, wokenIf, wokenAt, processAfterDelta, deltaStep}
 use Rattle.rules.specs.Orders.{advanceDone}
 use Rattle.rules.specs.Invariant.{ProcessValid}
 use Rattle.rules.proofs.AdvanceReachable.{delta-reachable}
 use Rattle.expressions.specs.Reading.{arrays}
 use Rattle.waveforms.specs.Pending.{drivenOf, pendingOf, noDriver}
 use Rattle.waveforms.specs.declared.driver.Driver.{Driver}
-use Rattle.steps.specs.Entries.{historyOf, drivingIn}
-use Rattle.steps.specs.Delta.{SetOf, activeIn, currentAfter, ResolvedTo, stateOf, entryOf, wokenFor, wokenIn, afterDelta, ProcessesValid, WokenTo}
+use Rattle.steps.specs.Entries.{historyOf, earlierOf, drivingIn}
+use Rattle.steps.specs.Delta.{SetOf, activeIn, KeptTo, currentAfter, ResolvedTo, stateOf, entryOf, wokenFor, wokenIn, afterDelta, ProcessesValid, WokenTo}
 use Rattle.steps.specs.declared.delta.Processes.{Processes}
 use Rattle.steps.proofs.Shifts.{history-at}
 use Rattle.steps.proofs.Resolving.{driving-is}
@@ -105,8 +105,9 @@ abbrev pub answeredBy : Config → Answered
 answeredBy r = record { answer = record { refusal = 0; byte = 1; picks = 0; value = 0 }; config = r }
 
 -- what the parts of the step say of r and of the new signals and processes
-pub record Parts (M : Model) (c : Config) (active : ℕ) (new : List ℕ) (changed : ℕ) (ps : Processes) (r : Config) : Type 0 where
-  pub resolved : ResolvedTo M (r .currents) (c .ndrivers) active (r .signals) (c .nsignals) new changed
+pub record Parts (M : Model) (c : Config) (active : ℕ) (kept new : List ℕ) (changed : ℕ) (ps : Processes) (r : Config) : Type 0 where
+  pub keeps : KeptTo (r .signals) (c .nsignals) kept
+  pub resolved : ResolvedTo M (r .currents) (c .ndrivers) active kept (c .nsignals) new changed
   pub woken : WokenTo M (c .time) changed (arrays (r .variables) new) (c .nprocesses) (processesOf r) ps
 
 -- the processes of a valid configuration are valid, as the arrays hold them
@@ -121,9 +122,9 @@ module _ (M : Model) (c : Config) (f : Valid M c) where
       }
 
 module _ (M : Model) (fs : Facts M) (c : Config) (f : Valid M c) (set : ℕ) (a : SetOf (activeIn M (c .due) (c .time) (c .ndrivers)) set)
-    (currents dues : List ℕ) (ds : List Driver) (new : List ℕ) (changed : ℕ) (ps : Processes)
+    (currents dues : List ℕ) (ds : List Driver) (kept new : List ℕ) (changed : ℕ) (ps : Processes)
     (done : (j : ℕ) → j < c .ndrivers → TakenSlot (c .time) (slotOf c j) (slotOf (withDrivers c currents dues ds) j))
-    (parts : Parts M c set new changed ps (withDrivers c currents dues ds))
+    (parts : Parts M c set kept new changed ps (withDrivers c currents dues ds))
   where
     abbrev v : Configuration
     v = viewOf c
@@ -155,16 +156,21 @@ module _ (M : Model) (fs : Facts M) (c : Config) (f : Valid M c) (set : ℕ) (a 
         (λ k l. rw (driver-in c k l, first-due (c .time) (pendingOf (c .time) (getD (c .drivers) k noDriver)) (time-most M c f), ← f .due k l)))
         ∙ sym (a .at s h)
 
-    past : (s k : ℕ) → k < 32 → (k ≡ 0 → ⊥) → getD new (32 * s + k) 0 ≡ getD (c .signals) (32 * s + k) 0
-    past s k h n = parts .resolved .other s k h (λ e. absurd (n e))
+    -- what is kept leaves the histories
+    stands : (j : ℕ) → j < 1024 → getD kept j 0 ≡ getD (c .signals) j 0
+    stands j h = parts .keeps .other j (λ l. absurd (omega arith))
+
+    past : (s k : ℕ) → s < 32 → k < 32 → (k ≡ 0 → ⊥) → getD new (32 * s + k) 0 ≡ getD (c .signals) (32 * s + k) 0
+    past s k l h n = parts .resolved .other s k h (λ e. absurd (n e)) ∙ stands (32 * s + k) (omega arith)
 
     history-is : (s : ℕ) → s < c .nsignals → historyOf new s ≡ signalAfter M v s
     unfolding signalAfter currentAfter viewOf
     history-is s h =
-        rw (active-is s (omega (arith, few-signals fs f)), history-in c s h)
+        let l : s < 32 = omega (arith, few-signals fs f) in
+        rw (active-is s l, history-in c s h)
         (by-test (λ x. historyOf new s ≡ x) (inSet set s) _ _
-        (λ e. history-changed (c .signals) new s (past s) _ (parts .resolved .current s h ∙ rw (e, value)))
-        (λ e. history-kept (c .signals) new s (past s) (parts .resolved .current s h ∙ rw e)))
+        (λ e. history-changed (c .signals) new s (λ k. past s k l) _ (parts .resolved .current s h ∙ rw (e, stands (32 * s) (omega arith), value)))
+        (λ e. history-kept (c .signals) new s (λ k. past s k l) (parts .resolved .current s h ∙ rw (e, stands (32 * s) (omega arith)))))
       where
         value : resolvedOr (undriven (signalAt M s) (getD (c .signals) (32 * s) 0)) (drivingIn M currents s (c .ndrivers)) ≡ resolvedOr (undriven (signalAt M s) (getD (historyOf (c .signals) s) 0 0)) (drivingOf M drivers-now s)
         value = rw (current-in (c .signals) s, driving-is M currents drivers-now (c .ndrivers) s (ndrivers-is M c (f .reachable)) current-is)
@@ -180,22 +186,34 @@ module _ (M : Model) (fs : Facts M) (c : Config) (f : Valid M c) (set : ℕ) (a 
     abbrev differs : ℕ → Bool
     differs n = not (eqb (getD (c .signals) (32 * n) 0) (getD new (32 * n) 0))
 
-    differs-not : (n : ℕ) → c .nsignals ≤ n → differs n ≡ false
-    differs-not n h =
-        let e : getD new (32 * n) 0 ≡ getD (c .signals) (32 * n) 0 = simp add-zero at (parts .resolved .other n 0 (omega arith) (λ q. h)) in
+    differs-not : (n : ℕ) → c .nsignals ≤ n → n < 32 → differs n ≡ false
+    differs-not n h l =
+        let e : getD new (32 * n) 0 ≡ getD (c .signals) (32 * n) 0 = simp add-zero at (parts .resolved .other n 0 (omega arith) (λ q. h)) ∙ stands (32 * n) (omega arith) in
         rw (eq-eqb (getD (c .signals) (32 * n) 0) (getD new (32 * n) 0) (sym e))
 
     changed-is : (bits : ℕ) → anyBelow (λ n. inSet bits n && inSet changed n) 32 ≡ changedIn M bits (v .signals) (signalsAfter M v)
     unfolding changedIn viewOf
     changed-is bits =
-        any-same _ (λ n. inSet bits n && differs n) 32 (λ n h. rw (parts .resolved .changed .at n h))
-        ∙ any-fewer _ (c .nsignals) 32 (few-signals fs f) (λ n h l. rw (differs-not n h) (and-false (inSet bits n)))
+        any-same _ (λ n. inSet bits n && differs n) 32 (λ n h. rw (parts .resolved .changed .at n h, stands (32 * n) (omega arith)))
+        ∙ any-fewer _ (c .nsignals) 32 (few-signals fs f) (λ n h l. rw (differs-not n h l) (and-false (inSet bits n)))
         ∙ rw (← signals-are, ← nsignals-is M c (f .reachable)) (any-same _ _ (c .nsignals) (λ n h. rw (current-of (c .signals) n h, current-of new n h)))
 
-    -- the processes
-    value-is : (n : ℕ) → n < length (M .nodes) → evalOf M (arrays (c .variables) new) n ≡ evalOf M (environmentOf (v .variables) (signalsAfter M v)) n
+    -- the earlier values
+    earlier-is : (s : ℕ) → s < c .nsignals → earlierOf new s ≡ currentOf (v .signals) s
     unfolding viewOf
-    value-is n h = rw (← signals-are) (value-listed M fs (c .variables) new (c .nvariables) (c .nsignals) (nvariables-is M c (f .reachable)) (nsignals-is M c (f .reachable)) n h)
+    earlier-is s h =
+        parts .resolved .other 32 s (omega (arith, few-signals fs f)) (λ e. few-signals fs f)
+        ∙ parts .keeps .earlier s h
+        ∙ sym (current-of (c .signals) s h)
+
+    earlier-are : listBelow (earlierOf new) (c .nsignals) ≡ earlierAfter M v
+    unfolding earlierAfter
+    earlier-are = list-same _ _ (c .nsignals) earlier-is ∙ ap (listBelow (currentOf (v .signals))) (nsignals-is M c (f .reachable))
+
+    -- the processes
+    value-is : (n : ℕ) → n < length (M .nodes) → evalOf M (arrays (c .variables) new) n ≡ evalOf M (environmentOf (v .variables) (signalsAfter M v) (earlierAfter M v)) n
+    unfolding viewOf
+    value-is n h = rw (← signals-are, ← earlier-are) (value-listed M fs (c .variables) new (c .nvariables) (c .nsignals) (nvariables-is M c (f .reachable)) (nsignals-is M c (f .reachable)) n h)
 
     module _ (p : ℕ) (h : p < c .nprocesses) where
       abbrev q : ProcessState
@@ -205,7 +223,7 @@ module _ (M : Model) (fs : Facts M) (c : Config) (f : Valid M c) (set : ℕ) (a 
       w = statementAt M (getD (c .places) p 0)
 
       abbrev now : Environment
-      now = environmentOf (v .variables) (signalsAfter M v)
+      now = environmentOf (v .variables) (signalsAfter M v) (earlierAfter M v)
 
       here : p < length (M .processes)
       here = omega (arith, nprocesses-is M c (f .reachable))
@@ -237,7 +255,7 @@ module _ (M : Model) (fs : Facts M) (c : Config) (f : Valid M c) (set : ℕ) (a 
     -- the whole
     view-is : viewOf end ≡ deltaStep M v
     unfolding viewOf deltaStep
-    view-is = rw (signals-are, drivers-are, processes-are)
+    view-is = rw (signals-are, earlier-are, drivers-are, processes-are)
 
     stepped-answers : c .deltas < 1000 → Answers M (answeredBy end) (advanceDone 1 (deltaStep M v))
     unfolding viewOf outcomeOf
@@ -249,12 +267,12 @@ module _ (M : Model) (fs : Facts M) (c : Config) (f : Valid M c) (set : ℕ) (a 
 
 module _ (M : Model) (fs : Facts M) (c : Config) (f : Valid M c) (set : ℕ) (a : SetOf (activeIn M (c .due) (c .time) (c .ndrivers)) set) where
   -- the step, from what each of its parts says
-  pub delta-answers : (k : ℕ) (r : Config) (new : List ℕ) (changed : ℕ) (ps : Processes) → c .ndrivers ≤ k → Taking c k r → Parts M c set new changed ps r → c .deltas < 1000 → Answers M (answeredBy (steppedTo r new ps)) (advanceDone 1 (deltaStep M (viewOf c)))
-  delta-answers k r new changed ps h t parts d =
+  pub delta-answers : (k : ℕ) (r : Config) (kept new : List ℕ) (changed : ℕ) (ps : Processes) → c .ndrivers ≤ k → Taking c k r → Parts M c set kept new changed ps r → c .deltas < 1000 → Answers M (answeredBy (steppedTo r new ps)) (advanceDone 1 (deltaStep M (viewOf c)))
+  delta-answers k r kept new changed ps h t parts d =
       subst
-      (λ (x : Config). Parts M c set new changed ps x → Answers M (answeredBy (steppedTo x new ps)) (advanceDone 1 (deltaStep M (viewOf c))))
+      (λ (x : Config). Parts M c set kept new changed ps x → Answers M (answeredBy (steppedTo x new ps)) (advanceDone 1 (deltaStep M (viewOf c))))
       (sym (t .rest))
-      (λ p. stepped-answers M fs c f set a (r .currents) (r .due) (r .drivers) new changed ps (λ j l. t .done j (omega arith)) p d)
+      (λ p. stepped-answers M fs c f set a (r .currents) (r .due) (r .drivers) kept new changed ps (λ j l. t .done j (omega arith)) p d)
       parts
 
   -- what the loop over the drivers keeps of the processes

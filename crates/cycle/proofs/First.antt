@@ -3,6 +3,7 @@ use mathlib.Core.Path.{_≡_, sym, ap, _∙_}
 use mathlib.Core.List.{List, []}
 use mathlib.Core.Option.{none}
 use Prim.Native.Nat.{ℕ, _+_, _*_, _/_, _<_}
+use native.Mathlib.Nat.{add-zero}
 use native.Mathlib.Omega.{arith}
 use lib.ListN.{length, getD, replicate, length-map, length-replicate, getD-replicate}
 use Rattle.base.specs.Below.{listBelow}
@@ -15,7 +16,8 @@ use Rattle.rules.specs.declared.driven.Driven.the-variants.{To}
 use Rattle.waveforms.specs.Pending.{never, drivenOf, pendingOf, noDriver, firstTime}
 use Rattle.waveforms.proofs.Held.{value-held}
 use Rattle.waveforms.specs.declared.driver.Driver.{Driver}
-use Rattle.steps.specs.Entries.{historyOf}
+use Rattle.steps.specs.Delta.{KeptTo}
+use Rattle.steps.specs.Entries.{historyOf, earlierOf}
 use Rattle.steps.proofs.Resolving.{driving-is}
 use Rattle.cycle.specs.View.{driverView, processView, viewOf}
 use Rattle.cycle.specs.Arrays.{EntriesAre, variableStart, processFirst, driverStart, firstValue, valueAt, FirstOf}
@@ -25,8 +27,8 @@ pub view-empty : (c : Config) → c .time ≡ 0 → c .deltas ≡ 0 → c .nsign
 unfolding viewOf listBelow
 view-empty c t d s v k p = rw (t, d, s, v, k, p)
 
--- the arrays of the first configuration, d being a driver with nothing pending
-pub record Begins (M : Model) (c : Config) (d : Driver) (vs : List ℕ) : Type 0 where
+-- the arrays of the first configuration: d is a driver with nothing pending, vs are the first values and hs the histories
+pub record Begins (M : Model) (c : Config) (d : Driver) (vs hs : List ℕ) : Type 0 where
   pub time : c .time ≡ 0
   pub deltas : c .deltas ≡ 0
   pub nsignals : c .nsignals ≡ length (M .signals)
@@ -37,7 +39,8 @@ pub record Begins (M : Model) (c : Config) (d : Driver) (vs : List ℕ) : Type 0
   pub places : EntriesAre (processFirst M) (c .nprocesses) (c .places)
   pub currents : EntriesAre (driverStart M) (c .ndrivers) (c .currents)
   pub values : EntriesAre (firstValue M (c .currents) (c .ndrivers)) (c .nsignals) vs
-  pub signals : EntriesAre (valueAt vs) (32 * c .nsignals) (c .signals)
+  pub histories : EntriesAre (valueAt vs) (32 * c .nsignals) hs
+  pub signals : KeptTo hs (c .nsignals) (c .signals)
   pub none : (t : ℕ) → pendingOf t d ≡ []
   pub drivers : c .drivers ≡ replicate 64 d
   pub due : c .due ≡ replicate 64 never
@@ -46,7 +49,7 @@ pub record Begins (M : Model) (c : Config) (d : Driver) (vs : List ℕ) : Type 0
   pub faults : c .faults ≡ replicate 16 0
   pub nodes : c .nodes ≡ replicate 16 0
 
-module _ (M : Model) (fs : Facts M) (c : Config) (d : Driver) (vs : List ℕ) (b : Begins M c d vs) where
+module _ (M : Model) (fs : Facts M) (c : Config) (d : Driver) (vs hs : List ℕ) (b : Begins M c d vs hs) where
   variables-are : listBelow (λ a. getD (c .variables) a 0) (c .nvariables) ≡ first M .variables
   unfolding first
   variables-are =
@@ -90,10 +93,19 @@ module _ (M : Model) (fs : Facts M) (c : Config) (d : Driver) (vs : List ℕ) (b
   unfolding firstSignal
   value-is s = rw (driving-is M (c .currents) (firstDrivers M) (c .ndrivers) s (b .ndrivers) (λ k h. current-is k h ∙ ap (λ (d : DriverState). d .current) (sym (driver-at M fs k (omega (arith, b .ndrivers))))))
 
-  entry-is : (s k : ℕ) → s < c .nsignals → k < 32 → getD (c .signals) (32 * s + k) 0 ≡ firstSignal M s
-  entry-is s k h l =
+  begun-is : (s k : ℕ) → s < c .nsignals → k < 32 → getD hs (32 * s + k) 0 ≡ firstSignal M s
+  begun-is s k h l =
       let e : (32 * s + k) / 32 ≡ s = omega arith in
-      b .signals .at (32 * s + k) (omega arith) ∙ ap (λ (i : ℕ). getD vs i 0) e ∙ b .values .at s h ∙ value-is s
+      b .histories .at (32 * s + k) (omega arith) ∙ ap (λ (i : ℕ). getD vs i 0) e ∙ b .values .at s h ∙ value-is s
+
+  entry-is : (s k : ℕ) → s < c .nsignals → k < 32 → getD (c .signals) (32 * s + k) 0 ≡ firstSignal M s
+  entry-is s k h l = b .signals .other (32 * s + k) (λ g. absurd (omega (arith, b .nsignals, fs .totals .signals))) ∙ begun-is s k h l
+
+  earlier-are : listBelow (earlierOf (c .signals)) (c .nsignals) ≡ first M .earlier
+  unfolding first
+  earlier-are =
+      rw (← b .nsignals)
+      (list-same _ _ (c .nsignals) (λ s h. b .signals .earlier s h ∙ simp add-zero at (begun-is s 0 h (omega arith))))
 
   history-is : (s : ℕ) → s < c .nsignals → historyOf (c .signals) s ≡ replicate 32 (firstSignal M s)
   unfolding historyOf
@@ -107,7 +119,7 @@ module _ (M : Model) (fs : Facts M) (c : Config) (d : Driver) (vs : List ℕ) (b
 
   view-first : viewOf c ≡ first M
   unfolding viewOf first
-  view-first = rw (signals-are, drivers-are, processes-are, variables-are, b .time, b .deltas)
+  view-first = rw (signals-are, earlier-are, drivers-are, processes-are, variables-are, b .time, b .deltas)
 
   due-is : (k : ℕ) → k < c .ndrivers → getD (c .due) k 0 ≡ firstTime (pendingOf (c .time) (getD (c .drivers) k noDriver))
   due-is k h =

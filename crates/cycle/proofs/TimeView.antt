@@ -10,6 +10,7 @@ use lib.ListN.{length, getD, set, length-set}
 use lib.Seq.{getD-set-same, getD-set-other}
 use Rattle.base.proofs.Below.{list-same}
 use Rattle.blocks.specs.Records.{Model}
+use Rattle.model.specs.Facts.{Facts}
 use Rattle.rules.specs.Steps.{timeStep}
 use Rattle.rules.specs.Orders.{advanceDone, earliest, dueTimes}
 use Rattle.rules.specs.Configuration.{lastTime}
@@ -19,11 +20,13 @@ use Rattle.waveforms.specs.Pending.{pendingOf, noDriver, firstTime}
 use Rattle.waveforms.specs.Waveform.{Ahead, Elapsed}
 use Rattle.waveforms.specs.declared.driver.Driver.{Driver}
 use Rattle.waveforms.proofs.Drivers.{pending-length, ahead-of}
+use Rattle.steps.specs.Entries.{earlierOf}
 use Rattle.steps.specs.Shift.{ShiftedBy}
 use Rattle.steps.proofs.Shifts.{all-shifted}
 use Rattle.cycle.specs.View.{driverView, processView, viewOf, Valid, outcomeOf, Answers}
 use Rattle.cycle.specs.declared.config.Config.{Config}
 use Rattle.cycle.specs.declared.orders.Answered.{Answered}
+use Rattle.cycle.proofs.Advances.{few-signals}
 use Rattle.cycle.proofs.ViewLaws.{ndrivers-is, pending-in}
 
 abbrev pub driverAt : Config → ℕ → Driver
@@ -116,7 +119,7 @@ abbrev pub answeredBy : Config → Answered
 answeredBy r = record { answer = record { refusal = 0; byte = 2; picks = 0; value = 0 }; config = r }
 
 -- to the earliest due time t
-module _ (M : Model) (c : Config) (f : Valid M c) (t : ℕ) (e : earliest (dueTimes M (viewOf c)) ≡ some t) (l : t ≤ lastTime) where
+module _ (M : Model) (fs : Facts M) (c : Config) (f : Valid M c) (t : ℕ) (e : earliest (dueTimes M (viewOf c)) ≡ some t) (l : t ≤ lastTime) where
   -- no pending transaction is nearer than the units passed
   pub each-ahead : (k : ℕ) → k < c .ndrivers → Ahead (t - c .time) (driverAt c k)
   unfolding timeStep
@@ -139,6 +142,7 @@ module _ (M : Model) (c : Config) (f : Valid M c) (t : ℕ) (e : earliest (dueTi
       later-view =
           rw (
             all-shifted (c .signals) new (t - c .time) (c .nsignals) s,
+            list-same (earlierOf new) (earlierOf (c .signals)) (c .nsignals) (λ j m. s .left (1024 + j) (omega (arith, few-signals fs f))),
             list-same (driverView (later (withPast c new ds) t)) (driverView c) (c .ndrivers) (λ k m. rw (pending-same k m)),
           )
 

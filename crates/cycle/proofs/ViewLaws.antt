@@ -15,7 +15,7 @@ use Rattle.rules.specs.Orders.{isReady}
 use Rattle.rules.specs.Invariant.{Reachable}
 use Rattle.waveforms.specs.Pending.{drivenOf, pendingOf, noDriver}
 use Rattle.waveforms.specs.declared.driver.Driver.{Driver}
-use Rattle.steps.specs.Entries.{deadlineOf, historyOf}
+use Rattle.steps.specs.Entries.{deadlineOf, historyOf, earlierOf}
 use Rattle.steps.proofs.Shifts.{history-at}
 use Rattle.cycle.specs.View.{driverView, processView, viewOf}
 use Rattle.cycle.specs.declared.config.Config.{Config}
@@ -25,6 +25,10 @@ module _ (c : Config) where
   pub signals-long : length (viewOf c .signals) ≡ c .nsignals
   unfolding viewOf
   signals-long = list-length (historyOf (c .signals)) (c .nsignals)
+
+  pub earlier-long : length (viewOf c .earlier) ≡ c .nsignals
+  unfolding viewOf
+  earlier-long = list-length (earlierOf (c .signals)) (c .nsignals)
 
   pub drivers-long : length (viewOf c .drivers) ≡ c .ndrivers
   unfolding viewOf
@@ -44,6 +48,10 @@ module _ (c : Config) where
 
   pub past-in : (s k : ℕ) → s < c .nsignals → k < 32 → pastOf (viewOf c .signals) s k ≡ getD (c .signals) (32 * s + k) 0
   past-in s k h l = rw (history-in s h) (history-at (c .signals) s k l)
+
+  pub earlier-in : (s : ℕ) → s < c .nsignals → getD (viewOf c .earlier) s 0 ≡ earlierOf (c .signals) s
+  unfolding viewOf
+  earlier-in s h = list-at (earlierOf (c .signals)) 0 (c .nsignals) s h
 
   pub driver-in : (k : ℕ) → k < c .ndrivers → driverIn (viewOf c .drivers) k ≡ driverView c k
   unfolding viewOf
@@ -123,6 +131,7 @@ pub view-is : (c : Config) → viewOf c ≡ record {
   time = c .time;
   deltas = c .deltas;
   signals = listBelow (historyOf (c .signals)) (c .nsignals);
+  earlier = listBelow (earlierOf (c .signals)) (c .nsignals);
   drivers = listBelow (driverOf (c .time) (c .currents) (c .drivers)) (c .ndrivers);
   processes = listBelow (rowOf (c .places) (c .standings) (c .deadlines) (c .faults) (c .nodes)) (c .nprocesses);
   variables = listBelow (λ a. getD (c .variables) a 0) (c .nvariables);

@@ -9,7 +9,7 @@ use Rattle.rules.specs.Statements.{stepped}
 use Rattle.rules.specs.Orders.{Outcome, picked, settled, readOf}
 use Rattle.rules.specs.Invariant.{Reachable}
 use Rattle.waveforms.specs.Pending.{drivenOf, pendingOf, noDriver, firstTime}
-use Rattle.steps.specs.Entries.{deadlineOf, historyOf}
+use Rattle.steps.specs.Entries.{deadlineOf, historyOf, earlierOf}
 use Rattle.cycle.specs.declared.config.Config.{Config}
 use Rattle.cycle.specs.declared.orders.Answer.{Answer}
 use Rattle.cycle.specs.declared.orders.Answered.{Answered}
@@ -36,6 +36,7 @@ viewOf c =
       time = c .time;
       deltas = c .deltas;
       signals = listBelow (historyOf (c .signals)) (c .nsignals);
+      earlier = listBelow (earlierOf (c .signals)) (c .nsignals);
       drivers = listBelow (driverView c) (c .ndrivers);
       processes = listBelow (processView c) (c .nprocesses);
       variables = listBelow (λ a. getD (c .variables) a 0) (c .nvariables);

@@ -9,6 +9,7 @@ use crate::orders::Answered;
 use blocks::index::Index;
 use steps::delta::Processes;
 use steps::delta::actives;
+use steps::delta::keep;
 use steps::delta::resolve;
 use steps::delta::wake;
 use steps::due::next_due;
@@ -52,6 +53,7 @@ impl Config {
                 }
                 k += 1;
             }
+            keep(&mut self.signals, nsignals);
             let currents = self.currents;
             let changed = resolve(
                 m,

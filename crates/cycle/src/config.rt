@@ -15,11 +15,12 @@ use blocks::index::process_at;
 use blocks::index::signal_at;
 use blocks::index::variable_at;
 use rules::READY;
+use steps::delta::keep;
 use steps::resolve::resolved;
 use waveforms::driver::Driver;
 use waveforms::driver::NEVER;
 
-// Signal s of k units ago stands at 32 * s + k. Driver k: its current value, its waveform, and the time of its first pending
+// Signal s of k units ago stands at 32 * s + k, and its value before the latest delta step at 1024 + s. Driver k: its current value, its waveform, and the time of its first pending
 // transaction (due), the largest number where it has none. A waveform's times are held as units from now: 32 bits, since a delay
 // has 31. Process p: a deadline is the largest number where it has none.
 // The numbers stand before the arrays, the time last of them: the list's loop keeps the time by itself, and the compiler then copies
@@ -31,7 +32,7 @@ pub struct Config {
     pub nprocesses: usize,
     pub deltas: u64,
     pub time: u64,
-    pub signals: [u32; 1024],
+    pub signals: [u32; 1056],
     pub currents: [u32; 64],
     pub due: [u64; 64],
     pub drivers: [Driver; 64],
@@ -114,11 +115,11 @@ fn first_values<'a>(
 }
 
 // Histories in which each of the first n values stands 32 times.
-fn histories(values: &[u32; 32], n: usize) -> [u32; 1024]
+fn histories(values: &[u32; 32], n: usize) -> [u32; 1056]
     requires { ⌜ n ≤ 32 ⌝ }
     ensures { λ r. ⌜ EntriesAre (valueAt (now (values .entry))) (32 * n) r ⌝ }
 {
-    let mut r = [0u32; 1024];
+    let mut r = [0u32; 1056];
     let mut i = 0;
     while i < 32 * n {
         r[i] = values[i / 32];
@@ -140,7 +141,7 @@ impl Config {
             nvariables: 0,
             ndrivers: 0,
             nprocesses: 0,
-            signals: [0; 1024],
+            signals: [0; 1056],
             currents: [0; 64],
             due: [NEVER; 64],
             drivers: [d; 64],
@@ -163,7 +164,8 @@ impl Config {
         let places = first_places(m, index, t.processes);
         let currents = first_currents(m, index, t.drivers);
         let values = first_values(m, index, &currents, t.drivers, t.signals);
-        let signals = histories(&values, t.signals);
+        let mut signals = histories(&values, t.signals);
+        keep(&mut signals, t.signals);
         Config {
             time: 0,
             deltas: 0,

@@ -19,7 +19,7 @@ use Rattle.waveforms.specs.Pending.{never, drivenOf, pendingOf, noDriver}
 use Rattle.waveforms.specs.declared.driver.Driver.{Driver}
 use Rattle.cycle.specs.View.{driverView, processView, viewOf}
 use Rattle.cycle.specs.declared.config.Config.{Config}
-use Rattle.cycle.proofs.ViewLaws.{signals-long, drivers-long, processes-long, variables-long, driver-in}
+use Rattle.cycle.proofs.ViewLaws.{signals-long, earlier-long, drivers-long, processes-long, variables-long, driver-in}
 use Rattle.exports.specs.Dump.{noProcess, noTransaction, drivenWord, totalWord, driverWord, processWord, wordOf}
 
 -- the time, where the view's is known
@@ -39,6 +39,11 @@ pub past-none : (c : Config) (s k : ℕ) → c .nsignals ≤ s → 0 ≡ pastOf 
 past-none c s k h =
     let l : length (viewOf c .signals) ≤ s = omega (arith, signals-long c) in
     rw (List·getD-eq-default (viewOf c .signals) [] l)
+
+pub earlier-none : (c : Config) (s : ℕ) → c .nsignals ≤ s → 0 ≡ getD (viewOf c .earlier) s 0
+earlier-none c s h =
+    let l : length (viewOf c .earlier) ≤ s = omega (arith, earlier-long c) in
+    rw (List·getD-eq-default (viewOf c .earlier) 0 l)
 
 pub variable-none : (c : Config) (a : ℕ) → c .nvariables ≤ a → 0 ≡ getD (viewOf c .variables) a 0
 variable-none c a h =
@@ -153,9 +158,15 @@ module _ (C : Configuration) (i : ℕ) where
   unfolding wordOf
   in-processes l h = rw (le-ltb i 6 (omega arith), le-ltb i 1030 (omega arith), le-ltb i 1094 (omega arith), le-ltb i 2246 l, lt-ltb i 2342 h)
 
-  pub past-all : 2342 ≤ i → wordOf C i ≡ 0
+  pub in-earlier : 2342 ≤ i → i < 2374 → wordOf C i ≡ getD (C .earlier) (i - 2342) 0
   unfolding wordOf
-  past-all l = rw (le-ltb i 6 (omega arith), le-ltb i 1030 (omega arith), le-ltb i 1094 (omega arith), le-ltb i 2246 (omega arith), le-ltb i 2342 l)
+  in-earlier l h =
+      rw (le-ltb i 6 (omega arith), le-ltb i 1030 (omega arith), le-ltb i 1094 (omega arith), le-ltb i 2246 (omega arith), le-ltb i 2342 l, lt-ltb i 2374 h)
+
+  pub past-all : 2374 ≤ i → wordOf C i ≡ 0
+  unfolding wordOf
+  past-all l =
+      rw (le-ltb i 6 (omega arith), le-ltb i 1030 (omega arith), le-ltb i 1094 (omega arith), le-ltb i 2246 (omega arith), le-ltb i 2342 (omega arith), le-ltb i 2374 l)
 
 -- the loop over the buffer wrote it all
 pub all-written : (f : ℕ → ℕ) (d out : List ℕ) (i : ℕ) → i ≤ length d → length d ≤ i → out ≡ (take 0 d ++ listBelow f i) ++ drop i d → out ≡ listBelow f (length d)

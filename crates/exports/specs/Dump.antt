@@ -1,4 +1,4 @@
--- A configuration written out as numbers, for programs that compare configurations: 2342 words, and 0 past them.
+-- A configuration written out as numbers, for programs that compare configurations: 2374 words, and 0 past them.
 use mathlib.Core.Option.{Option, none, some}
 use Prim.Native.Nat.{ℕ, _-_, _/_, _%_}
 use lib.Dec.{ltb}
@@ -57,7 +57,8 @@ processWord P j =
     ∣ j is 4 ⇒ isSet (P .deadline)
     ∣ timeOf (P .deadline)
 
--- word i: the totals, 32 values of each of 32 signals, 64 variables, 18 words of each of 64 drivers, 6 of each of 16 processes
+-- word i: the totals, 32 values of each of 32 signals, 64 variables, 18 words of each of 64 drivers, 6 of each of 16 processes, the
+-- earlier value of each signal
 unfoldable pub wordOf : Configuration → ℕ → ℕ
 wordOf C i =
     ltb i 6 ⇒ totalWord C i
@@ -65,4 +66,5 @@ wordOf C i =
     ∣ ltb i 1094 ⇒ getD (C .variables) (i - 1030) 0
     ∣ ltb i 2246 ⇒ driverWord (driverIn (C .drivers) ((i - 1094) / 18)) ((i - 1094) % 18)
     ∣ ltb i 2342 ⇒ processWord (getD (C .processes) ((i - 2246) / 6) noProcess) ((i - 2246) % 6)
+    ∣ ltb i 2374 ⇒ getD (C .earlier) (i - 2342) 0
     ∣ 0

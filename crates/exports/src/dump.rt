@@ -37,6 +37,17 @@ fn signal_word(c: Config, s: usize, k: usize) -> u64
     0
 }
 
+fn earlier_word(c: Config, s: usize) -> u64
+    requires { ⌜ s < 32 ⌝ }
+    ensures { λ r. ⌜ r ≡ getD (viewOf c .earlier) s 0 ⌝ }
+{
+    let n = c.nsignals;
+    if s < n {
+        return c.signals[1024 + s] as u64;
+    }
+    0
+}
+
 fn variable_word(c: Config, a: usize) -> u64
     requires { ⌜ a < 64 ⌝ }
     ensures { λ r. ⌜ r ≡ getD (viewOf c .variables) a 0 ⌝ }
@@ -144,6 +155,9 @@ fn word(c: Config, i: usize) -> u64
     }
     if i < 2342 {
         return process_word(c, (i - 2246) / 6, (i - 2246) % 6);
+    }
+    if i < 2374 {
+        return earlier_word(c, i - 2342);
     }
     0
 }

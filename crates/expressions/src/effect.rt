@@ -99,7 +99,7 @@ pub fn effect_of<'a>(
     m: &'a [u8],
     index: &'a Index,
     variables: &'a [u32; 64],
-    signals: &'a [u32; 1024],
+    signals: &'a [u32; 1056],
     n: usize,
 ) -> Effect
     requires { ⌜ Runs (now m) (now index) ⌝ }

@@ -1,11 +1,11 @@
 // The value of an expression.
 ghost use mathlib.Core.Path.{_≡_};
-ghost use Prim.Native.Nat.{_+_, _*_, _≤_, _<_};
+ghost use Prim.Native.Nat.{_<_};
 ghost use lib.ListN.{length, getD};
 ghost use Rattle.blocks.specs.Records.{modelOf};
 ghost use Rattle.rules.specs.declared.value.Value.the-variants.{Of};
-ghost use Rattle.rules.specs.Evaluation.{evalOf};
-ghost use Rattle.expressions.specs.Reading.{arrays, Runs};
+ghost use Rattle.rules.specs.Evaluation.{Held, delayedBy, evalOf};
+ghost use Rattle.expressions.specs.Reading.{signalSlot, arrays, Runs};
 use crate::operators::and;
 use crate::operators::decided;
 use crate::operators::divide;
@@ -21,6 +21,7 @@ use crate::operators::xor;
 use blocks::index::Index;
 use blocks::index::node_at;
 use integers::division::Division;
+use rules::moment::Moment;
 use rules::value::Value;
 use trees::types::type_at;
 
@@ -37,12 +38,35 @@ fn wide32(x: u32) -> usize
     x as usize
 }
 
-// Signal a, k units ago.
-fn signal_of(signals: &[u32; 1024], a: usize, k: u32) -> Value
-    requires { ⌜ (a < 32) × (k ≤ 31) ⌝ }
-    ensures { λ r. ⌜ r ≡ Of (getD (now (signals .entry)) (32 * a + k) 0) ⌝ }
+// The moment of "delayed by k".
+fn delayed(k: u32) -> Moment
+    ensures { λ r. ⌜ r ≡ delayedBy k ⌝ }
 {
-    Value::Of(signals[32 * a + wide32(k)])
+    if k == 0 {
+        Moment::DeltaAgo
+    } else {
+        Moment::UnitsAgo(k)
+    }
+}
+
+// Where signal a at a moment stands.
+fn slot(a: usize, at: Moment) -> usize
+    requires { ⌜ (a < 32) × Held at ⌝ }
+    ensures { λ r. ⌜ r ≡ signalSlot a at ⌝ }
+{
+    match at {
+        Moment::Now => 32 * a,
+        Moment::DeltaAgo => 1024 + a,
+        Moment::UnitsAgo(k) => 32 * a + wide32(k),
+    }
+}
+
+// Signal a at a moment.
+fn signal_of(signals: &[u32; 1056], a: usize, at: Moment) -> Value
+    requires { ⌜ (a < 32) × Held at ⌝ }
+    ensures { λ r. ⌜ r ≡ Of (getD (now (signals .entry)) (signalSlot a at) 0) ⌝ }
+{
+    Value::Of(signals[slot(a, at)])
 }
 
 // The value of node n. Operands are evaluated by this function, a before b. They are lent the model as a slice of its own: the one
@@ -51,7 +75,7 @@ pub fn eval<'a>(
     m: &'a [u8],
     index: &'a Index,
     variables: &'a [u32; 64],
-    signals: &'a [u32; 1024],
+    signals: &'a [u32; 1056],
     n: usize,
 ) -> Value
     requires { ⌜ Runs (now m) (now index) ⌝ }
@@ -68,8 +92,8 @@ pub fn eval<'a>(
         1 => Value::Of(d.k),
         2 => Value::Of(d.k),
         3 => variable_of(variables, a),
-        4 => signal_of(signals, a, 0),
-        5 => signal_of(signals, a, d.k),
+        4 => signal_of(signals, a, Moment::Now),
+        5 => signal_of(signals, a, delayed(d.k)),
         6 => not(
             type_at(m, index, n),
             eval(whole, index, variables, signals, a),

@@ -21,7 +21,7 @@ use Rattle.rules.specs.declared.value.Value.the-variants.{Of, Fault}
 use Rattle.rules.specs.Configuration.{ProcessState, Configuration, driverIn, processIn, pastOf, currentOf, waiting, lastTime}
 use Rattle.rules.specs.Evaluation.{Environment, environmentOf, evalOf}
 use Rattle.rules.specs.Failing.{FaultNamed}
-use Rattle.rules.specs.Steps.{taken, deadlineDue, active, withCurrent, undriven, valueAfter, signalAfter, signalsAfter, changedIn, wakes, wokenBy, wokenIf, wokenAt, processAfterDelta, deltaStep, shifted, timeStep}
+use Rattle.rules.specs.Steps.{taken, deadlineDue, active, withCurrent, undriven, valueAfter, signalAfter, signalsAfter, earlierAfter, changedIn, wakes, wokenBy, wokenIf, wokenAt, processAfterDelta, deltaStep, shifted, timeStep}
 use Rattle.rules.specs.Orders.{optional, earliest, dueTimes}
 use Rattle.rules.specs.Invariant.{ValueOf, DriverValid, DeadlineValid, ProcessValid, Reachable}
 use Rattle.rules.proofs.Failing.{fault-named}
@@ -91,7 +91,7 @@ module _ (M : Model) (fs : Facts M) (c : Configuration) (r : Reachable M c) wher
 
   -- what a wait's condition is read on
   abbrev now : Environment
-  now = environmentOf (c .variables) (signalsAfter M c)
+  now = environmentOf (c .variables) (signalsAfter M c) (earlierAfter M c)
 
   module _ (p : ℕ) (h : p < length (M .processes)) where
     abbrev q : ProcessState
@@ -148,7 +148,7 @@ module _ (M : Model) (fs : Facts M) (c : Configuration) (r : Reachable M c) wher
       rw (list-at (processAfterDelta M c (signalsAfter M c)) _ (length (M .processes)) p h) (process-delta p h)
 
   pub delta-reachable : c .deltas < 1000 → Reachable M (deltaStep M c)
-  unfolding deltaStep signalsAfter
+  unfolding deltaStep signalsAfter earlierAfter
   delta-reachable d =
       record {
         time = r .time;
@@ -156,6 +156,8 @@ module _ (M : Model) (fs : Facts M) (c : Configuration) (r : Reachable M c) wher
         signals = list-length (signalAfter M c) (length (M .signals));
         histories = λ s h. rw (history-at s h) (history-length s h);
         signal-values = signals-typed;
+        earlier = list-length (currentOf (c .signals)) (length (M .signals));
+        earlier-values = λ s h. rw (list-at (currentOf (c .signals)) 0 (length (M .signals)) s h) (r .signal-values s 0 h (omega arith));
         drivers = length-map (c .drivers) _ ∙ r .drivers;
         each-driver = taken-valid;
         processes = list-length _ (length (M .processes));
@@ -211,6 +213,8 @@ module _ (M : Model) (c : Configuration) (r : Reachable M c) (t : ℕ) (e : earl
         histories = λ s h. rw (shifted-at s h) (shifted-length (t - c .time) (getD (c .signals) s []) (r .histories s h));
         signal-values = λ s k h m. rw (shifted-at s h)
             (shifted-each (ValueOf (signalAt M s .ty)) (t - c .time) (getD (c .signals) s []) (r .histories s h) (λ k m. r .signal-values s k h m) k m);
+        earlier = r .earlier;
+        earlier-values = r .earlier-values;
         drivers = r .drivers;
         each-driver = λ k h. driver-later _ (c .time) _ (r .each-driver k h) t (transactions-later M c t e k h);
         processes = r .processes;

@@ -27,7 +27,9 @@ use Rattle.rules.specs.declared.value.Value.the-variants.{Of, Fault}
 use Rattle.rules.specs.declared.effect.Effect.{Effect}
 use Rattle.rules.specs.declared.effect.Effect.the-variants.{Wait, WaitFor, Stop}
 use Rattle.rules.specs.Configuration.{Configuration, processIn}
-use Rattle.rules.specs.Evaluation.{Environment, environmentOf, failure, noNode, int, evalOf}
+use Rattle.rules.specs.declared.moment.Moment.{Moment}
+use Rattle.rules.specs.declared.moment.Moment.the-variants.{Now, DeltaAgo, UnitsAgo}
+use Rattle.rules.specs.Evaluation.{Environment, Held, signalIn, environmentOf, failure, noNode, int, evalOf}
 use Rattle.rules.specs.Failing.{ExpressionFails, FaultNamed}
 use Rattle.rules.specs.Statements.{withValue, withDelay, effectBy, effectOf}
 use Rattle.rules.specs.Invariant.{EffectFits, ScheduleFits, Reachable}
@@ -106,8 +108,13 @@ module _ (M : Model) (fs : Facts M) (p : ℕ) where
       rw (g .owner i s) at (t .fits)
 
 module _ (M : Model) (c : Configuration) (r : Reachable M c) where
-  pub environment-fits : EnvironmentFits M (environmentOf (c .variables) (c .signals))
-  environment-fits = record { variable = r .variable-values; signal = λ s k h l. r .signal-values s k h (omega arith) }
+  pub environment-fits : EnvironmentFits M (environmentOf (c .variables) (c .signals) (c .earlier))
+  environment-fits = record { variable = r .variable-values; signal = held }
+    where
+      held : (s : ℕ) (w : Moment) → s < length (M .signals) → Held w → valueOk (signalAt M s .ty) (signalIn (c .signals) (c .earlier) s w) ≡ true
+      held s Now h l = r .signal-values s 0 h (omega arith)
+      held s DeltaAgo h l = r .earlier-values s h
+      held s (UnitsAgo k) h l = r .signal-values s k h (omega arith)
 
   -- the place of a process is one of its statements
   pub placed : (p : ℕ) → p < length (M .processes) → Spans M p (processIn (c .processes) p .place)
@@ -117,5 +124,5 @@ module _ (M : Model) (c : Configuration) (r : Reachable M c) where
   pub effect-fits : Facts M → (p : ℕ) → p < length (M .processes) → EffectFits M p (statementAt M (processIn (c .processes) p .place) .kind) (effectOf M c p)
   unfolding effectOf
   effect-fits fs p h =
-      effect-by M fs p (environmentOf (c .variables) (c .signals)) environment-fits (statementAt M (processIn (c .processes) p .place))
+      effect-by M fs p (environmentOf (c .variables) (c .signals) (c .earlier)) environment-fits (statementAt M (processIn (c .processes) p .place))
       (own-statement M fs p h (processIn (c .processes) p .place) (placed p h))

@@ -30,14 +30,16 @@ use Rattle.model.specs.Owners.{readsOwn}
 use Rattle.model.specs.Facts.{Facts, NodeFits, NodeTyped}
 use Rattle.rules.specs.declared.value.Value.{Value}
 use Rattle.rules.specs.declared.value.Value.the-variants.{Of, Fault}
-use Rattle.rules.specs.Evaluation.{Environment, truth, int, one, two, unlessFirst, notBy, andBy, orBy, xorBy, ranged, negateOf, sumOf, differenceOf, equalOf, lessOf, productOf, divided, valueBy, nextValue, evalOf}
+use Rattle.rules.specs.declared.moment.Moment.{Moment}
+use Rattle.rules.specs.declared.moment.Moment.the-variants.{Now}
+use Rattle.rules.specs.Evaluation.{Environment, delayedBy, Held, truth, int, one, two, unlessFirst, notBy, andBy, orBy, xorBy, ranged, negateOf, sumOf, differenceOf, equalOf, lessOf, productOf, divided, valueBy, nextValue, evalOf}
 use Rattle.rules.proofs.Signed.{int-zero, int-size}
 
 -- node d is read in the same way with e, p and q as with e', p' and q': where its kind reads them they are the same
 pub record Alike (d : NodeRecord) (e e' : Environment) (p p' q q' : Value) : Type 0 where
   pub variable : d .kind ≡ 3 → e .variable (d .a) ≡ e' .variable (d .a)
-  pub current : d .kind ≡ 4 → e .signal (d .a) 0 ≡ e' .signal (d .a) 0
-  pub delayed : d .kind ≡ 5 → e .signal (d .a) (d .k) ≡ e' .signal (d .a) (d .k)
+  pub current : d .kind ≡ 4 → e .signal (d .a) Now ≡ e' .signal (d .a) Now
+  pub delayed : d .kind ≡ 5 → e .signal (d .a) (delayedBy (d .k)) ≡ e' .signal (d .a) (delayedBy (d .k))
   pub first : 6 ≤ d .kind → p ≡ p'
   pub second : 7 ≤ d .kind → (d .kind ≡ 10 → ⊥) → q ≡ q'
 
@@ -103,9 +105,13 @@ module _ (M : Model) (e : Environment) (n : ℕ) (f : NodeFits M n) where
     pub leaf : ((p q : Value) → v ≡ valueBy e n d ty p q) → v ≡ evalOf M e n
     leaf w = unary (evalOf M e (d .a)) refl (λ q. w (evalOf M e (d .a)) q)
 
+-- a configuration holds what a delay reads
+pub delay-held : (k : ℕ) → k ≤ 31 → Held (delayedBy k)
+delay-held k l = by-test Held (eqb k 0) _ _ (λ e. tt) (λ e. l)
+
 -- two environments are the same on the signals that M has
 abbrev pub SameSignals : Model → Environment → Environment → Type 0
-SameSignals M e e' = (s k : ℕ) → s < length (M .signals) → k ≤ 31 → e .signal s k ≡ e' .signal s k
+SameSignals M e e' = (s : ℕ) (w : Moment) → s < length (M .signals) → Held w → e .signal s w ≡ e' .signal s w
 
 module _ (M : Model) (fs : Facts M) (e e' : Environment) where
   -- what is read is the same, so the value is the same, if it is so of the operands
@@ -126,8 +132,8 @@ module _ (M : Model) (fs : Facts M) (e e' : Environment) where
       alike =
           record {
             variable = v;
-            current = λ k. ss (nodeAt M n .a) 0 (f .signal (omega arith) (omega arith)) (omega arith);
-            delayed = λ k. ss (nodeAt M n .a) (nodeAt M n .k) (f .signal (omega arith) (omega arith)) (f .delay k);
+            current = λ k. ss (nodeAt M n .a) Now (f .signal (omega arith) (omega arith)) tt;
+            delayed = λ k. ss (nodeAt M n .a) (delayedBy (nodeAt M n .k)) (f .signal (omega arith) (omega arith)) (delay-held (nodeAt M n .k) (f .delay k));
             first = a;
             second = b;
           }
@@ -232,7 +238,7 @@ module _ (ty : ℕ) (known : 1 ≤ ty) (most : ty ≤ 2) (p q : Value) (hp : Typ
 -- what e gives is of the type that M says
 pub record EnvironmentFits (M : Model) (e : Environment) : Type 0 where
   pub variable : (a : ℕ) → a < length (M .variables) → valueOk (variableAt M a .ty) (e .variable a) ≡ true
-  pub signal : (s k : ℕ) → s < length (M .signals) → k ≤ 31 → valueOk (signalAt M s .ty) (e .signal s k) ≡ true
+  pub signal : (s : ℕ) (w : Moment) → s < length (M .signals) → Held w → valueOk (signalAt M s .ty) (e .signal s w) ≡ true
 
 module _ (M : Model) (fs : Facts M) (e : Environment) (ok : EnvironmentFits M e) where
   module _ (n : ℕ) (h : n < length (M .nodes)) (p q : Value)
@@ -255,8 +261,8 @@ module _ (M : Model) (fs : Facts M) (e : Environment) (ok : EnvironmentFits M e)
           ((λ k. rw k (f .constant (omega arith)))
           and (λ k. rw k (f .constant (omega arith)))
           and (λ k. rw (k, t .variable k) (ok .variable (nodeAt M n .a) (f .variable k)))
-          and (λ k. rw (k, t .signal (omega arith) (omega arith)) (ok .signal (nodeAt M n .a) 0 (f .signal (omega arith) (omega arith)) (omega arith)))
-          and (λ k. rw (k, t .signal (omega arith) (omega arith)) (ok .signal (nodeAt M n .a) (nodeAt M n .k) (f .signal (omega arith) (omega arith)) (f .delay k)))
+          and (λ k. rw (k, t .signal (omega arith) (omega arith)) (ok .signal (nodeAt M n .a) Now (f .signal (omega arith) (omega arith)) tt))
+          and (λ k. rw (k, t .signal (omega arith) (omega arith)) (ok .signal (nodeAt M n .a) (delayedBy (nodeAt M n .k)) (f .signal (omega arith) (omega arith)) (delay-held (nodeAt M n .k) (f .delay k))))
           and tt)
           l (omega arith) refl
 

@@ -72,6 +72,8 @@ module _ (M : Model) (fs : Facts M) where
         signals = list-length _ (length (M .signals));
         histories = λ s h. rw (signal-at s h) (length-replicate 32 (firstSignal M s));
         signal-values = past-typed;
+        earlier = list-length (firstSignal M) (length (M .signals));
+        earlier-values = λ s h. rw (list-at (firstSignal M) 0 (length (M .signals)) s h) (first-typed s h);
         drivers = length-map (M .drivers) _;
         each-driver = driver-valid;
         processes = length-map (M .processes) _;

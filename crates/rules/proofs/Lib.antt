@@ -1,4 +1,5 @@
 pub mod AdvanceReachable
+pub mod Delays
 pub mod Driving
 pub mod DueTimes
 pub mod Earliest

@@ -178,7 +178,7 @@ module _ (M : Model) (fs : Facts M) (c : Configuration) (r : Reachable M c) wher
   unfolding effectOf applied
   local p q x other ox h =
       rw (process-stays M p q x other c)
-      (effect-same M q (environmentOf (variablesAfter x (c .variables)) (c .signals)) (environmentOf (c .variables) (c .signals))
+      (effect-same M q (environmentOf (variablesAfter x (c .variables)) (c .signals) (c .earlier)) (environmentOf (c .variables) (c .signals) (c .earlier))
       (agree M fs _ _ q (λ s k h l. refl) (λ a l own. variable-stays M p q x other ox (c .variables) a own))
       (statementAt M (processIn (c .processes) q .place))
       (own-statement M fs q h (processIn (c .processes) q .place) (placed M c r q h)))

@@ -146,6 +146,8 @@ module _ (M : Model) (fs : Facts M) (c : Configuration) (r : Reachable M c) (p :
         signals = r .signals;
         histories = r .histories;
         signal-values = r .signal-values;
+        earlier = r .earlier;
+        earlier-values = r .earlier-values;
         drivers = length-drivers e (c .time) (c .drivers) ∙ r .drivers;
         each-driver = drivers-after M p _ (c .time) (r .time) (c .drivers) (r .drivers) (r .each-driver) e x;
         processes = length-set (c .processes) p _ ∙ r .processes;

@@ -1,7 +1,7 @@
 -- The configuration: "It holds the time, the count of delta steps at this time, and per signal the current value and those of
 -- 1 to 31 time units ago; per driver a current value and a waveform of at most eight pending transactions (time, value),
 -- rising in time; per process variables, place, standing (0 ready, 1 waiting, 2 stopped), deadline and fault." Document 02, item 3:
--- "A process keeps the node (0 without a fault) beside its fault".
+-- "A process keeps the node (0 without a fault) beside its fault"; item 4: "The configuration gains that earlier value for every signal."
 -- A value is 32 bits: an integer in two's complement, a logic value as its code 0 to 8, a boolean as 0 or 1. What a transaction
 -- carries, a pending one or a driver's current one, is a value or null (`Driven`: `To v` or `Null`); a driver that is null is off.
 use mathlib.Core.List.{List, [], _∷_, map}
@@ -55,6 +55,8 @@ pub record Configuration : Type 0 where
   pub deltas : ℕ
   -- per signal the values of 0 to 31 units ago
   pub signals : List (List ℕ)
+  -- per signal the value before the latest delta step
+  pub earlier : List ℕ
   pub drivers : List DriverState
   pub processes : List ProcessState
   -- the variables of all processes, as the model numbers them
@@ -76,7 +78,7 @@ currentOf ss s = pastOf ss s 0
 
 -- "the empty configuration: no signals, drivers or processes, time and count 0"
 abbrev pub empty : Configuration
-empty = record { time = 0; deltas = 0; signals = []; drivers = []; processes = []; variables = [] }
+empty = record { time = 0; deltas = 0; signals = []; earlier = []; drivers = []; processes = []; variables = [] }
 
 -- "A driver whose current transaction is null adds nothing to the resolution."
 abbrev pub valuesOf : Driven → List ℕ
@@ -105,13 +107,15 @@ unfoldable pub firstSignal : Model → ℕ → ℕ
 firstSignal M s = resolvedOr (signalAt M s .start) (drivingOf M (firstDrivers M) s)
 
 -- "At first time and count are 0, all processes are ready at their first statement with no deadline and fault 0, variables have
--- their starting values [..] Values before time 0 are that first current value." The node is "0 without a fault".
+-- their starting values [..] Values before time 0 are that first current value." The node is "0 without a fault". The
+-- earlier value is "the first current value if there was none": no delta step yet.
 unfoldable pub first : Model → Configuration
 first M =
     record {
       time = 0;
       deltas = 0;
       signals = listBelow (λ s. replicate 32 (firstSignal M s)) (length (M .signals));
+      earlier = listBelow (firstSignal M) (length (M .signals));
       drivers = firstDrivers M;
       processes = map (λ p. record { place = p .first; standing = ready; deadline = none; fault = 0; node = 0 }) (M .processes);
       variables = map (λ v. v .start) (M .variables);

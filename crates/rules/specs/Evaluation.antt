@@ -4,7 +4,7 @@
 -- integers."
 use mathlib.Core.Bool.{Bool, true, false, not, _&&_}
 use mathlib.Core.List.{List}
-use Prim.Native.Nat.{ℕ}
+use Prim.Native.Nat.{ℕ, _≤_}
 use lib.Dec.{eqb, ltb}
 use lib.ListN.{getD}
 use lib.IntN.{ℤ, natAbs, negℤ, _+ℤ_, _-ℤ_, _*ℤ_}
@@ -21,16 +21,34 @@ use Rattle.trees.specs.Trees.{boolean, typeOf}
 use Rattle.rules.specs.declared.value.Failure.{Failure}
 use Rattle.rules.specs.declared.value.Value.{Value}
 use Rattle.rules.specs.declared.value.Value.the-variants.{Of, Fault}
-use Rattle.rules.specs.Configuration.{pastOf}
+use Rattle.rules.specs.declared.moment.Moment.{Moment}
+use Rattle.rules.specs.declared.moment.Moment.the-variants.{Now, DeltaAgo, UnitsAgo}
+use Rattle.rules.specs.Configuration.{pastOf, currentOf}
 
--- what an expression reads: the variables, and the signals of 0 to 31 units ago
+-- what an expression reads: a variable, and a signal at a moment: now, one delta ago or some units ago
 pub record Environment : Type 0 where
   pub variable : ℕ → ℕ
-  pub signal : ℕ → ℕ → ℕ
+  pub signal : ℕ → Moment → ℕ
 
--- "A delay of 0 reads the current value"
-abbrev pub environmentOf : List ℕ → List (List ℕ) → Environment
-environmentOf vs ss = record { variable = λ a. getD vs a 0; signal = pastOf ss }
+-- the moment of "delayed by k". Document 02, item 4, of a delay of 0: "It shall read the value that the signal had before the latest
+-- delta step".
+abbrev pub delayedBy : ℕ → Moment
+delayedBy k = k is 0 ⇒ DeltaAgo ∣ UnitsAgo k
+
+-- the moments of which a configuration holds the signals' values
+abbrev pub Held : Moment → Type 0
+Held Now = Unit {0}
+Held DeltaAgo = Unit {0}
+Held (UnitsAgo k) = k ≤ 31
+
+-- signal s at a moment: ss are the signals' values of 0 to 31 units ago, es their earlier ones
+abbrev pub signalIn : List (List ℕ) → List ℕ → ℕ → Moment → ℕ
+signalIn ss es s Now = currentOf ss s
+signalIn ss es s DeltaAgo = getD es s 0
+signalIn ss es s (UnitsAgo k) = pastOf ss s k
+
+abbrev pub environmentOf : List ℕ → List (List ℕ) → List ℕ → Environment
+environmentOf vs ss es = record { variable = λ a. getD vs a 0; signal = signalIn ss es }
 
 -- a boolean's value
 abbrev pub truth : Bool → ℕ
@@ -119,8 +137,8 @@ valueBy e n d ty p q =
     d .kind is 1 ⇒ Of (d .k)
     ∣ d .kind is 2 ⇒ Of (d .k)
     ∣ d .kind is 3 ⇒ Of (e .variable (d .a))
-    ∣ d .kind is 4 ⇒ Of (e .signal (d .a) 0)
-    ∣ d .kind is 5 ⇒ Of (e .signal (d .a) (d .k))
+    ∣ d .kind is 4 ⇒ Of (e .signal (d .a) Now)
+    ∣ d .kind is 5 ⇒ Of (e .signal (d .a) (delayedBy (d .k)))
     ∣ d .kind is 6 ⇒ notBy ty p
     ∣ d .kind is 7 ⇒ andBy ty p q
     ∣ d .kind is 8 ⇒ orBy ty p q

@@ -75,6 +75,8 @@ pub record Reachable (M : Model) (c : Configuration) : Type 0 where
   pub signals : length (c .signals) ≡ length (M .signals)
   pub histories : (s : ℕ) → s < length (M .signals) → length (getD (c .signals) s []) ≡ 32
   pub signal-values : (s k : ℕ) → s < length (M .signals) → k < 32 → ValueOf (signalAt M s .ty) (pastOf (c .signals) s k)
+  pub earlier : length (c .earlier) ≡ length (M .signals)
+  pub earlier-values : (s : ℕ) → s < length (M .signals) → ValueOf (signalAt M s .ty) (getD (c .earlier) s 0)
   pub drivers : length (c .drivers) ≡ length (M .drivers)
   pub each-driver : (k : ℕ) → k < length (M .drivers) → DriverValid (signalAt M (driverAt M k .signal)) (c .time) (driverIn (c .drivers) k)
   pub processes : length (c .processes) ≡ length (M .processes)

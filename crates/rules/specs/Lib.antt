@@ -1,4 +1,5 @@
 pub mod Configuration
+pub mod Delays
 pub mod Evaluation
 pub mod Failing
 pub mod Invariant

@@ -48,7 +48,7 @@ effectBy M e p s =
 -- the effect of the statement at process p's place
 unfoldable pub effectOf : Model → Configuration → ℕ → Effect
 effectOf M c p =
-    effectBy M (environmentOf (c .variables) (c .signals)) p (statementAt M (processIn (c .processes) p .place))
+    effectBy M (environmentOf (c .variables) (c .signals) (c .earlier)) p (statementAt M (processIn (c .processes) p .place))
 
 -- the pending transactions before the time at
 unfoldable pub before : ℕ → List Transaction → List Transaction
@@ -131,6 +131,7 @@ applied M p e c =
       time = c .time;
       deltas = c .deltas;
       signals = c .signals;
+      earlier = c .earlier;
       drivers = driversAfter e (c .time) (c .drivers);
       processes =
           set (c .processes) p

@@ -71,6 +71,10 @@ signalAfter M c s =
 unfoldable pub signalsAfter : Model → Configuration → List (List ℕ)
 signalsAfter M c = listBelow (signalAfter M c) (length (M .signals))
 
+-- "the value that the signal had before the latest delta step", once that of c is done
+unfoldable pub earlierAfter : Model → Configuration → List ℕ
+earlierAfter M c = listBelow (currentOf (c .signals)) (length (M .signals))
+
 -- bit n of a set
 unfoldable pub inSet : ℕ → ℕ → Bool
 inSet set n = eqb (set / 2 ^ n % 2) 1
@@ -92,11 +96,12 @@ wokenBy M p q (Of x) = eqb x 1 ⇒ wakes M p q ∣ q
 unfoldable pub wokenIf : Model → ℕ → Environment → StatementRecord → ProcessState → ProcessState
 wokenIf M p e s q = eqb (s .b) absent ⇒ wakes M p q ∣ wokenBy M p q (evalOf M e (s .b))
 
--- "b is worked out only when such a change occurred and no deadline is due"
+-- "b is worked out only when such a change occurred and no deadline is due". Delayed by 0 it reads the value before the latest delta
+-- step, "for a wait's condition, the one under way".
 unfoldable pub wokenAt : Model → ℕ → Configuration → List (List ℕ) → StatementRecord → ProcessState → ProcessState
 wokenAt M p c new s q =
     deadlineDue (c .time) q ⇒ wakes M p q
-    ∣ changedIn M (s .set) (c .signals) new ⇒ wokenIf M p (environmentOf (c .variables) new) s q
+    ∣ changedIn M (s .set) (c .signals) new ⇒ wokenIf M p (environmentOf (c .variables) new (earlierAfter M c)) s q
     ∣ q
 
 -- process p after a delta step that gave the signals the values new
@@ -112,6 +117,7 @@ deltaStep M c =
       time = c .time;
       deltas = c .deltas + 1;
       signals = signalsAfter M c;
+      earlier = earlierAfter M c;
       drivers = map (taken (c .time)) (c .drivers);
       processes = listBelow (processAfterDelta M c (signalsAfter M c)) (length (M .processes));
       variables = c .variables;
@@ -122,13 +128,14 @@ deltaStep M c =
 unfoldable pub shifted : ℕ → List ℕ → List ℕ
 shifted n h = take 32 (replicate (min n 32) (getD h 0 0) ++ h)
 
--- "a time step to the earliest due time, count to 0, no current value changed"
+-- "a time step to the earliest due time, count to 0, no current value changed"; nor an earlier one: "A time step does not alter it."
 unfoldable pub timeStep : ℕ → Configuration → Configuration
 timeStep t c =
     record {
       time = t;
       deltas = 0;
       signals = map (shifted (t - c .time)) (c .signals);
+      earlier = c .earlier;
       drivers = c .drivers;
       processes = c .processes;
       variables = c .variables;

@@ -1,4 +1,5 @@
 pub mod Answers
+pub mod DelayLaws
 pub mod Demand3
 pub mod FaultLaws
 pub mod InTime

@@ -1,3 +1,4 @@
+pub mod DelayLaws
 pub mod Demand3
 pub mod FaultLaws
 pub mod ListLaws

@@ -4,6 +4,7 @@ pub mod play;
 
 ghost use mathlib.Core.Path.{_≡_};
 ghost use Rattle.base.specs.Rules.{firstFailing};
+ghost use Rattle.session.specs.DelayLaws.{DelayLaws};
 ghost use Rattle.session.specs.Demand3.{Determinate};
 ghost use Rattle.session.specs.FaultLaws.{FaultLaws};
 ghost use Rattle.session.specs.ListLaws.{ListLaws};
@@ -40,6 +41,7 @@ pub fn session(model: &[u8], orders: &[u8], answers: &mut [u8]) -> Ended
     ensures { λ r. ⌜ Determinate ⌝ }
     ensures { λ r. ⌜ ListLaws ⌝ }
     ensures { λ r. ⌜ FaultLaws ⌝ }
+    ensures { λ r. ⌜ DelayLaws ⌝ }
 {
     let loaded = load(model);
     let refusal = loaded.refusal;

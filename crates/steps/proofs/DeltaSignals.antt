@@ -7,7 +7,7 @@ use native.Mathlib.Nat.{add-zero, le-antisymm}
 use native.Mathlib.Decide.{ℕ-discrete}
 use native.Mathlib.Omega.{arith}
 use lib.Dec.{eqb}
-use lib.ListN.{length, getD, set}
+use lib.ListN.{length, getD, set, length-set}
 use lib.Seq.{getD-set-same, getD-set-other}
 use borrow.Author.Count.{below-none, below-more}
 use borrow.Author.Tests.{eq-eqb, ne-eqb}
@@ -18,7 +18,7 @@ use Rattle.model.specs.Facts.{Facts}
 use Rattle.rules.specs.Configuration.{resolvedOr}
 use Rattle.rules.specs.Steps.{undriven, inSet}
 use Rattle.steps.specs.Entries.{drivingIn}
-use Rattle.steps.specs.Delta.{SetOf, activeIn, currentAfter, ResolvedTo}
+use Rattle.steps.specs.Delta.{SetOf, activeIn, KeptTo, currentAfter, ResolvedTo}
 use Rattle.steps.proofs.SignalSets.{in-none}
 
 -- one driver after the other
@@ -42,6 +42,27 @@ module _ (M : Model) (due : List ℕ) (t : ℕ) where
 -- a driver's signal is one of the 32
 pub signal-below : (M : Model) → Facts M → (k : ℕ) (d : DriverRecord) → k < length (M .drivers) → d ≡ driverAt M k → d .signal < 32
 signal-below M fs k d h e = rw e (omega (arith, fs .driver k h .signal, fs .totals .signals))
+
+-- the current values of one signal after the other are kept as the earlier ones
+module _ (old : List ℕ) where
+  pub kept-none : KeptTo old 0 old
+  kept-none = record { long = refl; earlier = below-none _; other = λ j h. refl }
+
+  pub kept-more : (j : ℕ) (new : List ℕ) → j < 32 → length old ≡ 1056 → KeptTo old j new → KeptTo old (j + 1) (set new (1024 + j) (getD new (32 * j) 0))
+  kept-more j new h long r =
+      record {
+        long = length-set new (1024 + j) _ ∙ r .long;
+        earlier =
+            below-more _ _ (λ s l. elsewhere (1024 + s) (λ e. omega arith) ∙ r .earlier s l)
+            (getD-set-same new (1024 + j) _ 0 (omega (arith, r .long)) ∙ r .other (32 * j) (λ l. omega arith));
+        other = λ i l. elsewhere i (λ e. omega (arith, l (omega arith))) ∙ r .other i (λ g. omega (arith, l g));
+      }
+    where
+      elsewhere : (i : ℕ) → (i ≡ 1024 + j → ⊥) → getD (set new (1024 + j) (getD new (32 * j) 0)) i 0 ≡ getD new i 0
+      elsewhere i e = getD-set-other new (1024 + j) i _ 0 e
+
+  pub kept-all : (j n : ℕ) (new : List ℕ) → j ≤ n → n ≤ j → KeptTo old j new → KeptTo old n new
+  kept-all j n new h g r = rw (le-antisymm h g) at r
 
 -- one signal after the other
 module _ (M : Model) (currents : List ℕ) (ndrivers active : ℕ) (old : List ℕ) where

@@ -4,16 +4,18 @@ use mathlib.Core.Bool.{Bool, not, _&&_}
 use mathlib.Core.List.{List}
 use Prim.Native.Nat.{ℕ, _+_, _*_, _≤_, _<_}
 use lib.Dec.{eqb}
-use lib.ListN.{getD}
+use lib.ListN.{length, getD}
 use Rattle.base.specs.Below.{anyBelow}
 use Rattle.base.specs.Cases.{_∣_, _⇒_}
 use Rattle.blocks.specs.Records.{Model, signalAt, driverAt, statementAt}
 use Rattle.blocks.specs.declared.records.StatementRecord.{StatementRecord}
 use Rattle.fields.specs.Fields.{absent}
+use Rattle.rules.specs.declared.moment.Moment.the-variants.{Now, DeltaAgo}
 use Rattle.rules.specs.Configuration.{ProcessState, resolvedOr, waiting}
 use Rattle.rules.specs.Evaluation.{Environment, evalOf}
 use Rattle.rules.specs.Steps.{undriven, inSet, deadlineDue, wakes, wokenBy}
 use Rattle.rules.specs.Invariant.{ProcessValid}
+use Rattle.expressions.specs.Reading.{signalSlot}
 use Rattle.steps.specs.Entries.{deadlineOf, drivingIn}
 use Rattle.steps.specs.declared.delta.Process.{Process}
 use Rattle.steps.specs.declared.delta.Processes.{Processes}
@@ -25,6 +27,12 @@ pub record SetOf (f : ℕ → Bool) (set : ℕ) : Type 0 where
 -- one of the first n drivers drives signal s and has its first transaction due at t
 unfoldable pub activeIn : Model → List ℕ → ℕ → ℕ → ℕ → Bool
 activeIn M due t n s = anyBelow (λ k. eqb (driverAt M k .signal) s && eqb (getD due k 0) t) n
+
+-- the earlier values of the first n signals are their current ones, and all else is as it was
+pub record KeptTo (old : List ℕ) (n : ℕ) (new : List ℕ) : Type 0 where
+  pub long : length new ≡ length old
+  pub earlier : (s : ℕ) → s < n → getD new (signalSlot s DeltaAgo) 0 ≡ getD old (signalSlot s Now) 0
+  pub other : (j : ℕ) → (1024 ≤ j → 1024 + n ≤ j) → getD new j 0 ≡ getD old j 0
 
 -- the current value of signal s: where it is active, the resolution of the current values of those of the ndrivers drivers that are on
 unfoldable pub currentAfter : Model → List ℕ → ℕ → ℕ → List ℕ → ℕ → ℕ

@@ -9,7 +9,7 @@ ghost use Rattle.rules.specs.Steps.{wakes, wokenBy};
 ghost use Rattle.rules.specs.Configuration.{lastTime};
 ghost use Rattle.rules.specs.Invariant.{ProcessValid};
 ghost use Rattle.expressions.specs.Reading.{arrays, Runs};
-ghost use Rattle.steps.specs.Delta.{SetOf, activeIn, ResolvedTo, stateOf, wokenFor, afterDelta, ProcessesValid, WokenTo};
+ghost use Rattle.steps.specs.Delta.{SetOf, activeIn, KeptTo, ResolvedTo, stateOf, wokenFor, afterDelta, ProcessesValid, WokenTo};
 use crate::resolve::resolved;
 use crate::resolve::undriven;
 use crate::sets::has;
@@ -51,6 +51,20 @@ pub fn actives<'a>(
     active
 }
 
+// The current values of the n signals become their earlier ones.
+pub fn keep(signals: &mut [u32; 1056], n: usize)
+    requires { ⌜ n ≤ 32 ⌝ }
+    requires { ⌜ length (now signals) ≡ 1056 ⌝ }
+    ensures { λ _. ⌜ KeptTo (now (signals .entry)) n (now (signals .exit)) ⌝ }
+{
+    let mut s = 0;
+    while s < n {
+        let current = signals[32 * s];
+        signals[1024 + s] = current;
+        s += 1;
+    }
+}
+
 // Each active signal becomes the resolution of its drivers' current values, or what it is undriven. The result is the set of those that
 // changed.
 pub fn resolve<'a>(
@@ -59,13 +73,13 @@ pub fn resolve<'a>(
     currents: &'a [u32; 64],
     ndrivers: usize,
     active: u32,
-    signals: &'a mut [u32; 1024],
+    signals: &'a mut [u32; 1056],
     nsignals: usize,
 ) -> u32
     requires { ⌜ Runs (now m) (now index) ⌝ }
     requires { ⌜ ndrivers ≡ length (modelOf (now m) .drivers) ⌝ }
     requires { ⌜ nsignals ≡ length (modelOf (now m) .signals) ⌝ }
-    requires { ⌜ length (now signals) ≡ 1024 ⌝ }
+    requires { ⌜ length (now signals) ≡ 1056 ⌝ }
     ensures { λ r. ⌜ ResolvedTo (modelOf (now (m .entry))) (now (currents .entry)) ndrivers active (now (signals .entry)) nsignals (now (signals .exit)) r ⌝ }
 {
     let mut changed: u32 = 0;
@@ -145,7 +159,7 @@ fn woken_if<'a>(
     m: &'a [u8],
     index: &'a Index,
     variables: &'a [u32; 64],
-    signals: &'a [u32; 1024],
+    signals: &'a [u32; 1056],
     p: usize,
     q: Process,
     b: usize,
@@ -168,7 +182,7 @@ fn after_delta<'a>(
     m: &'a [u8],
     index: &'a Index,
     variables: &'a [u32; 64],
-    signals: &'a [u32; 1024],
+    signals: &'a [u32; 1056],
     changed: u32,
     time: u64,
     p: usize,
@@ -198,7 +212,7 @@ pub fn wake<'a>(
     m: &'a [u8],
     index: &'a Index,
     variables: &'a [u32; 64],
-    signals: &'a [u32; 1024],
+    signals: &'a [u32; 1056],
     changed: u32,
     time: u64,
     nprocesses: usize,

@@ -11,10 +11,10 @@ fn lesser(a: usize, n: u64) -> usize
 }
 
 // Of the history at base, each entry after the n-th takes what stood n before it: from the last down, so that what it takes still stands.
-fn move_past(signals: &mut [u32; 1024], base: usize, n: usize)
+fn move_past(signals: &mut [u32; 1056], base: usize, n: usize)
     requires { ⌜ base + 32 ≤ 1024 ⌝ }
     requires { ⌜ n < 32 ⌝ }
-    requires { ⌜ length (now signals) ≡ 1024 ⌝ }
+    requires { ⌜ length (now signals) ≡ 1056 ⌝ }
     ensures { λ r. ⌜ MovedBy (now (signals .entry)) base n (now (signals .exit)) ⌝ }
 {
     let last = base + n;
@@ -27,10 +27,10 @@ fn move_past(signals: &mut [u32; 1024], base: usize, n: usize)
 }
 
 // Of the history at base, each of the n entries after the first takes the first's value.
-fn fill_recent(signals: &mut [u32; 1024], base: usize, n: usize)
+fn fill_recent(signals: &mut [u32; 1056], base: usize, n: usize)
     requires { ⌜ base + 32 ≤ 1024 ⌝ }
     requires { ⌜ n < 32 ⌝ }
-    requires { ⌜ length (now signals) ≡ 1024 ⌝ }
+    requires { ⌜ length (now signals) ≡ 1056 ⌝ }
     ensures { λ r. ⌜ FilledTo (now (signals .entry)) base n (now (signals .exit)) ⌝ }
 {
     let current = signals[base];
@@ -42,9 +42,9 @@ fn fill_recent(signals: &mut [u32; 1024], base: usize, n: usize)
 }
 
 // The histories of nsignals signals, after n units.
-pub fn shift(signals: &mut [u32; 1024], nsignals: usize, n: u64)
+pub fn shift(signals: &mut [u32; 1056], nsignals: usize, n: u64)
     requires { ⌜ nsignals ≤ 32 ⌝ }
-    requires { ⌜ length (now signals) ≡ 1024 ⌝ }
+    requires { ⌜ length (now signals) ≡ 1056 ⌝ }
     ensures { λ r. ⌜ ShiftedBy (now (signals .entry)) n nsignals (now (signals .exit)) ⌝ }
 {
     let k = lesser(31, n);

@@ -23,7 +23,7 @@
 
 use second_kernel::builder::Builder;
 use second_kernel::cycle::{Config, Step, DELTA_LIMIT, NINTH, TIME_LIMIT};
-use second_kernel::features::{self, arithmetic, nulls, Seen, FEATURES};
+use second_kernel::features::{self, arithmetic, delay_zero, nulls, Seen, FEATURES};
 use second_kernel::gen;
 use second_kernel::model::{self, Model, ABSENT, BUS, INTEGER, LOGIC, PLAIN, REGISTER};
 use second_kernel::numbers::Counts;
@@ -41,8 +41,13 @@ const TIME_STEPS: usize = 60;
 const PICKS: usize = 16 * vhdl::STEPS;
 
 /// What many models must show: nulls that come due in one lively model of five,
-/// operators that are done in one of ten.
-const OFTEN: [(&[&str], u64); 2] = [(&nulls::DUE, 5), (&arithmetic::OPERATORS, 10)];
+/// operators that are done in one of ten, and a delay of 0 that the current value
+/// would not tell in one of fifty.
+const OFTEN: [(&[&str], u64); 3] = [
+    (&nulls::DUE, 5),
+    (&arithmetic::OPERATORS, 10),
+    (&delay_zero::TOLD, 50),
+];
 
 /// Signal values at a time.
 type Row = (u64, Vec<i32>);
@@ -67,12 +72,10 @@ struct Run {
     /// What it shows of the features up to the last row.
     shown: Seen,
     end: End,
-    /// The time up to which GHDL is to run.
+    /// The time up to which GHDL is to run, and the delta cycles of a time that it may
+    /// make.
     stop: u64,
-}
-
-fn values(c: &Config) -> Vec<i32> {
-    c.signals.iter().map(|s| s[0]).collect()
+    cycles: u32,
 }
 
 /// Settles; false if some process is still ready after many picks.
@@ -91,16 +94,22 @@ fn settle(c: &mut Config, m: &Model, orders: &mut Vec<[u8; 4]>) -> bool {
 
 fn run(m: &Model) -> Run {
     let mut c = Config::first(m);
-    let mut rows = vec![(0, values(&c))];
+    let mut rows = vec![(0, c.current())];
     let reads: Vec<[u8; 4]> = (0..rows[0].1.len()).map(|s| [4, s as u8, 0, 0]).collect();
     let mut orders = reads.clone();
     let mut compared = 0;
+    let mut cycles = DELTA_LIMIT;
     let end = loop {
         if !settle(&mut c, m, &mut orders) {
             break End::NoWait;
         }
-        let (time, row) = (c.time, values(&c));
+        let (time, row) = (c.time, c.current());
+        let last = c.delta == DELTA_LIMIT;
         let step = c.advance(m);
+        if last && step != Err(16) && m.nodes.iter().any(delay_zero::is_delay_zero) {
+            // The delayed signals follow in a cycle more.
+            cycles = DELTA_LIMIT + 1;
+        }
         if !matches!(step, Ok(Step::Delta) | Err(15 | 16)) {
             orders.extend(&reads);
         }
@@ -138,6 +147,7 @@ fn run(m: &Model) -> Run {
         shown,
         end,
         stop,
+        cycles,
     }
 }
 
@@ -216,8 +226,8 @@ const FAILURES: [&str; 6] = [
     "bound check failure",
 ];
 
-/// Runs GHDL on a text up to a time, that time included.
-fn ghdl(text: &str, stop: u64, dir: &Path, name: &str) -> Result<(Vec<Row>, Outcome), String> {
+/// Runs GHDL on a case's text up to a time, that time included.
+fn ghdl(text: &str, case: &Case, dir: &Path, name: &str) -> Result<(Vec<Row>, Outcome), String> {
     let file = dir.join(name);
     std::fs::write(&file, text).map_err(|e| e.to_string())?;
     let out = Command::new("timeout")
@@ -225,8 +235,8 @@ fn ghdl(text: &str, stop: u64, dir: &Path, name: &str) -> Result<(Vec<Row>, Outc
         .arg(format!("--workdir={}", dir.display()))
         .arg(&file)
         .args(["-r", "top"])
-        .arg(format!("--stop-time={stop}ns"))
-        .arg(format!("--stop-delta={DELTA_LIMIT}"))
+        .arg(format!("--stop-time={}ns", case.stop))
+        .arg(format!("--stop-delta={}", case.cycles))
         .output()
         .map_err(|e| format!("ghdl: {e}"))?;
     let _ = std::fs::remove_file(&file);
@@ -293,6 +303,7 @@ struct Case {
     /// A signal changes, as the second kernel has it.
     lively: bool,
     stop: u64,
+    cycles: u32,
     changes: Vec<Row>,
     /// What the run shows of the features up to the last row.
     shown: Seen,
@@ -307,6 +318,7 @@ impl Case {
             shown,
             end,
             stop,
+            cycles,
         } = run(&model);
         let proved = proved_rows(bytes, &orders, rows[0].1.len());
         let second = changes(rows);
@@ -314,6 +326,7 @@ impl Case {
             name,
             model,
             stop,
+            cycles,
             proved: proved.is_some(),
             lively: second.len() > 1,
             changes: proved.map_or(second, changes),
@@ -373,6 +386,34 @@ fn counted(kind: u8, start: i32, steps: i32) -> Case {
     )
 }
 
+/// A signal changes in so many delta steps of a time, and a process has it delayed by 0
+/// in each.
+fn followed(start: i32, steps: i32) -> Case {
+    let mut b = Builder::new();
+    let (s, t) = (b.signal(LOGIC, 2), b.signal(LOGIC, 2));
+    let v = b.variable(INTEGER, 0, 0);
+    let (zero, one) = (b.integer(0), b.integer(1));
+    let (first, many) = (b.integer(start), b.integer(steps));
+    let (read_v, read_s, before) = (b.read_variable(v), b.read_signal(s), b.delayed(s, 0));
+    let (more, next) = (b.binary(14, read_v, many), b.binary(11, read_v, one));
+    let turned = b.unary(6, read_s);
+    b.driver(0, s);
+    b.driver(1, t);
+    b.process();
+    b.wait(0, ABSENT, first);
+    b.unless(more, 6);
+    b.assign(v, next);
+    b.schedule(s, turned, zero);
+    b.wait(1 << s, ABSENT, ABSENT);
+    b.go(1);
+    b.wait(0, ABSENT, ABSENT);
+    b.process();
+    b.wait(1 << s, ABSENT, ABSENT);
+    b.schedule(t, before, one);
+    let bytes = b.encode();
+    Case::new(format!("{steps} changes from time {start}"), b.m, &bytes)
+}
+
 /// The models from the seed on until n are lively.
 fn choose(n: usize, first: u64) -> Vec<Case> {
     let mut cases: Vec<Case> = Vec::new();
@@ -407,7 +448,7 @@ fn compare_all(
             s.spawn(|| loop {
                 let n = next.fetch_add(1, Ordering::Relaxed);
                 let Some(case) = cases.get(n) else { return };
-                let result = ghdl(&texts[n], case.stop, dir, &format!("model{n}.vhd"))
+                let result = ghdl(&texts[n], case, dir, &format!("model{n}.vhd"))
                     .and_then(|(rows, outcome)| compare(case, &changes(rows), outcome));
                 if let Err(e) = result {
                     bad.lock().unwrap().push((case.name.clone(), e));
@@ -498,6 +539,7 @@ fn main() {
             cases.extend((998..1_003).map(|k| counted(kind, at, k)));
         }
     }
+    cases.extend((997..1_002).map(|k| followed(3, k)));
     let mut counts: BTreeMap<End, [usize; 4]> = BTreeMap::new();
     for c in &cases {
         let row = counts.entry(c.end).or_default();
@@ -531,12 +573,12 @@ fn main() {
     }
     let rows: usize = cases.iter().map(|c| c.changes.len() - 1).sum();
     let proved = cases.iter().filter(|c| c.proved).count();
-    let [nulls, operators] =
+    let [nulls, operators, delays] =
         OFTEN.map(|(names, _)| cases.iter().filter(|c| c.shows(names)).count());
     println!(
         "ghdlrun: {} models ({proved} played by the proved kernel, {nulls} with nulls that came due, \
-         {operators} with products, quotients, mods or rems), {rows} changes of settled values, \
-         {} models differ",
+         {operators} with products, quotients, mods or rems, {delays} with delays of 0 that the current \
+         value would not tell), {rows} changes of settled values, {} models differ",
         cases.len(),
         bad.len()
     );

@@ -10,7 +10,7 @@ use crate::numbers;
 use crate::rng::Rng;
 
 /// How many random sessions there are, and from which seed on.
-pub const RANDOM: u64 = 600;
+pub const RANDOM: u64 = 1_000;
 const SEED: u64 = 1;
 
 /// Two files for the program.

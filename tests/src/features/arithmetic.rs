@@ -2,7 +2,7 @@
 //! session is played again pick by pick; before a statement runs, and when a
 //! wait's condition is asked, the operators of its expressions are looked at.
 
-use super::{advance_asking, ready_place, replay, Player, Seen};
+use super::{advance_asking, decides, in_roles, ready_place, replay, Player, Seen};
 use crate::cycle::*;
 use crate::integers::*;
 use crate::model::Role::*;
@@ -35,23 +35,14 @@ pub fn in_models() -> Vec<&'static str> {
 
 /// What an accepted model shows.
 pub fn of_model(m: &Model) -> Seen {
-    let trees = trees(m);
-    let all = m.statements.iter().flat_map(expressions);
-    let roles: Vec<Role> = all.filter(|e| trees[e.1 as usize]).map(|e| e.0).collect();
     let has = |kind: u8| m.nodes.iter().any(|n| n.kind == kind);
     let kinds = KINDS.iter().filter(|row| has(row.1)).map(|row| row.0);
-    let roles = ROLES.iter().filter(|row| roles.contains(&row.1));
-    kinds.chain(roles.map(|row| row.0)).collect()
+    kinds.chain(in_roles(m, &trees(m), ROLES)).collect()
 }
 
 /// For each node: does its tree have one of the kinds?
 fn trees(m: &Model) -> Vec<bool> {
-    let mut list: Vec<bool> = vec![];
-    for n in &m.nodes {
-        let below = operands(n).iter().any(|&o| list[o as usize]);
-        list.push(below || ARITHMETIC.contains(&n.kind));
-    }
-    list
+    super::trees(m, |n| ARITHMETIC.contains(&m.nodes[n].kind))
 }
 
 /// An operator that is worked out in an expression. b is told also where it is
@@ -330,11 +321,7 @@ impl Play<'_> {
         let n = self.m.nodes[node as usize];
         self.expression(n.a, role);
         let a = self.value(n.a);
-        let decided = matches!(
-            (n.kind, a),
-            (7, Ok(Value::Boolean(false))) | (8, Ok(Value::Boolean(true)))
-        );
-        if decided {
+        if decides(self.m, &self.c, &n) {
             let skipped = self.number(n.b) == Err(DIVISOR_ZERO);
             self.see(SKIPPED, skipped);
         } else if operands(&n).len() == 2 && a.is_ok() {

@@ -2,7 +2,7 @@
 //! by pick; where a process stops in an expression, the way from its top node down
 //! to the one that failed is followed.
 
-use super::{advance_asking, ready_place, replay, Player, Seen};
+use super::{advance_asking, decides, ready_place, replay, trees, Player, Seen};
 use crate::cycle::*;
 use crate::integers::*;
 use crate::model::Role::*;
@@ -179,10 +179,7 @@ fn skipping(m: &Model) -> Vec<bool> {
 
 /// How many expressions of statements have the node.
 fn trees_with(m: &Model, node: u16) -> usize {
-    let mut has = vec![false; m.nodes.len()];
-    for (n, record) in m.nodes.iter().enumerate() {
-        has[n] = n == node as usize || operands(record).iter().any(|&o| has[o as usize]);
-    }
+    let has = trees(m, |n| n == node as usize);
     let tops = m.statements.iter().flat_map(roots);
     tops.filter(|&top| has[top as usize]).count()
 }
@@ -294,7 +291,7 @@ impl Play<'_> {
         let n = &self.m.nodes[node as usize];
         let operands = operands(n);
         for (at, &operand) in operands.iter().enumerate() {
-            if at == 1 && self.decides(n) {
+            if at == 1 && decides(self.m, &self.c, n) {
                 way.skipped |= self.fails(operand);
                 break;
             }
@@ -308,15 +305,6 @@ impl Play<'_> {
             }
         }
         self.fails(node).then_some(node)
-    }
-
-    /// Is it a boolean `and` or `or` whose a decides?
-    fn decides(&self, n: &NodeRecord) -> bool {
-        let a = self.c.evaluate(self.m, n.a);
-        matches!(
-            (n.kind, a),
-            (7, Ok(Value::Boolean(false))) | (8, Ok(Value::Boolean(true)))
-        )
     }
 
     /// Looks at the end configuration.

@@ -162,7 +162,7 @@ mod tests {
     // that grow past a limit.
     #[test]
     fn a_listing_makes_a_model_that_does_the_same() {
-        let (mut compared, mut with_null, mut with_division, mut failed) = (0, 0, 0, 0);
+        let (mut compared, mut with_null, mut with_division, mut with_delay_0, mut failed) = (0, 0, 0, 0, 0);
         for seed in 0..4_000 {
             let mut rng = Rng::new(seed);
             let m = gen::model(&mut rng);
@@ -176,11 +176,13 @@ mod tests {
                 failed += ours.1.len();
                 with_null += m.statements.iter().any(|s| s.kind == 6) as usize;
                 with_division += m.nodes.iter().any(|d| (16..=18).contains(&d.kind)) as usize;
+                with_delay_0 += m.nodes.iter().any(|d| d.kind == 5 && d.k == 0) as usize;
             }
         }
         assert!(compared > 500, "{compared} models compared");
         assert!(with_null > 100, "{with_null} of them with a null transaction");
         assert!(with_division > 100, "{with_division} of them with a division");
+        assert!(with_delay_0 > 50, "{with_delay_0} of them with a delay of 0");
         assert!(failed > 30, "{failed} nodes that failed");
     }
 

@@ -21,6 +21,9 @@
 //! `and or xor` weakest; those that bind alike group to the left. A minus sign binds as `+ -` do: `- a mod b` is `- (a mod b)`,
 //! and after `* / mod rem` a negative operand has parentheses, as in `a * (- b)`.
 //!
+//! `SIGNAL delayed K` is the signal's value K time units ago, K from 1 to 31; `SIGNAL delayed 0` is its value before the latest
+//! delta step, in a wait's condition before the one under way.
+//!
 //! The words `null not and or xor mod rem` are reserved: they name nothing.
 //!
 //! Orders: `pick P`, `advance`, `settle N`, `read S`, with numbers.
@@ -461,6 +464,15 @@ process p0
         }
     }
 
+    // A delay of 0 is no plain read.
+    #[test]
+    fn delays() {
+        let text = format!("{OPERANDS}v0 := s0 delayed 0\nv0 := s0 delayed 1\nv0 := s0 delayed 31\nv0 := s0");
+        let m = load(&model(&text).expect("a model text")).expect("an accepted model");
+        let read = |kind, k| NodeRecord { kind, a: 0, b: 0, k };
+        assert_eq!(m.nodes, [read(5, 0), read(5, 1), read(5, 31), read(4, 0)]);
+    }
+
     // A listing shows each group in parentheses, and makes the same blocks.
     #[test]
     fn operators_group_as_in_vhdl() {
@@ -538,6 +550,12 @@ process p0
             ("not - v0", sign),
             ("v0 * 2147483648", too_large),
             ("- 2147483648", too_large),
+            ("s0 delayed 32", "a delay is a number from 0 to 31, not `32`"),
+            ("s0 delayed - 1", "a delay is a number from 0 to 31, not `-`"),
+            ("s0 delayed v0", "a delay is a number from 0 to 31, not `v0`"),
+            ("s0 delayed", missing),
+            ("v0 delayed 0", "`delayed` is one too many"),
+            ("(s0) delayed 0", "`delayed` is one too many"),
             ("v0 * null", "`null` is no value: it stands alone between `<=` and `after`"),
         ] {
             assert_eq!(model(&format!("{OPERANDS}v0 := {expression}")), Err(format!("line 7: {error}")), "{expression}");

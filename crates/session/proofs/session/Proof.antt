@@ -4,6 +4,7 @@ use borrow.Author.Needs.{needs}
 use Rattle.model.specs.Rules.{refusalOf}
 use Rattle.expressions.proofs.Runs.{runs}
 use Rattle.session.proofs.SessionLaws.{room, model-refused, model-accepted, refused-session, played-session}
+use Rattle.session.proofs.DelayLaws.{delay-laws}
 use Rattle.session.proofs.Demand3.{determinate}
 use Rattle.session.proofs.FaultLaws.{fault-laws}
 use Rattle.session.proofs.ListLaws.{list-laws}
@@ -20,7 +21,7 @@ returns : tie.Need-returns
 returns c =
     let test = c .before in
     let is = test .before .load .ensures in
-    (refused-session _ _ _ _ (is .refusal ∙ sym (model-refused _ _ _ (λ z. test .if1 .taken (is .refusal ∙ z)))) (test .if1 .taken) (c .empty .ensures), (determinate, (list-laws, fault-laws)))
+    (refused-session _ _ _ _ (is .refusal ∙ sym (model-refused _ _ _ (λ z. test .if1 .taken (is .refusal ∙ z)))) (test .if1 .taken) (c .empty .ensures), (determinate, (list-laws, (fault-laws, delay-laws))))
 
 lengths-refusal-requires : tie.Need-lengths-refusal-requires
 lengths-refusal-requires c κs = search needs
@@ -39,7 +40,7 @@ returns-2 : tie.Need-returns-2
 returns-2 c =
     let test = c .before in
     let a = accepted (test .before .before .before) in
-    (refused-session _ _ _ _ (test .before .lengths-refusal .ensures ∙ sym (model-accepted _ _ _ a)) (test .if2 .taken) (c .empty2 .ensures), (determinate, (list-laws, fault-laws)))
+    (refused-session _ _ _ _ (test .before .lengths-refusal .ensures ∙ sym (model-accepted _ _ _ a)) (test .if2 .taken) (c .empty2 .ensures), (determinate, (list-laws, (fault-laws, delay-laws))))
 
 first-requires : tie.Need-first-requires
 first-requires c κs =
@@ -63,7 +64,7 @@ returns-3 c =
     let made = done .before .before .before in
     let test = made .before .before .before in
     let a = accepted (test .before .before .before) in
-    (played-session _ _ _ _ _ (model-accepted _ _ _ a ∙ sym (test .before .lengths-refusal .ensures) ∙ test .if2 .left) refl (rw (made .first .ensures .is) at (done .play .ensures)), (determinate, (list-laws, fault-laws)))
+    (played-session _ _ _ _ _ (model-accepted _ _ _ a ∙ sym (test .before .lengths-refusal .ensures) ∙ test .if2 .left) refl (rw (made .first .ensures .is) at (done .play .ensures)), (determinate, (list-laws, (fault-laws, delay-laws))))
 
 pub session-spec : {M : Type 1} → statement M
 session-spec =

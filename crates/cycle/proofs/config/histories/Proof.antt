@@ -8,7 +8,7 @@ use Rattle.cycle.proofs.config.histories.Statement.{statement}
 use Rattle.cycle.proofs.config.histories.Tie as tie
 
 abbrev Inv-loop : tie.InvT-loop
-Inv-loop values n r₀ i₀ r i = (i ≤ 32 * n) × Filled (valueAt values) 1024 i r
+Inv-loop values n r₀ i₀ r i = (i ≤ 32 * n) × Filled (valueAt values) 1056 i r
 
 abbrev μ-loop : tie.MeasureT-loop
 μ-loop values n r₀ i₀ r i = 32 * n - i

@@ -1,7 +1,7 @@
 -- Each section has its words. Assumes nothing.
 use mathlib.Core.Path.{sym, _∙_}
 use borrow.Author.Needs.{needs}
-use Rattle.exports.proofs.Words.{in-totals, in-signals, in-variables, in-drivers, in-processes, past-all}
+use Rattle.exports.proofs.Words.{in-totals, in-signals, in-variables, in-drivers, in-processes, in-earlier, past-all}
 use Rattle.exports.proofs.dump.word.Statement.{statement}
 use Rattle.exports.proofs.dump.word.Tie as tie
 
@@ -35,8 +35,14 @@ process-word-requires c κs = search needs
 returns-5 : tie.Need-returns-5
 returns-5 c = c .process-word .ensures ∙ sym (search (needs, in-processes))
 
+earlier-word-requires : tie.Need-earlier-word-requires
+earlier-word-requires c κs = search needs
+
 returns-6 : tie.Need-returns-6
-returns-6 c = sym (search (needs, past-all))
+returns-6 c = c .earlier-word .ensures ∙ sym (search (needs, in-earlier))
+
+returns-7 : tie.Need-returns-7
+returns-7 c = sym (search (needs, past-all))
 
 pub word-spec : {M : Type 1} → statement M
 word-spec =
@@ -52,4 +58,6 @@ word-spec =
     returns-4
     process-word-requires
     returns-5
-    returns-6)
+    earlier-word-requires
+    returns-6
+    returns-7)

@@ -10,11 +10,13 @@ use Rattle.values.specs.Operators.{andOf, orOf}
 use Rattle.blocks.proofs.index.node_at.Reads as node-at-reads
 use Rattle.trees.proofs.types.type_at.Reads as type-at-reads
 use Rattle.rules.specs.Evaluation.{valueBy}
+use Rattle.rules.proofs.Evaluation.{delay-held}
 use Rattle.expressions.proofs.Logical.{decides}
 use Rattle.expressions.proofs.Recursion.{call-a, call-b, type-call, variable-below, signal-below, delay-below, no-other, leaf-value, unary-value, binary-value}
 use Rattle.expressions.proofs.eval.eval.Reads as eval
 use Rattle.expressions.proofs.eval.eval.Kinds as eval-kinds
 use Rattle.expressions.proofs.eval.+eval.Lts-eval as eval-lts
+use Rattle.expressions.proofs.eval.delayed.Reads as delayed-reads
 use Rattle.expressions.proofs.eval.signal_of.Reads as signal-of-reads
 use Rattle.expressions.proofs.eval.variable_of.Reads as variable-of-reads
 use Rattle.expressions.proofs.operators.and.Reads as and-reads
@@ -50,6 +52,8 @@ unfolding valueBy
   variable-of-reads.Learnt,
   signal-of-reads.Asked,
   signal-of-reads.Learnt,
+  delayed-reads.Asked,
+  delayed-reads.Learnt,
   type-at-reads.Asked,
   type-at-reads.Learnt,
   eval-below t,
@@ -88,9 +92,15 @@ unfolding valueBy
     -- variable-of-requires
     (λ c κs. variable-below (c .before .before .before .pre) (c .before .node-at .ensures) (c .match .keys3))
     -- signal-of-requires
-    (λ c κs. (signal-below (c .before .before .before .pre) (c .before .node-at .ensures) (omega arith) (omega arith), omega arith))
+    (λ c κs. (signal-below (c .before .before .before .pre) (c .before .node-at .ensures) (omega arith) (omega arith), tt))
+    -- delayed-requires
+    (λ c κs. search needs)
     -- signal-of-requires-2
-    (λ c κs. (signal-below (c .before .before .before .pre) (c .before .node-at .ensures) (omega arith) (omega arith), delay-below (c .before .before .before .pre) (c .before .node-at .ensures) (c .match .keys5)))
+    (λ c κs.
+    let h = c .before in (
+      signal-below (h .before .before .before .pre) (h .before .node-at .ensures) (omega arith) (omega arith),
+      rw (c .delayed .ensures) (delay-held _ (delay-below (h .before .before .before .pre) (h .before .node-at .ensures) (h .match .keys5))),
+    ))
     -- type-at-requires
     (λ c κs. type-call (c .before .before .before .pre) (c .before .node-at .ensures))
     -- eval-requires
@@ -235,8 +245,8 @@ unfolding valueBy
     leaf-value (h .before .before .before .pre) (h .before .node-at .ensures) _ refl (λ p q. rw (h .match .keys4) (c .signal-of .ensures)))
     -- returns-7
     (λ c.
-    let h = c .before in
-    leaf-value (h .before .before .before .pre) (h .before .node-at .ensures) _ refl (λ p q. rw (h .match .keys5) (c .signal-of2 .ensures)))
+    let h = c .before .before in
+    leaf-value (h .before .before .before .pre) (h .before .node-at .ensures) _ refl (λ p q. rw (h .match .keys5, sym (c .before .delayed .ensures)) (c .signal-of2 .ensures)))
     -- returns-8
     (λ c.
     let h = c .before .before .before in

@@ -11,7 +11,7 @@ use Rattle.steps.proofs.delta.resolve.Statement.{statement}
 use Rattle.steps.proofs.delta.resolve.Tie as tie
 
 abbrev Inv-loop : tie.InvT-loop
-Inv-loop m index currents ndrivers active signals₀ nsignals changed₀ s₀ signals changed s = (s ≤ nsignals) × (nsignals ≤ 32) × (length signals ≡ 1024) × ResolvedTo (modelOf m) currents ndrivers active signals₀ s signals changed
+Inv-loop m index currents ndrivers active signals₀ nsignals changed₀ s₀ signals changed s = (s ≤ nsignals) × (nsignals ≤ 32) × (length signals ≡ 1056) × ResolvedTo (modelOf m) currents ndrivers active signals₀ s signals changed
 
 abbrev μ-loop : tie.MeasureT-loop
 μ-loop m index currents ndrivers active signals₀ nsignals changed₀ s₀ signals changed s = nsignals - s

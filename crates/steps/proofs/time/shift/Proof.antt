@@ -9,7 +9,7 @@ use Rattle.steps.proofs.time.shift.Statement.{statement}
 use Rattle.steps.proofs.time.shift.Tie as tie
 
 abbrev Inv-loop : tie.InvT-loop
-Inv-loop signals₀ nsignals n k s₀ signals s = (s ≤ nsignals) × (length signals ≡ 1024) × ShiftedBy signals₀ n s signals
+Inv-loop signals₀ nsignals n k s₀ signals s = (s ≤ nsignals) × (length signals ≡ 1056) × ShiftedBy signals₀ n s signals
 
 abbrev μ-loop : tie.MeasureT-loop
 μ-loop signals₀ nsignals n k s₀ signals s = nsignals - s

@@ -2,6 +2,7 @@
 -- `delta-answers` puts the parts together; in a time step the units passed elapse for the drivers passed, and `time-stepped` puts
 -- the parts together. Assumes nothing.
 use mathlib.Core.Logic.{⊎-elim}
+use mathlib.Core.Path.{_∙_}
 use Prim.Native.Nat.{_≤_, _-_}
 use denote.Ref.{now}
 use borrow.Author.Needs.{needs}
@@ -144,29 +145,35 @@ advance-spec =
           (λ w. rw (w .1) (taking-same _ _ _ (head .inv .2) (slot-kept _ (slotOf (head .self) (head .k)) timed (w .0 .left))))
           (c .if3 .came),
     ))
+    -- keep-requires
+    (λ c κs.
+    let at = c .before .before in
+    let e = looked at in
+    (few-signals (facts e) (valid e), at .loop .inv .2 .signals))
     -- resolve-requires
     (λ c κs.
-    let at = c .before .before .before .before in
+    let at = c .before .before .before .before .before .before in
     let e = looked at in
-    (entry e .pre .0, (ndrivers-is _ _ (valid e .reachable), (nsignals-is _ _ (valid e .reachable), at .loop .inv .2 .signals))))
+    (entry e .pre .0, (ndrivers-is _ _ (valid e .reachable), (nsignals-is _ _ (valid e .reachable), c .before .before .before .keep .ensures .long ∙ at .loop .inv .2 .signals))))
     -- wake-requires
     (λ c κs.
-    let at = c .before .before .before .before .before .before .before .before .before .before .before .before .before in
+    let at = c .before .before .before .before .before .before .before .before .before .before .before .before .before .before .before in
     let e = looked at in
     (entry e .pre .0, (nprocesses-is _ _ (valid e .reachable), (time-most _ _ (valid e), processes-kept _ (facts e) _ (valid e) _ (at .before .actives .ensures) _ _ (at .loop .inv .2)))))
     -- add-self
     (λ c.
-    let at = c .before .before .before .before .before .before .before .before .before .before .before .before .before .before .before .before .before .before .before in
+    let at = c .before .before .before .before .before .before .before .before .before .before .before .before .before .before .before .before .before .before .before .before .before in
     search (needs, deltas-kept _ _ _ (at .loop .inv .2), delta at .few))
     -- returns-2
     (λ c.
     let processes = c .before .before .before .before .before .wake in
+    let earlier = c .before .before .before .before .before .before .before .before .before .before .before .before .before .before .before .before .before .before .keep in
     let signals = c .before .before .before .before .before .before .before .before .before .before .before .before .before .before .resolve in
-    let passed = c .before .before .before .before .before .before .before .before .before .before .before .before .before .before .before .before .before .before .loop-test in
-    let at = c .before .before .before .before .before .before .before .before .before .before .before .before .before .before .before .before .before .before .before in
+    let passed = c .before .before .before .before .before .before .before .before .before .before .before .before .before .before .before .before .before .before .before .before .loop-test in
+    let at = c .before .before .before .before .before .before .before .before .before .before .before .before .before .before .before .before .before .before .before .before .before in
     let e = looked at in
     rw (delta at .is)
-    (delta-answers _ (facts e) _ (valid e) _ (at .before .actives .ensures) _ (at .loop .self) _ _ _ (passed .left) (at .loop .inv .2) (record { resolved = signals .ensures; woken = processes .ensures }) (delta at .few)))
+    (delta-answers _ (facts e) _ (valid e) _ (at .before .actives .ensures) _ (at .loop .self) _ _ _ _ (passed .left) (at .loop .inv .2) (record { keeps = earlier .ensures; resolved = signals .ensures; woken = processes .ensures }) (delta at .few)))
     -- sub-passed
     (λ c. search (needs, later c .from-now))
     -- shift-requires
@@ -186,7 +193,7 @@ advance-spec =
     let head = c .before .before .loop2 in
     let l = c .before .before .before .before .before in
     let d = later l in
-    next-ahead _ _ _ _ (head .inv .2) (each-ahead _ _ (valid (l .before .before)) _ (d .earliest-at) (d .in-time) _ (c .before .loop2-test .taken)))
+    next-ahead _ _ _ _ (head .inv .2) (each-ahead _ (facts (l .before .before)) _ (valid (l .before .before)) _ (d .earliest-at) (d .in-time) _ (c .before .loop2-test .taken)))
     -- mul-e-2
     (λ c. search needs)
     -- element-set-from-e-2
@@ -205,4 +212,4 @@ advance-spec =
     let past = c .before .before .shift in
     let l = c .before .before .before .before in
     let d = later l in
-    rw (d .is) (time-stepped _ _ (valid (l .before .before)) _ (d .earliest-at) (d .in-time) _ (past .ensures) _ (head .self) (c .loop2-test .left) (head .inv .2))))
+    rw (d .is) (time-stepped _ (facts (l .before .before)) _ (valid (l .before .before)) _ (d .earliest-at) (d .in-time) _ (past .ensures) _ (head .self) (c .loop2-test .left) (head .inv .2))))

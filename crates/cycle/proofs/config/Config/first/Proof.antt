@@ -22,11 +22,14 @@ first-values-requires c κs = search needs
 histories-requires : tie.Need-histories-requires
 histories-requires c κs = search needs
 
+keep-requires : tie.Need-keep-requires
+keep-requires c κs = search needs
+
 returns : tie.Need-returns
 returns c =
-    let pre = c .before .before .before .before .before .before .before .before .before .pre in
-    let none = c .before .before .before .before .before .before .before .none in
-    begins-first _ (pre .0 .facts) _ (none .result) (c .before .before .first-values .result)
+    let pre = c .before .before .before .before .before .before .before .before .before .before .before .pre in
+    let none = c .before .before .before .before .before .before .before .before .before .none in
+    begins-first _ (pre .0 .facts) _ (none .result) (c .before .before .before .before .first-values .result) (c .before .before .histories .result)
     (record {
       time = refl;
       deltas = refl;
@@ -34,11 +37,12 @@ returns c =
       nvariables = pre .1 .variables;
       ndrivers = pre .1 .drivers;
       nprocesses = pre .1 .processes;
-      variables = c .before .before .before .before .before .before .first-variables .ensures;
-      places = c .before .before .before .before .before .first-places .ensures;
-      currents = c .before .before .before .before .first-currents .ensures;
-      values = c .before .before .first-values .ensures;
-      signals = c .histories .ensures;
+      variables = c .before .before .before .before .before .before .before .before .first-variables .ensures;
+      places = c .before .before .before .before .before .before .before .first-places .ensures;
+      currents = c .before .before .before .before .before .before .first-currents .ensures;
+      values = c .before .before .before .before .first-values .ensures;
+      histories = c .before .before .histories .ensures;
+      signals = c .keep .ensures;
       none = none .ensures;
       drivers = refl;
       due = refl;
@@ -58,4 +62,5 @@ first-spec =
     first-currents-requires
     first-values-requires
     histories-requires
+    keep-requires
     returns)

@@ -1,0 +1,139 @@
+-- A model without a delay of 0 never reads an earlier value: its expressions, statements and orders do not depend on them.
+-- Assumes nothing.
+use mathlib.Core.Path.{_≡_, refl, sym, ap, _∙_}
+use mathlib.Core.Logic.{⊎-elim}
+use mathlib.Core.Bool.{Bool, true, false, not}
+use mathlib.Core.List.{List, []}
+use mathlib.Core.Option.{Option, none, some}
+use Prim.Native.Nat.{ℕ, zero, suc, _≤_, _<_}
+use native.Mathlib.Omega.{arith}
+use lib.Dec.{eqb, ltb, leb}
+use lib.ListN.{length, List·getD-eq-default}
+use borrow.Author.Tests.{eqb-true, ne-eqb}
+use Rattle.base.specs.Cases.{_∣_, _⇒_}
+use Rattle.base.specs.Below.{anyBelow}
+use Rattle.base.proofs.Cases.{choices-same}
+use Rattle.base.proofs.Below.{split}
+use Rattle.base.proofs.Course.{course-same}
+use Rattle.blocks.specs.Records.{Model, nodeAt, statementAt}
+use Rattle.blocks.specs.declared.records.NodeRecord.{NodeRecord}
+use Rattle.blocks.specs.declared.records.StatementRecord.{StatementRecord}
+use Rattle.trees.specs.Trees.{typeOf}
+use Rattle.rules.specs.declared.value.Value.{Value}
+use Rattle.rules.specs.declared.value.Value.the-variants.{Of}
+use Rattle.rules.specs.declared.moment.Moment.the-variants.{Now}
+use Rattle.rules.specs.Configuration.{Configuration, processIn, lastTime, deltaLimit}
+use Rattle.rules.specs.Evaluation.{Environment, delayedBy, environmentOf, valueBy, nextValue, evalOf}
+use Rattle.rules.specs.Statements.{effectBy, effectOf, applied, stepped}
+use Rattle.rules.specs.Steps.{signalAfter, signalsAfter, earlierAfter, wokenAt, processAfterDelta, deltaStep, timeStep}
+use Rattle.rules.specs.Orders.{Outcome, isReady, isStopped, pickDone, picked, dueTimes, earliest, dueNow, advanceDone, timeOrder, advanced, lowestReady, Settled, settledFrom, settleDone, settled, readOf}
+use Rattle.rules.specs.Delays.{NoDelayOfZero, formerEnvironment, withoutEarlier}
+
+-- what a node reads is the same, so its value is, if it is so of its operands
+module _ (e e' : Environment) (n : ℕ) (d : NodeRecord) (ty : ℕ) (p q : Value)
+    (variable : d .kind ≡ 3 → e .variable (d .a) ≡ e' .variable (d .a))
+    (current : d .kind ≡ 4 → e .signal (d .a) Now ≡ e' .signal (d .a) Now)
+    (delayed : d .kind ≡ 5 → e .signal (d .a) (delayedBy (d .k)) ≡ e' .signal (d .a) (delayedBy (d .k)))
+  where
+    read-same : valueBy e n d ty p q ≡ valueBy e' n d ty p q
+    unfolding valueBy
+    read-same =
+        choices-same (eqb (d .kind) 1) _ _ _ _ (λ t. refl)
+        (λ t. choices-same (eqb (d .kind) 2) _ _ _ _ (λ t. refl)
+        (λ t. choices-same (eqb (d .kind) 3) _ _ _ _ (λ t. ap Of (variable (eqb-true _ _ t)))
+        (λ t. choices-same (eqb (d .kind) 4) _ _ _ _ (λ t. ap Of (current (eqb-true _ _ t)))
+        (λ t. choices-same (eqb (d .kind) 5) _ _ _ _ (λ t. ap Of (delayed (eqb-true _ _ t)))
+        (λ t. refl)))))
+
+module _ (M : Model) (free : NoDelayOfZero M) (vs : List ℕ) (ss : List (List ℕ)) (es : List ℕ) where
+  -- no node at all, there or not
+  no-zero : (n : ℕ) → nodeAt M n .kind ≡ 5 → nodeAt M n .k ≡ 0 → ⊥
+  no-zero n k =
+      ⊎-elim (λ (l : n < length (M .nodes)). free n l k)
+      (λ (l : length (M .nodes) ≤ n) z. let none : 0 ≡ 5 = rw (List·getD-eq-default (M .nodes) _ l) at k in omega arith)
+      (split n (length (M .nodes)))
+
+  -- a value is that of document 01
+  pub former-value : (n : ℕ) → evalOf M (environmentOf vs ss es) n ≡ evalOf M (formerEnvironment vs ss) n
+  unfolding evalOf nextValue
+  former-value =
+      course-same (nextValue M (environmentOf vs ss es)) (nextValue M (formerEnvironment vs ss))
+      (λ n values. read-same _ _ n (nodeAt M n) (typeOf M n) _ _ (λ k. refl) (λ k. refl)
+      (λ k. rw (ne-eqb (nodeAt M n .k) 0 (no-zero n k))))
+
+-- the outcome of an order, but for the earlier values of the configuration after it
+abbrev pub bare : Outcome → Outcome
+bare o = record { refusal = o .refusal; byte = o .byte; picks = o .picks; value = o .value; after = withoutEarlier (o .after) }
+
+-- f of what one test chooses
+pub choice-by : {A : Type 0} (f : A → A) (b : Bool) (x x' y y' : A) → f x ≡ f x' → f y ≡ f y' → f (b ⇒ x ∣ y) ≡ f (b ⇒ x' ∣ y')
+choice-by f true x x' y y' g h = g
+choice-by f false x x' y y' g h = h
+
+-- an advance looks at no earlier value
+module _ (M : Model) (c : Configuration) where
+  abbrev c₀ : Configuration
+  c₀ = withoutEarlier c
+
+  pub delta-bare : deltaStep M c ≡ deltaStep M c₀
+  unfolding deltaStep signalsAfter signalAfter earlierAfter processAfterDelta wokenAt
+  delta-bare = refl
+
+  time-bare : (t : Option ℕ) → bare (timeOrder t c) ≡ bare (timeOrder t c₀)
+  unfolding timeStep
+  time-bare none = refl
+  time-bare (some t) = choice-by bare (ltb lastTime t) _ _ _ _ refl refl
+
+  pub advance-bare : bare (advanced M c) ≡ bare (advanced M c₀)
+  unfolding advanced isReady isStopped dueNow dueTimes
+  advance-bare =
+      choice-by bare (anyBelow (λ p. isReady p c) (length (M .processes))) _ _ _ _ refl
+      (choice-by bare (anyBelow (λ p. isStopped p c) (length (M .processes))) _ _ _ _ refl
+      (choice-by bare (dueNow M c) _ _ _ _
+      (choice-by bare (leb deltaLimit (c .deltas)) _ _ _ _ refl (ap (λ (d : Configuration). bare (advanceDone 1 d)) delta-bare))
+      (time-bare (earliest (dueTimes M c)))))
+
+  pub read-bare : (s : ℕ) → bare (readOf M s c) ≡ bare (readOf M s c₀)
+  unfolding readOf
+  read-bare s = choice-by bare (leb (length (M .signals)) s) _ _ _ _ refl refl
+
+-- nor does a pick, where no node is delayed by 0
+module _ (M : Model) (free : NoDelayOfZero M) where
+  value-bare : (vs : List ℕ) (ss : List (List ℕ)) (es es' : List ℕ) (n : ℕ) → evalOf M (environmentOf vs ss es) n ≡ evalOf M (environmentOf vs ss es') n
+  value-bare vs ss es es' n = former-value M free vs ss es n ∙ sym (former-value M free vs ss es' n)
+
+  effect-bare : (c : Configuration) (p : ℕ) → effectOf M c p ≡ effectOf M (withoutEarlier c) p
+  unfolding effectOf effectBy
+  effect-bare c p =
+      let s : StatementRecord = statementAt M (processIn (c .processes) p .place) in
+      let same : (n : ℕ) → _ = value-bare (c .variables) (c .signals) (c .earlier) [] in
+      rw (same (s .b), same (s .c))
+
+  pub step-bare : (c : Configuration) (p : ℕ) → withoutEarlier (stepped M p c) ≡ withoutEarlier (stepped M p (withoutEarlier c))
+  unfolding stepped applied
+  step-bare c p = rw (effect-bare c p)
+
+  pub pick-bare : (c : Configuration) (p : ℕ) → bare (picked M p c) ≡ bare (picked M p (withoutEarlier c))
+  unfolding picked isReady
+  pick-bare c p =
+      choice-by bare (leb (length (M .processes)) p) _ _ _ _ refl
+      (choice-by bare (not (isReady p c)) _ _ _ _ refl (ap (λ (d : Configuration). bare (pickDone p d)) (step-bare c p)))
+
+  -- what a settle comes to, but for the earlier values
+  abbrev bareSettled : Settled → Settled
+  bareSettled s = record { picks = s .picks; end = withoutEarlier (s .end) }
+
+  settled-bare : (n k : ℕ) (c : Configuration) → bareSettled (settledFrom M k n c) ≡ bareSettled (settledFrom M k n (withoutEarlier c))
+  unfolding settledFrom lowestReady isReady
+  settled-bare zero k c = refl
+  settled-bare (suc n) k c =
+      let p : ℕ = lowestReady M c in
+      choice-by bareSettled (ltb p (length (M .processes))) _ _ _ _
+      (settled-bare n (suc k) (stepped M p c)
+      ∙ ap (λ (d : Configuration). bareSettled (settledFrom M (suc k) n d)) (step-bare c p)
+      ∙ sym (settled-bare n (suc k) (stepped M p (withoutEarlier c))))
+      refl
+
+  pub settle-bare : (n : ℕ) (c : Configuration) → bare (settled M n c) ≡ bare (settled M n (withoutEarlier c))
+  unfolding settled lowestReady isReady
+  settle-bare n c = ap (λ (s : Settled). settleDone M s) (settled-bare n 0 c)
