@@ -1,12 +1,14 @@
 -- The edge detector and the laws of the earlier values. Assumes nothing.
 use mathlib.Core.Path.{_≡_, refl}
+use mathlib.Core.List.{[]}
 use native.Mathlib.Omega.{arith}
 use Rattle.base.proofs.Below.{_and_, among}
 use Rattle.values.specs.Bench.{holds, Holds}
 use Rattle.blocks.specs.Records.{nodeAt}
+use Rattle.rules.specs.Configuration.{first}
 use Rattle.rules.specs.Delays.{NoDelayOfZero}
 use Rattle.session.proofs.DelayLaws.{delay-laws}
-use Rattle.cases.specs.Inverter.{inverter}
+use Rattle.cases.specs.Inverter.{inverter, inverterOrders}
 use Rattle.cases.specs.Delays.{detector, clashing, delayRows, DelaysPlayed, otherwise, DelaysUsed}
 use Rattle.cases.proofs.Rules.{the-orders, the-checks}
 
@@ -37,5 +39,7 @@ delays-used =
       laws = delay-laws;
       free = no-delay;
       differ = refl;
-      same = delay-laws .orders inverter no-delay _ _ otherwise refl;
+      value = delay-laws .values inverter no-delay [] (otherwise .signals) (otherwise .earlier) 1;
+      delta = delay-laws .deltas inverter (first inverter) otherwise refl;
+      same = delay-laws .orders inverter no-delay inverterOrders (first inverter) otherwise refl;
     }

@@ -10,8 +10,10 @@ use Rattle.blocks.specs.Records.{plain, Model}
 use Rattle.fields.specs.Fields.{absent}
 use Rattle.trees.specs.Trees.{logic}
 use Rattle.model.specs.Rules.{Accepted}
-use Rattle.rules.specs.Configuration.{Configuration, currentOf, first}
-use Rattle.rules.specs.Delays.{NoDelayOfZero, SameButEarlier}
+use Rattle.rules.specs.Configuration.{Configuration, processIn, currentOf, first, ready, waiting}
+use Rattle.rules.specs.Evaluation.{environmentOf, evalOf}
+use Rattle.rules.specs.Steps.{deltaStep}
+use Rattle.rules.specs.Delays.{NoDelayOfZero, formerEnvironment, SameButEarlier}
 use Rattle.session.specs.Lists.{Order, after}
 use Rattle.session.specs.DelayLaws.{SamePlay, DelayLaws}
 use Rattle.cases.specs.Forms.{signal, variable, process, driver, node, statement, pickOrder, advanceOrder, settleOrder}
@@ -19,14 +21,15 @@ use Rattle.cases.specs.Answers.{answerTo, picksIn}
 use Rattle.cases.specs.Claims.{_by_}
 use Rattle.cases.specs.Inverter.{inverter, inverterOrders}
 
--- Signals 0 and 1 start at '0'. Process 0: signal 0 <= '1' after 0; signal 1 <= '1' after 1; wait. Process 1: wait on signal 0 until it is
--- '1' and, delayed by 0, '0'; variable 0 := signal 0 delayed by 0; wait.
+-- Signals 0 and 1 start at '0'. Process 0: signal 0 <= '1' after 0; signal 1 <= '1' after 1; wait. Process 1: wait on signal 0 until it
+-- is '1' and, delayed by 0, '0'; variable 0 := signal 0 delayed by 0; wait. Process 2: wait on signal 1 until signal 0, delayed by 0,
+-- is '1'; wait.
 unfoldable pub detector : Model
 detector =
     record {
       signals = signal logic plain ‘0’ ∷ signal logic plain ‘0’ ∷ [];
       variables = variable logic 1 U ∷ [];
-      processes = process 0 3 ∷ process 3 3 ∷ [];
+      processes = process 0 3 ∷ process 3 3 ∷ process 6 2 ∷ [];
       drivers = driver 0 0 ∷ driver 0 1 ∷ [];
       nodes =
           node 2 0 0 ‘1’
@@ -38,6 +41,7 @@ detector =
           ∷ node 2 0 0 ‘0’
           ∷ node 13 4 6 0
           ∷ node 7 5 7 0
+          ∷ node 13 4 0 0
           ∷ [];
       statements =
           statement 2 0 0 1 0
@@ -45,6 +49,8 @@ detector =
           ∷ statement 5 0 absent absent 0
           ∷ statement 5 0 8 absent 1
           ∷ statement 1 0 4 0 0
+          ∷ statement 5 0 absent absent 0
+          ∷ statement 5 0 9 absent 2
           ∷ statement 5 0 absent absent 0
           ∷ [];
     }
@@ -97,13 +103,16 @@ delayRows =
     ∷ (earlierIn steady 0 gives ‘1’)
     ∷ (currentIn steady 1 gives ‘1’)
     ∷ (earlierIn steady 1 gives ‘0’)
+    -- so the condition of process 2 is true; by the earlier value of the step before it would be false
+    ∷ (processIn (after detector timed .processes) 2 .standing gives waiting)
+    ∷ (processIn (after detector steady .processes) 2 .standing gives ready)
     -- "or the first current value if there was none"
     ∷ (getD (first clashing .earlier) 0 0 gives X)
     ∷ (getD (after clashing (pickOrder 0 ∷ []) .variables) 0 0 gives X)
     ∷ []
 
 pub record DelaysPlayed : Type 0 where
-  pub said : map (λ r. r .said) delayRows ≡ ‘0’ ∷ ‘1’ ∷ ‘0’ ∷ 2 ∷ ‘0’ ∷ 1 ∷ ‘0’ ∷ ‘1’ ∷ ‘1’ ∷ ‘1’ ∷ ‘0’ ∷ X ∷ X ∷ []
+  pub said : map (λ r. r .said) delayRows ≡ ‘0’ ∷ ‘1’ ∷ ‘0’ ∷ 2 ∷ ‘0’ ∷ 1 ∷ ‘0’ ∷ ‘1’ ∷ ‘1’ ∷ ‘1’ ∷ ‘0’ ∷ waiting ∷ ready ∷ X ∷ X ∷ []
   pub detector-accepted : Accepted detector
   pub clashing-accepted : Accepted clashing
 
@@ -126,4 +135,10 @@ pub record DelaysUsed : Type 0 where
   pub laws : DelayLaws
   pub free : NoDelayOfZero inverter
   pub differ : SameButEarlier (first inverter) otherwise
+  -- node 1 is `not i`
+  pub value :
+      evalOf inverter (environmentOf [] (otherwise .signals) (otherwise .earlier)) 1
+      ≡ evalOf inverter (formerEnvironment [] (otherwise .signals)) 1
+      by laws .values inverter free [] (otherwise .signals) (otherwise .earlier) 1
+  pub delta : deltaStep inverter (first inverter) ≡ deltaStep inverter otherwise by laws .deltas inverter (first inverter) otherwise differ
   pub same : SamePlay inverter inverterOrders (first inverter) otherwise by laws .orders inverter free inverterOrders (first inverter) otherwise differ

@@ -56,5 +56,5 @@ pub fn delay_rows() -> usize
     ensures { λ r. ⌜ DelaysPlayed ⌝ }
     ensures { λ r. ⌜ DelaysUsed ⌝ }
 {
-    13
+    15
 }

@@ -20,9 +20,9 @@ use steps::resolve::resolved;
 use waveforms::driver::Driver;
 use waveforms::driver::NEVER;
 
-// Signal s of k units ago stands at 32 * s + k, and its value before the latest delta step at 1024 + s. Driver k: its current value, its waveform, and the time of its first pending
-// transaction (due), the largest number where it has none. A waveform's times are held as units from now: 32 bits, since a delay
-// has 31. Process p: a deadline is the largest number where it has none.
+// Signal s of k units ago stands at 32 * s + k, and its value before the latest delta step at 1024 + s. Driver k: its current value,
+// its waveform, and the time of its first pending transaction (due), the largest number where it has none. A waveform's times are
+// held as units from now: 32 bits, since a delay has 31. Process p: a deadline is the largest number where it has none.
 // The numbers stand before the arrays, the time last of them: the list's loop keeps the time by itself, and the compiler then copies
 // the arrays, a multiple of 64 bytes, as one part, which lies at equal offsets in its cache lines (bench/README.md).
 pub struct Config {

@@ -14,16 +14,17 @@ use Rattle.rules.specs.Evaluation.{Environment}
 abbrev pub NoDelayOfZero : Model → Type 0
 NoDelayOfZero M = (n : ℕ) → n < length (M .nodes) → nodeAt M n .kind ≡ 5 → nodeAt M n .k ≢ 0
 
--- what expressions read by document 01, whose sentence is withdrawn: "A delay of 0 reads the current value"
+-- how many units ago a moment is by document 01, whose sentence is withdrawn: "A delay of 0 reads the current value"
 abbrev pub unitsAt : Moment → ℕ
 unitsAt Now = 0
 unitsAt DeltaAgo = 0
 unitsAt (UnitsAgo k) = k
 
+-- what expressions read by document 01
 abbrev pub formerEnvironment : List ℕ → List (List ℕ) → Environment
 formerEnvironment vs ss = record { variable = λ a. getD vs a 0; signal = λ s w. pastOf ss s (unitsAt w) }
 
--- two configurations differ in the earlier values alone
+-- a configuration, its earlier values left out
 abbrev pub withoutEarlier : Configuration → Configuration
 withoutEarlier c =
     record {
@@ -36,5 +37,6 @@ withoutEarlier c =
       variables = c .variables;
     }
 
+-- two configurations differ in the earlier values alone
 abbrev pub SameButEarlier : Configuration → Configuration → Type 0
 SameButEarlier c c' = withoutEarlier c ≡ withoutEarlier c'
