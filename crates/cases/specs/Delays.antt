@@ -13,7 +13,7 @@ use Rattle.model.specs.Rules.{Accepted}
 use Rattle.rules.specs.Configuration.{Configuration, processIn, currentOf, first, ready, waiting}
 use Rattle.rules.specs.Evaluation.{environmentOf, evalOf}
 use Rattle.rules.specs.Steps.{deltaStep}
-use Rattle.rules.specs.Delays.{NoDelayOfZero, formerEnvironment, SameButEarlier}
+use Rattle.rules.specs.Delays.{NoDelayOfZero, formerEnvironment, withEarlier, SameButEarlier}
 use Rattle.session.specs.Lists.{Order, after}
 use Rattle.session.specs.DelayLaws.{SamePlay, DelayLaws}
 use Rattle.cases.specs.Forms.{signal, variable, process, driver, node, statement, pickOrder, advanceOrder, settleOrder}
@@ -118,17 +118,7 @@ pub record DelaysPlayed : Type 0 where
 
 -- the inverter's first configuration with other earlier values
 abbrev pub otherwise : Configuration
-otherwise =
-    let c : Configuration = first inverter in
-    record {
-      time = c .time;
-      deltas = c .deltas;
-      signals = c .signals;
-      earlier = X ∷ ‘1’ ∷ [];
-      drivers = c .drivers;
-      processes = c .processes;
-      variables = c .variables;
-    }
+otherwise = withEarlier (X ∷ ‘1’ ∷ []) (first inverter)
 
 -- The laws of the earlier values used once: the inverter has no delay of 0, and does not see them.
 pub record DelaysUsed : Type 0 where

@@ -1,7 +1,7 @@
 -- What the arms of the loop behind pick and settle make of the struct, and that it then holds the configuration after the
 -- statement's effect.
 -- Assumes nothing.
-use mathlib.Core.Path.{_≡_, refl, _∙_}
+use mathlib.Core.Path.{_≡_, refl, ap, _∙_}
 use mathlib.Core.Bool.{true, false}
 use mathlib.Core.List.{List}
 use mathlib.Core.Option.{none, some}
@@ -117,14 +117,17 @@ module _ (M : Model) (c : Config) (p : ℕ) (h : p < c .nprocesses) where
   abbrev next : ℕ
   next = nextPlace M p (getD (c .places) p 0)
 
-  -- a struct holds the configuration after an effect if each of its lists does
-  change-is : (e : Effect) (c' : Config) → c' .time ≡ c .time → c' .deltas ≡ c .deltas → viewOf c' .signals ≡ viewOf c .signals → viewOf c' .earlier ≡ viewOf c .earlier
+  -- a struct, changed but for signals and current values, holds the configuration after an effect if each of its other lists does
+  change-is : (e : Effect) (c' : Config)
+      → c' ≡ changed c (c' .due) (c' .drivers) (c' .places) (c' .standings) (c' .deadlines) (c' .faults) (c' .nodes) (c' .variables)
       → viewOf c' .drivers ≡ driversAfter e (c .time) (viewOf c .drivers)
       → viewOf c' .processes ≡ set (viewOf c .processes) p (processAfter e (fullAfter e (c .time) (viewOf c .drivers)) (c .time) next q)
       → viewOf c' .variables ≡ variablesAfter e (viewOf c .variables)
       → viewOf c' ≡ applied M p e (viewOf c)
   unfolding applied viewOf processView
-  change-is e c' t u s b d r v = same-configuration t u s b d (r ∙ rw (process-in c p h)) v
+  change-is e c' k d r v =
+      same-configuration (ap (λ (x : Config). x .time) k) (ap (λ (x : Config). x .deltas) k) (ap (λ (x : Config). viewOf x .signals) k)
+      (ap (λ (x : Config). viewOf x .earlier) k) d (r ∙ rw (process-in c p h)) v
 
   -- one law for each arm
   module _ (s : Sized c) (l : p < 16) where
@@ -141,33 +144,33 @@ module _ (M : Model) (c : Config) (p : ℕ) (h : p < c .nprocesses) where
 
     pub skip-view : (i : ℕ) → i ≡ next → viewOf (movedTo c p i (c .variables)) ≡ applied M p Skip (viewOf c)
     unfolding viewOf driverView
-    skip-view i e = change-is Skip (movedTo c p i (c .variables)) refl refl refl refl refl (moved-is i (c .variables) ∙ rw e) refl
+    skip-view i e = change-is Skip (movedTo c p i (c .variables)) refl refl (moved-is i (c .variables) ∙ rw e) refl
 
     pub store-view : (a v i : ℕ) → a < 64 → i ≡ next → viewOf (movedTo c p i (set (c .variables) a v)) ≡ applied M p (Store a v) (viewOf c)
     unfolding viewOf driverView
     store-view a v i b e =
-        change-is (Store a v) (movedTo c p i (set (c .variables) a v)) refl refl refl refl refl (moved-is i (set (c .variables) a v) ∙ rw e)
+        change-is (Store a v) (movedTo c p i (set (c .variables) a v)) refl refl (moved-is i (set (c .variables) a v) ∙ rw e)
         (variables-set (c .variables) (c .nvariables) a v (omega (arith, s .variables)))
 
     pub jump-view : (a : ℕ) → viewOf (movedTo c p a (c .variables)) ≡ applied M p (Jump a) (viewOf c)
     unfolding viewOf driverView
-    jump-view a = change-is (Jump a) (movedTo c p a (c .variables)) refl refl refl refl refl (moved-is a (c .variables)) refl
+    jump-view a = change-is (Jump a) (movedTo c p a (c .variables)) refl refl (moved-is a (c .variables)) refl
 
     pub wait-view : q .deadline ≡ none → viewOf (waitsUntil c p (c .deadlines)) ≡ applied M p Wait (viewOf c)
     unfolding viewOf driverView processView
     wait-view e =
-        change-is Wait (waitsUntil c p (c .deadlines)) refl refl refl refl refl
+        change-is Wait (waitsUntil c p (c .deadlines)) refl refl
         (waits-set (c .places) (c .standings) (c .deadlines) (c .faults) (c .nodes) (c .nprocesses) p at-standing ∙ rw e) refl
 
     pub wait-for-view : (d t : ℕ) → t ≡ c .time + d → deadlineOf t ≡ some t → viewOf (waitsUntil c p (set (c .deadlines) p t)) ≡ applied M p (WaitFor d) (viewOf c)
     unfolding viewOf driverView processView
     wait-for-view d t e f =
-        change-is (WaitFor d) (waitsUntil c p (set (c .deadlines) p t)) refl refl refl refl refl
+        change-is (WaitFor d) (waitsUntil c p (set (c .deadlines) p t)) refl refl
         (waits-for-set (c .places) (c .standings) (c .deadlines) (c .faults) (c .nodes) (c .nprocesses) p t at-standing (omega (arith, s .deadlines)) ∙ rw (f, e)) refl
 
     pub stop-view : (f : Failure) → viewOf (stopsBy c p f) ≡ applied M p (Stop f) (viewOf c)
     unfolding viewOf driverView
-    stop-view f = change-is (Stop f) (stopsBy c p f) refl refl refl refl refl (stopped-is f) refl
+    stop-view f = change-is (Stop f) (stopsBy c p f) refl refl (stopped-is f) refl
 
     module _ (k d : ℕ) (v : Driven) (kd : k < c .ndrivers) (k64 : k < 64) (r : Scheduled) (to : ScheduledTo (getD (c .drivers) k noDriver) d v r) where
       full-is : r .full ≡ fullAfter (Schedule k d v) (c .time) (viewOf c .drivers)
@@ -180,7 +183,7 @@ module _ (M : Model) (c : Config) (p : ℕ) (h : p < c .nprocesses) where
       pub schedule-view : (t i : ℕ) → i ≡ next → r .full ≡ false → viewOf (scheduledTo c p k (r .driver) t i) ≡ applied M p (Schedule k d v) (viewOf c)
       unfolding viewOf driverView processView
       schedule-view t i e f =
-          change-is (Schedule k d v) (scheduledTo c p k (r .driver) t i) refl refl refl refl
+          change-is (Schedule k d v) (scheduledTo c p k (r .driver) t i) refl
           (driver-set (c .time) (c .currents) (c .drivers) (c .ndrivers) k (r .driver) (omega (arith, s .drivers)) ∙ rw driver-is)
           (moved-is i (c .variables) ∙ rw (← full-is, f, e)) refl
 
@@ -190,4 +193,4 @@ module _ (M : Model) (c : Config) (p : ℕ) (h : p < c .nprocesses) where
 
       pub full-view : r .full ≡ true → viewOf (stopsBy c p (failure noNode 3)) ≡ applied M p (Schedule k d v) (viewOf c)
       unfolding viewOf driverView
-      full-view f = change-is (Schedule k d v) (stopsBy c p (failure noNode 3)) refl refl refl refl (stays f) (stopped-is (failure noNode 3) ∙ rw (← full-is, f)) refl
+      full-view f = change-is (Schedule k d v) (stopsBy c p (failure noNode 3)) refl (stays f) (stopped-is (failure noNode 3) ∙ rw (← full-is, f)) refl

@@ -2,48 +2,28 @@
 -- Assumes nothing.
 use mathlib.Core.Path.{_≡_, refl, sym, ap, _∙_}
 use mathlib.Core.Logic.{⊎-elim}
-use mathlib.Core.Bool.{Bool, true, false, not}
+use mathlib.Core.Bool.{not}
 use mathlib.Core.List.{List, []}
 use mathlib.Core.Option.{Option, none, some}
 use Prim.Native.Nat.{ℕ, zero, suc, _≤_, _<_}
 use native.Mathlib.Omega.{arith}
-use lib.Dec.{eqb, ltb, leb}
+use lib.Dec.{ltb, leb}
 use lib.ListN.{length, List·getD-eq-default}
-use borrow.Author.Tests.{eqb-true, ne-eqb}
-use Rattle.base.specs.Cases.{_∣_, _⇒_}
+use borrow.Author.Tests.{ne-eqb}
 use Rattle.base.specs.Below.{anyBelow}
-use Rattle.base.proofs.Cases.{choices-same}
+use Rattle.base.proofs.Cases.{choices-by}
 use Rattle.base.proofs.Below.{split}
 use Rattle.base.proofs.Course.{course-same}
 use Rattle.blocks.specs.Records.{Model, nodeAt, statementAt}
-use Rattle.blocks.specs.declared.records.NodeRecord.{NodeRecord}
 use Rattle.blocks.specs.declared.records.StatementRecord.{StatementRecord}
 use Rattle.trees.specs.Trees.{typeOf}
-use Rattle.rules.specs.declared.value.Value.{Value}
-use Rattle.rules.specs.declared.value.Value.the-variants.{Of}
-use Rattle.rules.specs.declared.moment.Moment.the-variants.{Now}
 use Rattle.rules.specs.Configuration.{Configuration, processIn, lastTime, deltaLimit}
-use Rattle.rules.specs.Evaluation.{Environment, delayedBy, environmentOf, valueBy, nextValue, evalOf}
+use Rattle.rules.specs.Evaluation.{environmentOf, nextValue, evalOf}
 use Rattle.rules.specs.Statements.{effectBy, effectOf, applied, stepped}
 use Rattle.rules.specs.Steps.{signalAfter, signalsAfter, earlierAfter, wokenAt, processAfterDelta, deltaStep, timeStep}
 use Rattle.rules.specs.Orders.{Outcome, isReady, isStopped, pickDone, picked, dueTimes, earliest, dueNow, advanceDone, timeOrder, advanced, lowestReady, Settled, settledFrom, settleDone, settled, readOf}
 use Rattle.rules.specs.Delays.{NoDelayOfZero, formerEnvironment, withoutEarlier}
-
--- what a node reads is the same, so its value is, if it is so of its operands
-module _ (e e' : Environment) (n : ℕ) (d : NodeRecord) (ty : ℕ) (p q : Value)
-    (variable : d .kind ≡ 3 → e .variable (d .a) ≡ e' .variable (d .a))
-    (current : d .kind ≡ 4 → e .signal (d .a) Now ≡ e' .signal (d .a) Now)
-    (delayed : d .kind ≡ 5 → e .signal (d .a) (delayedBy (d .k)) ≡ e' .signal (d .a) (delayedBy (d .k)))
-  where
-    read-same : valueBy e n d ty p q ≡ valueBy e' n d ty p q
-    unfolding valueBy
-    read-same =
-        choices-same (eqb (d .kind) 1) _ _ _ _ (λ t. refl)
-        (λ t. choices-same (eqb (d .kind) 2) _ _ _ _ (λ t. refl)
-        (λ t. choices-same (eqb (d .kind) 3) _ _ _ _ (λ t. ap Of (variable (eqb-true _ _ t)))
-        (λ t. choices-same (eqb (d .kind) 4) _ _ _ _ (λ t. ap Of (current (eqb-true _ _ t)))
-        (λ t. choices-same (eqb (d .kind) 5) _ _ _ _ (λ t. ap Of (delayed (eqb-true _ _ t)))
-        (λ t. refl)))))
+use Rattle.rules.proofs.Evaluation.{read-same}
 
 module _ (M : Model) (free : NoDelayOfZero M) (vs : List ℕ) (ss : List (List ℕ)) (es : List ℕ) where
   -- no node at all, there or not
@@ -58,17 +38,12 @@ module _ (M : Model) (free : NoDelayOfZero M) (vs : List ℕ) (ss : List (List �
   unfolding evalOf nextValue
   former-value =
       course-same (nextValue M (environmentOf vs ss es)) (nextValue M (formerEnvironment vs ss))
-      (λ n values. read-same _ _ n (nodeAt M n) (typeOf M n) _ _ (λ k. refl) (λ k. refl)
-      (λ k. rw (ne-eqb (nodeAt M n .k) 0 (no-zero n k))))
+      (λ n values. read-same n (nodeAt M n) (typeOf M n) _ _ _ _
+      (record { variable = λ k. refl; current = λ k. refl; delayed = λ k. rw (ne-eqb (nodeAt M n .k) 0 (no-zero n k)) }))
 
 -- the outcome of an order, but for the earlier values of the configuration after it
 abbrev pub bare : Outcome → Outcome
 bare o = record { refusal = o .refusal; byte = o .byte; picks = o .picks; value = o .value; after = withoutEarlier (o .after) }
-
--- f of what one test chooses
-pub choice-by : {A : Type 0} (f : A → A) (b : Bool) (x x' y y' : A) → f x ≡ f x' → f y ≡ f y' → f (b ⇒ x ∣ y) ≡ f (b ⇒ x' ∣ y')
-choice-by f true x x' y y' g h = g
-choice-by f false x x' y y' g h = h
 
 -- an advance looks at no earlier value
 module _ (M : Model) (c : Configuration) where
@@ -82,20 +57,20 @@ module _ (M : Model) (c : Configuration) where
   time-bare : (t : Option ℕ) → bare (timeOrder t c) ≡ bare (timeOrder t c₀)
   unfolding timeStep
   time-bare none = refl
-  time-bare (some t) = choice-by bare (ltb lastTime t) _ _ _ _ refl refl
+  time-bare (some t) = choices-by bare (ltb lastTime t) _ _ _ _ (λ b. refl) (λ b. refl)
 
   pub advance-bare : bare (advanced M c) ≡ bare (advanced M c₀)
   unfolding advanced isReady isStopped dueNow dueTimes
   advance-bare =
-      choice-by bare (anyBelow (λ p. isReady p c) (length (M .processes))) _ _ _ _ refl
-      (choice-by bare (anyBelow (λ p. isStopped p c) (length (M .processes))) _ _ _ _ refl
-      (choice-by bare (dueNow M c) _ _ _ _
-      (choice-by bare (leb deltaLimit (c .deltas)) _ _ _ _ refl (ap (λ (d : Configuration). bare (advanceDone 1 d)) delta-bare))
-      (time-bare (earliest (dueTimes M c)))))
+      choices-by bare (anyBelow (λ p. isReady p c) (length (M .processes))) _ _ _ _ (λ b. refl)
+      (λ b. choices-by bare (anyBelow (λ p. isStopped p c) (length (M .processes))) _ _ _ _ (λ b. refl)
+      (λ b. choices-by bare (dueNow M c) _ _ _ _
+      (λ b. choices-by bare (leb deltaLimit (c .deltas)) _ _ _ _ (λ b. refl) (λ b. ap (λ (d : Configuration). bare (advanceDone 1 d)) delta-bare))
+      (λ b. time-bare (earliest (dueTimes M c)))))
 
   pub read-bare : (s : ℕ) → bare (readOf M s c) ≡ bare (readOf M s c₀)
   unfolding readOf
-  read-bare s = choice-by bare (leb (length (M .signals)) s) _ _ _ _ refl refl
+  read-bare s = choices-by bare (leb (length (M .signals)) s) _ _ _ _ (λ b. refl) (λ b. refl)
 
 -- nor does a pick, where no node is delayed by 0
 module _ (M : Model) (free : NoDelayOfZero M) where
@@ -116,8 +91,8 @@ module _ (M : Model) (free : NoDelayOfZero M) where
   pub pick-bare : (c : Configuration) (p : ℕ) → bare (picked M p c) ≡ bare (picked M p (withoutEarlier c))
   unfolding picked isReady
   pick-bare c p =
-      choice-by bare (leb (length (M .processes)) p) _ _ _ _ refl
-      (choice-by bare (not (isReady p c)) _ _ _ _ refl (ap (λ (d : Configuration). bare (pickDone p d)) (step-bare c p)))
+      choices-by bare (leb (length (M .processes)) p) _ _ _ _ (λ b. refl)
+      (λ b. choices-by bare (not (isReady p c)) _ _ _ _ (λ b. refl) (λ b. ap (λ (d : Configuration). bare (pickDone p d)) (step-bare c p)))
 
   -- what a settle comes to, but for the earlier values
   abbrev bareSettled : Settled → Settled
@@ -128,11 +103,11 @@ module _ (M : Model) (free : NoDelayOfZero M) where
   settled-bare zero k c = refl
   settled-bare (suc n) k c =
       let p : ℕ = lowestReady M c in
-      choice-by bareSettled (ltb p (length (M .processes))) _ _ _ _
-      (settled-bare n (suc k) (stepped M p c)
+      choices-by bareSettled (ltb p (length (M .processes))) _ _ _ _
+      (λ b. settled-bare n (suc k) (stepped M p c)
       ∙ ap (λ (d : Configuration). bareSettled (settledFrom M (suc k) n d)) (step-bare c p)
       ∙ sym (settled-bare n (suc k) (stepped M p (withoutEarlier c))))
-      refl
+      (λ b. refl)
 
   pub settle-bare : (n : ℕ) (c : Configuration) → bare (settled M n c) ≡ bare (settled M n (withoutEarlier c))
   unfolding settled lowestReady isReady

@@ -11,9 +11,9 @@ use lib.IntN.{ℤ, pos, negsuc, natAbs, negℤ, _+ℤ_, _-ℤ_, _*ℤ_}
 use lib.Signed.{ltZ}
 use mir.Syntax.{w32}
 use mir.Val.{ofZ}
-use borrow.Author.Tests.{ltb-true, le-leb, ne-eqb, eqb-false}
+use borrow.Author.Tests.{ltb-true, le-leb, ne-eqb, eqb-true, eqb-false}
 use Rattle.base.specs.Course.{upTo, course}
-use Rattle.base.proofs.Cases.{by-test}
+use Rattle.base.proofs.Cases.{by-test, choices-same}
 use Rattle.base.proofs.Below.{Each, _and_, among, split}
 use Rattle.base.proofs.Course.{earlier}
 use Rattle.values.specs.Operators.{notOf, andOf, orOf, xorOf}
@@ -35,22 +35,36 @@ use Rattle.rules.specs.declared.moment.Moment.the-variants.{Now}
 use Rattle.rules.specs.Evaluation.{Environment, delayedBy, Held, truth, int, one, two, unlessFirst, notBy, andBy, orBy, xorBy, ranged, negateOf, sumOf, differenceOf, equalOf, lessOf, productOf, divided, valueBy, nextValue, evalOf}
 use Rattle.rules.proofs.Signed.{int-zero, int-size}
 
--- node d is read in the same way with e, p and q as with e', p' and q': where its kind reads them they are the same
-pub record Alike (d : NodeRecord) (e e' : Environment) (p p' q q' : Value) : Type 0 where
+-- node d reads the same in e as in e': what its kind reads
+pub record SameRead (d : NodeRecord) (e e' : Environment) : Type 0 where
   pub variable : d .kind ≡ 3 → e .variable (d .a) ≡ e' .variable (d .a)
   pub current : d .kind ≡ 4 → e .signal (d .a) Now ≡ e' .signal (d .a) Now
   pub delayed : d .kind ≡ 5 → e .signal (d .a) (delayedBy (d .k)) ≡ e' .signal (d .a) (delayedBy (d .k))
+
+-- so its value is the same, its operands having the same values
+pub read-same : (n : ℕ) (d : NodeRecord) (ty : ℕ) (e e' : Environment) (p q : Value) → SameRead d e e' → valueBy e n d ty p q ≡ valueBy e' n d ty p q
+unfolding valueBy
+read-same n d ty e e' p q s =
+    choices-same (eqb (d .kind) 1) _ _ _ _ (λ t. refl)
+    (λ t. choices-same (eqb (d .kind) 2) _ _ _ _ (λ t. refl)
+    (λ t. choices-same (eqb (d .kind) 3) _ _ _ _ (λ t. ap Of (s .variable (eqb-true _ _ t)))
+    (λ t. choices-same (eqb (d .kind) 4) _ _ _ _ (λ t. ap Of (s .current (eqb-true _ _ t)))
+    (λ t. choices-same (eqb (d .kind) 5) _ _ _ _ (λ t. ap Of (s .delayed (eqb-true _ _ t)))
+    (λ t. refl)))))
+
+-- the operands that its kind has are p and q as well as p' and q'
+pub record SameOperands (d : NodeRecord) (p p' q q' : Value) : Type 0 where
   pub first : 6 ≤ d .kind → p ≡ p'
   pub second : 7 ≤ d .kind → (d .kind ≡ 10 → ⊥) → q ≡ q'
 
-module _ (n : ℕ) (d : NodeRecord) (ty : ℕ) (e e' : Environment) (p p' q q' : Value) (s : Alike d e e' p p' q q') where
+module _ (n : ℕ) (d : NodeRecord) (ty : ℕ) (e : Environment) (p p' q q' : Value) (s : SameOperands d p p' q q') where
   abbrev SameBoth : Type 0
-  SameBoth = valueBy e n d ty p q ≡ valueBy e' n d ty p' q'
+  SameBoth = valueBy e n d ty p q ≡ valueBy e n d ty p' q'
 
   -- by the kind
-  pub same-value : 1 ≤ d .kind → d .kind ≤ 18 → SameBoth
+  pub operands-same : 1 ≤ d .kind → d .kind ≤ 18 → SameBoth
   unfolding valueBy
-  same-value l m = among (λ k. d .kind ≡ k → SameBoth) 1 18 (d .kind) cases l (omega arith) refl
+  operands-same l m = among (λ k. d .kind ≡ k → SameBoth) 1 18 (d .kind) cases l (omega arith) refl
     where
       both : (k : ℕ) → 7 ≤ k → (k ≡ 10 → ⊥) → d .kind ≡ k → q ≡ q'
       both k l n e = s .second (omega arith) (λ t. n (sym e ∙ t))
@@ -59,9 +73,9 @@ module _ (n : ℕ) (d : NodeRecord) (ty : ℕ) (e e' : Environment) (p p' q q' :
       cases =
           (λ k. rw k)
           and (λ k. rw k)
-          and (λ k. rw (k, s .variable k))
-          and (λ k. rw (k, s .current k))
-          and (λ k. rw (k, s .delayed k))
+          and (λ k. rw k)
+          and (λ k. rw k)
+          and (λ k. rw k)
           and (λ k. rw (k, s .first (omega arith)))
           and (λ k. rw (k, s .first (omega arith), both 7 (omega arith) (λ t. omega arith) k))
           and (λ k. rw (k, s .first (omega arith), both 8 (omega arith) (λ t. omega arith) k))
@@ -81,15 +95,12 @@ module _ (M : Model) (e : Environment) (n : ℕ) (f : NodeFits M n) where
   -- a node's value from those of its operands; for an operand that it has not, any value serves
   pub node-value : evalOf M e n ≡ valueBy e n (nodeAt M n) (typeOf M n) (evalOf M e (nodeAt M n .a)) (evalOf M e (nodeAt M n .b))
   unfolding evalOf nextValue course
-  node-value = same-value n (nodeAt M n) (typeOf M n) e e _ _ _ _ alike (f .kindLeast) (f .kindMost)
+  node-value = operands-same n (nodeAt M n) (typeOf M n) e _ _ _ _ same (f .kindLeast) (f .kindMost)
     where
-      alike : Alike (nodeAt M n) e e (getD (upTo (nextValue M e) n) (nodeAt M n .a) (Of 0)) (evalOf M e (nodeAt M n .a))
+      same : SameOperands (nodeAt M n) (getD (upTo (nextValue M e) n) (nodeAt M n .a) (Of 0)) (evalOf M e (nodeAt M n .a))
           (getD (upTo (nextValue M e) n) (nodeAt M n .b) (Of 0)) (evalOf M e (nodeAt M n .b))
-      alike =
+      same =
           record {
-            variable = λ k. refl;
-            current = λ k. refl;
-            delayed = λ k. refl;
             first = λ l. earlier (nextValue M e) (Of 0) n (nodeAt M n .a) (f .lowerA l);
             second = λ l t. earlier (nextValue M e) (Of 0) n (nodeAt M n .b) (f .lowerB l t);
           }
@@ -122,20 +133,19 @@ module _ (M : Model) (fs : Facts M) (e e' : Environment) where
       → evalOf M e n ≡ evalOf M e' n
   next-same ss n h v a b =
       node-value M e n f
-      ∙ same-value n (nodeAt M n) (typeOf M n) e e' _ _ _ _ alike (f .kindLeast) (f .kindMost)
+      ∙ read-same n (nodeAt M n) (typeOf M n) e e' _ _ reads
+      ∙ operands-same n (nodeAt M n) (typeOf M n) e' _ _ _ _ (record { first = a; second = b }) (f .kindLeast) (f .kindMost)
       ∙ sym (node-value M e' n f)
     where
       f : NodeFits M n
       f = fs .node n h
 
-      alike : Alike (nodeAt M n) e e' (evalOf M e (nodeAt M n .a)) (evalOf M e' (nodeAt M n .a)) (evalOf M e (nodeAt M n .b)) (evalOf M e' (nodeAt M n .b))
-      alike =
+      reads : SameRead (nodeAt M n) e e'
+      reads =
           record {
             variable = v;
             current = λ k. ss (nodeAt M n .a) Now (f .signal (omega arith) (omega arith)) tt;
             delayed = λ k. ss (nodeAt M n .a) (delayedBy (nodeAt M n .k)) (f .signal (omega arith) (omega arith)) (delay-held (nodeAt M n .k) (f .delay k));
-            first = a;
-            second = b;
           }
 
   -- two environments give a node the same value if they give each variable of its tree the same: P marks the nodes of such trees

@@ -24,18 +24,21 @@ unitsAt (UnitsAgo k) = k
 abbrev pub formerEnvironment : List ℕ → List (List ℕ) → Environment
 formerEnvironment vs ss = record { variable = λ a. getD vs a 0; signal = λ s w. pastOf ss s (unitsAt w) }
 
--- a configuration, its earlier values left out
-abbrev pub withoutEarlier : Configuration → Configuration
-withoutEarlier c =
+-- a configuration with other earlier values, and without any
+abbrev pub withEarlier : List ℕ → Configuration → Configuration
+withEarlier es c =
     record {
       time = c .time;
       deltas = c .deltas;
       signals = c .signals;
-      earlier = [];
+      earlier = es;
       drivers = c .drivers;
       processes = c .processes;
       variables = c .variables;
     }
+
+abbrev pub withoutEarlier : Configuration → Configuration
+withoutEarlier c = withEarlier [] c
 
 -- two configurations differ in the earlier values alone
 abbrev pub SameButEarlier : Configuration → Configuration → Type 0
