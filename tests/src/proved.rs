@@ -2,8 +2,14 @@
 
 #[cfg(feature = "session")]
 use crate::dump::{pack, DUMP, WORDS};
+use crate::values::Functions;
 
 extern "C" {
+    fn gontrafiby_resolve(values: *const u8, len: usize) -> u32;
+    fn gontrafiby_not(x: u32) -> u32;
+    fn gontrafiby_and(x: u32, y: u32) -> u32;
+    fn gontrafiby_or(x: u32, y: u32) -> u32;
+    fn gontrafiby_xor(x: u32, y: u32) -> u32;
     fn gontrafiby_judge(model: *const u8, len: usize) -> u32;
     #[cfg(feature = "session")]
     fn gontrafiby_session(
@@ -17,6 +23,16 @@ extern "C" {
         wlen: usize,
     ) -> usize;
 }
+
+/// The resolution of some values, and the operators, on words.
+pub const VALUES: Functions = Functions {
+    // Safety: the pointer and the length are those of one slice; the others take numbers.
+    resolve: |v| unsafe { gontrafiby_resolve(v.as_ptr(), v.len()) },
+    not: |x| unsafe { gontrafiby_not(x) },
+    and: |x, y| unsafe { gontrafiby_and(x, y) },
+    or: |x, y| unsafe { gontrafiby_or(x, y) },
+    xor: |x, y| unsafe { gontrafiby_xor(x, y) },
+};
 
 /// The first of the rules 1 to 8 and 20 that a model breaks, or 0.
 pub fn judge(model: &[u8]) -> u32 {

@@ -130,6 +130,28 @@ pub fn xor(a: u8, b: u8) -> u8 {
     }
 }
 
+/// A kernel's resolution of bytes, and its operators on words.
+pub struct Functions {
+    pub resolve: fn(&[u8]) -> u32,
+    pub not: fn(u32) -> u32,
+    pub and: fn(u32, u32) -> u32,
+    pub or: fn(u32, u32) -> u32,
+    pub xor: fn(u32, u32) -> u32,
+}
+
+/// Those of this module; a number above 255 is as 255.
+pub const SECOND: Functions = Functions {
+    resolve: |v| resolve(v) as u32,
+    not: |x| not(byte(x)) as u32,
+    and: |x, y| and(byte(x), byte(y)) as u32,
+    or: |x, y| or(byte(x), byte(y)) as u32,
+    xor: |x, y| xor(byte(x), byte(y)) as u32,
+};
+
+fn byte(x: u32) -> u8 {
+    x.min(255) as u8
+}
+
 #[cfg(test)]
 mod tests {
     use super::*;

@@ -2,10 +2,9 @@
 -- Assumes nothing.
 use mathlib.Core.Path.{_≡_, sym, _∙_}
 use mathlib.Core.Bool.{Bool, true}
-use mathlib.Core.List.{List, []}
+use mathlib.Core.List.{List}
 use Prim.Native.Nat.{ℕ, _<_}
 use lib.Dec.{eqb, ltb, lit<}
-use lib.ListN.{getD}
 use borrow.Author.Tests.{ltb-true, lt-ltb, eqb-true}
 use Rattle.base.specs.Below.{allBelow}
 use Rattle.base.proofs.Below.{all-at}
@@ -47,16 +46,6 @@ same f g = allBelow (λ x. allBelow (λ y. eqb (f x y) (g x y)) 9) 9
 pub agree : (f g : ℕ → ℕ → ℕ) → Coded f → Coded g → same f g ≡ true → (x y : ℕ) → f x y ≡ g x y
 unfolding same
 agree f g p q t x y = sym (p x y) ∙ eqb-true (f (codeOf x) (codeOf y)) (g (codeOf x) (codeOf y)) (two (λ x y. eqb (f x y) (g x y)) t x y) ∙ q x y
-
--- a table that agrees with a rule at the codes has the rule's values
-pub rule : (t : List (List ℕ)) (x y : ℕ) {r : ℕ} (g : ℕ → ℕ → ℕ) → Coded g → r ≡ pairIn t x y → same (λ x y. getD (getD t x []) y 0) g ≡ true → r ≡ g x y
-unfolding pairIn inRow same
-rule t x y g p h e = h ∙ eqb-true (getD (getD t (codeOf x) []) (codeOf y) 0) (g (codeOf x) (codeOf y)) (two (λ x y. eqb (getD (getD t x []) y 0) (g x y)) e x y) ∙ p x y
-
--- the same of a table of one row
-pub row-rule : (t : List ℕ) (x : ℕ) {r : ℕ} (g : ℕ → ℕ) → ((x : ℕ) → g (codeOf x) ≡ g x) → r ≡ inRow t x → allBelow (λ x. eqb (getD t x 0) (g x)) 9 ≡ true → r ≡ g x
-unfolding inRow
-row-rule t x g p h e = h ∙ eqb-true (getD t (codeOf x) 0) (g (codeOf x)) (all-at (λ x. eqb (getD t x 0) (g x)) 9 (codeOf x) (code-below x) e) ∙ p x
 
 -- a function that gives codes at the codes gives codes
 pub below : (g : ℕ → ℕ → ℕ) → Coded g → allBelow (λ x. allBelow (λ y. ltb (g x y) 9) 9) 9 ≡ true → (x y : ℕ) → g x y < 9

@@ -1,16 +1,32 @@
 // The nine values of IEEE 1164: the pair table, resolution and the operators. Total on words: a number above 8 is read as X.
 ghost use mathlib.Core.Path.{_≡_};
+ghost use mathlib.Core.Bool.{_&&_, _||_};
 ghost use Prim.Native.Nat.{_<_};
+ghost use lib.Dec.{eqb};
 ghost use lib.ListN.{length};
-ghost use Rattle.values.specs.Nine.{codeOf};
+ghost use Rattle.base.specs.Cases.{_∣_, _⇒_};
+ghost use Rattle.values.specs.Nine.{U, X, ‘0’, ‘1’, codeOf, isU, low, high};
 ghost use Rattle.values.specs.Resolve.{inRow, pairIn, pairOf, resolutionBy, resolutionOf, PairLaws, ResolutionLaws};
 ghost use Rattle.values.specs.Operators.{notOf, andOf, orOf, xorOf};
 ghost use Rattle.values.specs.Bench.{rows, Holds};
+use base::choose32;
 
-// The code of Z.
+// The codes that the functions name.
+const U: u32 = 0;
+
+const X: u32 = 1;
+
+const ZERO: u32 = 2;
+
+const ONE: u32 = 3;
+
 pub const Z: u32 = 4;
 
-// Rows and columns of each table: U X 0 1 Z W L H -.
+const L: u32 = 6;
+
+const H: u32 = 7;
+
+// Rows and columns: U X 0 1 Z W L H -.
 const PAIR: [[u8; 9]; 9] = [
     [0, 0, 0, 0, 0, 0, 0, 0, 0], // U
     [0, 1, 1, 1, 1, 1, 1, 1, 1], // X
@@ -22,44 +38,6 @@ const PAIR: [[u8; 9]; 9] = [
     [0, 1, 2, 3, 7, 5, 5, 7, 1], // H
     [0, 1, 1, 1, 1, 1, 1, 1, 1], // -
 ];
-
-const AND: [[u8; 9]; 9] = [
-    [0, 0, 2, 0, 0, 0, 2, 0, 0], // U
-    [0, 1, 2, 1, 1, 1, 2, 1, 1], // X
-    [2, 2, 2, 2, 2, 2, 2, 2, 2], // 0
-    [0, 1, 2, 3, 1, 1, 2, 3, 1], // 1
-    [0, 1, 2, 1, 1, 1, 2, 1, 1], // Z
-    [0, 1, 2, 1, 1, 1, 2, 1, 1], // W
-    [2, 2, 2, 2, 2, 2, 2, 2, 2], // L
-    [0, 1, 2, 3, 1, 1, 2, 3, 1], // H
-    [0, 1, 2, 1, 1, 1, 2, 1, 1], // -
-];
-
-const OR: [[u8; 9]; 9] = [
-    [0, 0, 0, 3, 0, 0, 0, 3, 0], // U
-    [0, 1, 1, 3, 1, 1, 1, 3, 1], // X
-    [0, 1, 2, 3, 1, 1, 2, 3, 1], // 0
-    [3, 3, 3, 3, 3, 3, 3, 3, 3], // 1
-    [0, 1, 1, 3, 1, 1, 1, 3, 1], // Z
-    [0, 1, 1, 3, 1, 1, 1, 3, 1], // W
-    [0, 1, 2, 3, 1, 1, 2, 3, 1], // L
-    [3, 3, 3, 3, 3, 3, 3, 3, 3], // H
-    [0, 1, 1, 3, 1, 1, 1, 3, 1], // -
-];
-
-const XOR: [[u8; 9]; 9] = [
-    [0, 0, 0, 0, 0, 0, 0, 0, 0], // U
-    [0, 1, 1, 1, 1, 1, 1, 1, 1], // X
-    [0, 1, 2, 3, 1, 1, 2, 3, 1], // 0
-    [0, 1, 3, 2, 1, 1, 3, 2, 1], // 1
-    [0, 1, 1, 1, 1, 1, 1, 1, 1], // Z
-    [0, 1, 1, 1, 1, 1, 1, 1, 1], // W
-    [0, 1, 2, 3, 1, 1, 2, 3, 1], // L
-    [0, 1, 3, 2, 1, 1, 3, 2, 1], // H
-    [0, 1, 1, 1, 1, 1, 1, 1, 1], // -
-];
-
-const NOT: [u8; 9] = [0, 1, 3, 2, 1, 1, 3, 2, 1];
 
 fn code(x: u32) -> usize
     ensures { λ r. ⌜ (r ≡ codeOf x) × (r < 9) ⌝ }
@@ -119,28 +97,52 @@ pub fn resolve(values: &[u8]) -> u32
     resolve_by(&PAIR, values)
 }
 
+// The class of a value, as the code that IEEE 1164's To_UX01 gives: 0 for 0 and L; 1 for 1 and H; U; X for the rest.
+fn class(x: u32) -> u32
+    ensures { λ r. ⌜ r ≡ (low x ⇒ ‘0’ ∣ high x ⇒ ‘1’ ∣ isU x ⇒ U ∣ X) ⌝ }
+{
+    let low = (x == ZERO) | (x == L);
+    let high = (x == ONE) | (x == H);
+    choose32(low, ZERO, choose32(high, ONE, choose32(x == U, U, X)))
+}
+
 pub fn not(x: u32) -> u32
     ensures { λ r. ⌜ r ≡ notOf x ⌝ }
 {
-    in_row(&NOT, x)
+    let a = class(x);
+    choose32(a == ZERO, ONE, choose32(a == ONE, ZERO, a))
+}
+
+// `and` of two classes: zero if either is; else U if either is; else one if both are; else X. With 0 and 1 exchanged it is `or`.
+fn gate(a: u32, b: u32, zero: u32, one: u32) -> u32
+    ensures { λ r. ⌜ r ≡ (eqb a zero || eqb b zero ⇒ zero ∣ eqb a U || eqb b U ⇒ U ∣ eqb a one && eqb b one ⇒ one ∣ X) ⌝ }
+{
+    let either = (a == zero) | (b == zero);
+    let unset = (a == U) | (b == U);
+    let both = (a == one) & (b == one);
+    choose32(either, zero, choose32(unset, U, choose32(both, one, X)))
 }
 
 pub fn and(x: u32, y: u32) -> u32
     ensures { λ r. ⌜ r ≡ andOf x y ⌝ }
 {
-    look_up(&AND, x, y)
+    gate(class(x), class(y), ZERO, ONE)
 }
 
 pub fn or(x: u32, y: u32) -> u32
     ensures { λ r. ⌜ r ≡ orOf x y ⌝ }
 {
-    look_up(&OR, x, y)
+    gate(class(x), class(y), ONE, ZERO)
 }
 
 pub fn xor(x: u32, y: u32) -> u32
     ensures { λ r. ⌜ r ≡ xorOf x y ⌝ }
 {
-    look_up(&XOR, x, y)
+    let a = class(x);
+    let b = class(y);
+    let unset = (a == U) | (b == U);
+    let unknown = (a == X) | (b == X);
+    choose32(unset, U, choose32(unknown, X, choose32(a != b, ONE, ZERO)))
 }
 
 // How many rows the proved table of the bench has of this layer.

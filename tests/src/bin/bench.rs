@@ -1,6 +1,7 @@
-//! Picks per second and nanoseconds per advance of the second kernel, of GHDL
-//! on the translated model and, with the feature `session`, of the proved
-//! kernel, all in one run. `bench/run` builds and starts it.
+//! Picks per second, nanoseconds per advance and per logic operator of the
+//! second kernel, of GHDL on the translated model and, with the feature
+//! `session`, of the proved kernel, all in one run. `bench/run` builds and
+//! starts it.
 //!
 //! Kernels play sessions of at most 4,096 orders, again and again, loading
 //! included. GHDL runs two lengths of the same design; the difference takes
@@ -10,7 +11,9 @@ use second_kernel::builder::Builder;
 use second_kernel::cycle::{Config, READY};
 use second_kernel::model::{ABSENT, BOOLEAN, INTEGER, LOGIC};
 use second_kernel::session;
+use second_kernel::values::{Functions, SECOND};
 use second_kernel::vhdl;
+use std::hint::black_box;
 use std::process::{exit, Command};
 use std::time::{Duration, Instant};
 
@@ -68,6 +71,30 @@ fn dividing(turns: i32) -> Builder {
     b.assign(product, times);
     b.assign(quotient, divided);
     b.assign(rest, left);
+    again(&mut b, p, read_count, turns);
+    b
+}
+
+/// The same with logic operators, seven statements a turn: three assign
+/// `a xor b`, `not (a and c)` and `(a or b) xor c`.
+fn logical(turns: i32) -> Builder {
+    let mut b = Builder::new();
+    let p = b.process();
+    let count = b.variable(INTEGER, p, 0);
+    let levels = [ZERO, ZERO + 1, ZERO].map(|start| b.variable(LOGIC, p, start));
+    let one = b.integer(1);
+    let read_count = b.read_variable(count);
+    let more = b.binary(11, read_count, one);
+    let [x, y, z] = levels.map(|v| b.read_variable(v));
+    let differ = b.binary(9, x, y);
+    let both = b.binary(7, x, z);
+    let not_both = b.unary(6, both);
+    let either = b.binary(8, x, y);
+    let odd = b.binary(9, either, z);
+    b.assign(count, more);
+    b.assign(levels[0], differ);
+    b.assign(levels[1], not_both);
+    b.assign(levels[2], odd);
     again(&mut b, p, read_count, turns);
     b
 }
@@ -183,6 +210,11 @@ const PROVED: Option<Play> = Some(proved);
 #[cfg(not(feature = "session"))]
 const PROVED: Option<Play> = None;
 
+#[cfg(feature = "session")]
+const PROVED_VALUES: Option<Functions> = Some(second_kernel::proved::VALUES);
+#[cfg(not(feature = "session"))]
+const PROVED_VALUES: Option<Functions> = None;
+
 /// Seconds of one session, from a round of many.
 fn time(play: Play, model: &[u8], l: &List) -> f64 {
     let mut answers = vec![0; 4 * l.orders.len()];
@@ -247,7 +279,7 @@ struct Design {
     long: u64,
 }
 
-const DESIGNS: [Design; 4] = [
+const DESIGNS: [Design; 5] = [
     Design {
         name: "loop",
         build: |n| busy(n as i32),
@@ -258,6 +290,13 @@ const DESIGNS: [Design; 4] = [
     Design {
         name: "divide",
         build: |n| dividing(n as i32),
+        stop: |_| 0,
+        orders: 32,
+        long: 10_000_000,
+    },
+    Design {
+        name: "logic",
+        build: |n| logical(n as i32),
         stop: |_| 0,
         orders: 32,
         long: 10_000_000,
@@ -357,6 +396,83 @@ fn alone(play: Play) -> f64 {
     (best[0] - best[1]) / all.advances as f64 * 1e9
 }
 
+/// Names of the logic operators, with their VHDL for operands x and y.
+const OPERATORS: [(&str, &str); 4] = [
+    ("not", "not x"),
+    ("and", "x and y"),
+    ("or", "x or y"),
+    ("xor", "x xor y"),
+];
+
+/// Nanoseconds of a call of one operator, over all pairs of codes.
+fn operator(k: &Functions, name: &str) -> f64 {
+    match name {
+        "not" => calls(|x, _| (k.not)(x)),
+        "and" => calls(k.and),
+        "or" => calls(k.or),
+        _ => calls(k.xor),
+    }
+}
+
+fn calls(call: impl Fn(u32, u32) -> u32) -> f64 {
+    let start = Instant::now();
+    let mut done = 0u32;
+    while start.elapsed() < ROUND / 3 {
+        for _ in 0..100 {
+            for x in 0..9 {
+                for y in 0..9 {
+                    black_box(call(black_box(x), black_box(y)));
+                }
+            }
+        }
+        done += 8_100;
+    }
+    start.elapsed().as_secs_f64() / done as f64 * 1e9
+}
+
+/// The same loop in VHDL, `turns` times over all pairs.
+fn operator_text(expression: &str, turns: u32) -> String {
+    format!(
+        "library ieee; use ieee.std_logic_1164.all;
+entity top is end top;
+architecture a of top is begin
+  process
+    variable r : std_ulogic;
+  begin
+    for turn in 1 to {turns} loop
+      for x in std_ulogic loop
+        for y in std_ulogic loop
+          r := {expression};
+        end loop;
+      end loop;
+    end loop;
+    wait;
+  end process;
+end a;
+"
+    )
+}
+
+/// Nanoseconds a logic operator of the second kernel, GHDL and the proved
+/// kernel: the three in turn in each round, the best of each.
+fn operators((name, expression): (&'static str, &str)) -> (&'static str, [Option<f64>; 3]) {
+    const LONG: u32 = 500_000;
+    const SHORT: u32 = LONG / 10;
+    let texts = [LONG, SHORT].map(|turns| operator_text(expression, turns));
+    let mut best = [f64::MAX; 4];
+    for _ in 0..ROUNDS {
+        best[0] = best[0].min(operator(&SECOND, name));
+        best[1] = best[1].min(ghdl(&texts[0], 0));
+        best[2] = best[2].min(ghdl(&texts[1], 0));
+        if let Some(k) = &PROVED_VALUES {
+            best[3] = best[3].min(operator(k, name));
+        }
+    }
+    let theirs = (best[1] - best[2]) / (81 * (LONG - SHORT)) as f64 * 1e9;
+    let proved = PROVED_VALUES.map(|_| best[3]);
+    (name, [Some(best[0]), Some(theirs), proved])
+}
+
 fn cell(x: Option<f64>, places: usize) -> String {
     x.map_or("-".to_string(), |x| format!("{x:.places$}"))
 }
@@ -389,4 +505,10 @@ fn main() {
         "quiet", steps[0], steps[1], steps[2]
     );
     println!("fan, chain: an advance with the picks after it; quiet: an advance alone");
+    println!();
+    println!("nanoseconds a logic operator, over all pairs of codes, the loop included");
+    for (name, times) in OPERATORS.map(operators) {
+        let [own, theirs, proved] = times.map(|x| cell(x, 2));
+        println!("{name:7} {own:>8} {theirs:>8} {proved:>8}");
+    }
 }

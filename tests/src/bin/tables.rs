@@ -4,19 +4,13 @@
 //!     tables proved FILE     the proved kernel (cargo feature `proved`)
 //!
 //! FILE is what `ghdl/tables.sh` writes. Every entry must stand there once,
-//! no other line, and each must agree; else the exit code is 1.
+//! no other line, and each must agree; and the operators must read a number
+//! above 8 as X. Else the exit code is 1.
 
-use second_kernel::values;
+use second_kernel::values::{self, Functions};
 use std::process::exit;
 
-/// The operations of one kernel on codes 0 to 8.
-struct Kernel {
-    resolve: fn(&[u8]) -> u32,
-    not: fn(u8) -> u32,
-    and: fn(u8, u8) -> u32,
-    or: fn(u8, u8) -> u32,
-    xor: fn(u8, u8) -> u32,
-}
+const X: u32 = values::X as u32;
 
 /// Name and number of operands of each kind of line.
 const KINDS: [(&str, usize); 7] = [
@@ -29,48 +23,25 @@ const KINDS: [(&str, usize); 7] = [
     ("xor", 2),
 ];
 
-fn second() -> Kernel {
-    Kernel {
-        resolve: |v| values::resolve(v) as u32,
-        not: |a| values::not(a) as u32,
-        and: |a, b| values::and(a, b) as u32,
-        or: |a, b| values::or(a, b) as u32,
-        xor: |a, b| values::xor(a, b) as u32,
-    }
-}
-
 #[cfg(feature = "proved")]
-fn proved() -> Kernel {
-    unsafe extern "C" {
-        fn gontrafiby_resolve(values: *const u8, len: usize) -> u32;
-        fn gontrafiby_not(x: u32) -> u32;
-        fn gontrafiby_and(x: u32, y: u32) -> u32;
-        fn gontrafiby_or(x: u32, y: u32) -> u32;
-        fn gontrafiby_xor(x: u32, y: u32) -> u32;
-    }
-    // Safety: the pointer and length are one slice's; the others take numbers.
-    Kernel {
-        resolve: |v| unsafe { gontrafiby_resolve(v.as_ptr(), v.len()) },
-        not: |a| unsafe { gontrafiby_not(a as u32) },
-        and: |a, b| unsafe { gontrafiby_and(a as u32, b as u32) },
-        or: |a, b| unsafe { gontrafiby_or(a as u32, b as u32) },
-        xor: |a, b| unsafe { gontrafiby_xor(a as u32, b as u32) },
-    }
+fn proved() -> Functions {
+    second_kernel::proved::VALUES
 }
 
 #[cfg(not(feature = "proved"))]
-fn proved() -> Kernel {
+fn proved() -> Functions {
     eprintln!("tables: built without the feature `proved`");
     exit(2)
 }
 
 /// What the kernel gives for one line.
-fn apply(k: &Kernel, name: &str, v: &[u8]) -> u32 {
+fn apply(k: &Functions, name: &str, v: &[u8]) -> u32 {
+    let code = |n: usize| v[n] as u32;
     match name {
-        "not" => (k.not)(v[0]),
-        "and" => (k.and)(v[0], v[1]),
-        "or" => (k.or)(v[0], v[1]),
-        "xor" => (k.xor)(v[0], v[1]),
+        "not" => (k.not)(code(0)),
+        "and" => (k.and)(code(0), code(1)),
+        "or" => (k.or)(code(0), code(1)),
+        "xor" => (k.xor)(code(0), code(1)),
         _ => (k.resolve)(v),
     }
 }
@@ -89,7 +60,7 @@ fn parse(line: &str) -> Option<(usize, Vec<u8>, u32)> {
 }
 
 /// Compares every line; the lines of each kind on success.
-fn compare(text: &str, k: &Kernel) -> Result<[usize; 7], String> {
+fn compare(text: &str, k: &Functions) -> Result<[usize; 7], String> {
     let mut seen: [Vec<bool>; 7] = KINDS.map(|(_, n)| vec![false; 9usize.pow(n as u32)]);
     for line in text.lines() {
         let (kind, v, printed) = parse(line).ok_or(format!("cannot read line: {line}"))?;
@@ -111,10 +82,38 @@ fn compare(text: &str, k: &Kernel) -> Result<[usize; 7], String> {
     Ok(seen.map(|s| s.len()))
 }
 
+/// Numbers above 8: those of a byte and a little more, and each code with one bit more.
+fn above() -> Vec<u32> {
+    let small = 9..300;
+    let high = (4..32).flat_map(|bit| (0..9).map(move |code| (1u32 << bit) + code));
+    small.chain(high).chain([u32::MAX]).collect()
+}
+
+/// Holds what the operators make of numbers above 8 against what they make
+/// of X; how many they were on success.
+fn compare_above(k: &Functions) -> Result<usize, String> {
+    let pairs = [("and", k.and), ("or", k.or), ("xor", k.xor)];
+    let numbers = above();
+    for &n in &numbers {
+        if (k.not)(n) != (k.not)(X) {
+            return Err(format!("not {n} is not as not X"));
+        }
+        for (name, f) in pairs {
+            for y in (0..9).chain([n]) {
+                let read = if y == n { X } else { y };
+                if f(n, y) != f(X, read) || f(y, n) != f(read, X) {
+                    return Err(format!("{name} of {n} and {y} is not as of X"));
+                }
+            }
+        }
+    }
+    Ok(numbers.len())
+}
+
 fn main() {
     let args: Vec<String> = std::env::args().skip(1).collect();
     let kernel = match args.first().map(String::as_str) {
-        Some("second") if args.len() == 2 => second(),
+        Some("second") if args.len() == 2 => values::SECOND,
         Some("proved") if args.len() == 2 => proved(),
         _ => {
             eprintln!("usage: tables second|proved FILE");
@@ -125,15 +124,16 @@ fn main() {
         eprintln!("tables: {}: {e}", args[1]);
         exit(2)
     });
-    match compare(&text, &kernel) {
-        Ok(counts) => {
+    let above = compare_above(&kernel);
+    match compare(&text, &kernel).and_then(|counts| Ok((counts, above?))) {
+        Ok((counts, numbers)) => {
             let parts: Vec<String> = KINDS
                 .iter()
                 .zip(counts)
                 .map(|(k, n)| format!("{} {n}", k.0))
                 .collect();
             println!(
-                "tables {}: {} lines agree ({})",
+                "tables {}: {} lines agree ({}), {numbers} numbers above 8 read as X",
                 args[0],
                 counts.iter().sum::<usize>(),
                 parts.join(", ")

@@ -1,17 +1,10 @@
--- The table is the paper's sentence at its 81 entries, by one computed test.
-use mathlib.Core.Path.{refl}
 use borrow.Author.Needs.{needs}
-use Rattle.base.specs.Below.{allBelow}
-use Rattle.values.specs.Nine.{isU, low, high}
-use Rattle.values.specs.Operators.{orOf}
-use Rattle.values.proofs.Tables.{same, rule}
-use Rattle.values.proofs.Operators.{or-coded}
+use Rattle.values.proofs.Operators.{or-by-classes}
 use Rattle.values.proofs.or.Statement.{statement}
 use Rattle.values.proofs.or.Tie as tie
 
 returns : tie.Need-returns
-unfolding same allBelow isU low high orOf
-returns c = rule _ _ _ orOf or-coded (c .look-up .ensures) refl
+returns c = rw (c .gate .ensures, c .before .before .class .ensures, c .before .class2 .ensures) (or-by-classes _ _)
 
 pub or-spec : {M : Type 1} → statement M
-or-spec = tie.close (tie.spec (λ c κs. search needs) returns)
+or-spec = tie.close (tie.spec (λ c κs. search needs) (λ c κs. search needs) (λ c κs. search needs) returns)
