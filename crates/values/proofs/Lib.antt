@@ -1,3 +1,4 @@
 pub mod Tables
 pub mod Resolution
 pub mod Operators
+pub mod Formulas

@@ -1,5 +1,5 @@
 use borrow.Author.Needs.{needs}
-use Rattle.values.proofs.Operators.{and-by-classes}
+use Rattle.values.proofs.Formulas.{and-by-classes}
 use Rattle.values.proofs.and.Statement.{statement}
 use Rattle.values.proofs.and.Tie as tie
 

@@ -1,5 +1,5 @@
 use borrow.Author.Needs.{needs}
-use Rattle.values.proofs.Operators.{not-by-class}
+use Rattle.values.proofs.Formulas.{not-by-class}
 use Rattle.values.proofs.not.Statement.{statement}
 use Rattle.values.proofs.not.Tie as tie
 

@@ -1,5 +1,5 @@
 use borrow.Author.Needs.{needs}
-use Rattle.values.proofs.Operators.{or-by-classes}
+use Rattle.values.proofs.Formulas.{or-by-classes}
 use Rattle.values.proofs.or.Statement.{statement}
 use Rattle.values.proofs.or.Tie as tie
 
