@@ -16,7 +16,7 @@ use Rattle.model.specs.Owners.{pairBelow, driversRise, driversOf, singleOk, dri
 use Rattle.rules.specs.Configuration.{drivingOf, firstDrivers, firstSignal, first}
 use Rattle.rules.specs.Evaluation.{ranged, negateOf, sumOf, differenceOf, equalOf, lessOf, productOf, divided, valueBy, nextValue, evalOf}
 use Rattle.rules.specs.Failing.{orderBy, nextOrder, evaluationOrder}
-use Rattle.rules.specs.Statements.{withDelay, effectBy, effectOf, before, scheduled, overflows, nextPlace, driverAfter, applied, stepped}
+use Rattle.rules.specs.Statements.{withDelay, effectBy, effectOf, kept, before, added, equalValue, marked, leftBy, scheduled, overflows, nextPlace, driverAfter, applied, stepped}
 use Rattle.rules.specs.Steps.{transactionDue, taken, deadlineDue, active, undriven, signalAfter, signalsAfter, earlierAfter, inSet, changedIn, wokenIf, wokenAt, processAfterDelta, deltaStep, shifted, timeStep}
 use Rattle.rules.specs.Orders.{isReady, isStopped, picked, dueTimes, dueNow, advanced, lowestReady, settledFrom, settled, readOf}
 use Rattle.session.specs.Lists.{orderOf, ordersOf, isKnown, performed, answerOf, played}
@@ -28,7 +28,7 @@ unfolding anyBelow joinBelow listBelow upTo course firstWith
     typeBy nextType typeOf driverFor
     drivingOf firstDrivers firstSignal first
     quotient rem modulo ranged negateOf sumOf differenceOf equalOf lessOf productOf divided valueBy nextValue evalOf orderBy nextOrder evaluationOrder
-    withDelay effectBy effectOf before scheduled overflows nextPlace driverAfter applied stepped
+    withDelay effectBy effectOf kept before added equalValue marked leftBy scheduled overflows nextPlace driverAfter applied stepped
     transactionDue taken deadlineDue active undriven signalAfter signalsAfter earlierAfter inSet changedIn wokenIf wokenAt processAfterDelta deltaStep
     shifted timeStep
     isReady isStopped picked dueTimes dueNow advanced lowestReady settledFrom settled readOf

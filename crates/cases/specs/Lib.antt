@@ -3,6 +3,7 @@ pub mod Forms
 pub mod Answers
 pub mod Arithmetic
 pub mod Bench
+pub mod Inertial
 pub mod Inverter
 pub mod Guarded
 pub mod Claims

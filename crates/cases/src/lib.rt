@@ -1,5 +1,6 @@
 // The bench cases of document 01, by the definitions alone: the proved table, what the inverter prints, and the claims over all
-// models and lists of orders, used on the inverter; a bus and a register whose drivers turn off; and delays of 0.
+// models and lists of orders, used on the inverter; a bus and a register whose drivers turn off; delays of 0; and inertial
+// delays.
 ghost use mathlib.Core.Path.{_≡_};
 ghost use lib.ListN.{length};
 ghost use Rattle.values.specs.Bench.{Holds};
@@ -9,6 +10,7 @@ ghost use Rattle.cases.specs.Faults.{FaultsUsed};
 ghost use Rattle.cases.specs.Inverter.{inverterLines, InverterPlayed};
 ghost use Rattle.cases.specs.Guarded.{guardedRows, GuardedPlayed};
 ghost use Rattle.cases.specs.Delays.{delayRows, DelaysPlayed, DelaysUsed};
+ghost use Rattle.cases.specs.Inertial.{inertialCases, InertialPlayed};
 ghost use Rattle.cases.specs.Claims.{settling, tally, InverterDetermined, SharedDetermined, InverterLaws};
 
 // How many rows the proved table has; that they hold, that none is missing, and the laws of division and of faults used once.
@@ -57,4 +59,12 @@ pub fn delay_rows() -> usize
     ensures { λ r. ⌜ DelaysUsed ⌝ }
 {
     15
+}
+
+// How many cases of an inertial delay are played; that they leave what they should, and when a ninth transaction is a fault.
+pub fn inertial_cases() -> usize
+    ensures { λ r. ⌜ r ≡ length inertialCases ⌝ }
+    ensures { λ r. ⌜ InertialPlayed ⌝ }
+{
+    8
 }

@@ -15,6 +15,7 @@ use Rattle.rules.specs.Statements.{moved, stops, nextPlace, processAfter, fullA
 use Rattle.rules.specs.declared.value.Failure.{Failure}
 use Rattle.rules.specs.Evaluation.{failure, noNode}
 use Rattle.rules.specs.declared.effect.Effect.{Effect}
+use Rattle.rules.specs.declared.mechanism.Mechanism.{Mechanism}
 use Rattle.rules.specs.declared.effect.Effect.the-variants.{Skip, Store, Schedule, Jump, Wait, WaitFor, Stop}
 use Rattle.rules.specs.declared.driven.Driven.{Driven}
 use Rattle.waveforms.specs.Pending.{drivenOf, noDriver}
@@ -172,25 +173,25 @@ module _ (M : Model) (c : Config) (p : ℕ) (h : p < c .nprocesses) where
     unfolding viewOf driverView
     stop-view f = change-is (Stop f) (stopsBy c p f) refl refl (stopped-is f) refl
 
-    module _ (k d : ℕ) (v : Driven) (kd : k < c .ndrivers) (k64 : k < 64) (r : Scheduled) (to : ScheduledTo (getD (c .drivers) k noDriver) d v r) where
-      full-is : r .full ≡ fullAfter (Schedule k d v) (c .time) (viewOf c .drivers)
+    module _ (k d : ℕ) (v : Driven) (m : Mechanism) (kd : k < c .ndrivers) (k64 : k < 64) (r : Scheduled) (to : ScheduledTo (getD (c .drivers) k noDriver) d v m r) where
+      full-is : r .full ≡ fullAfter (Schedule k d v m) (c .time) (viewOf c .drivers)
       full-is = to .full (c .time) ∙ rw (pending-in c k kd)
 
-      driver-is : driving (c .time) (drivenOf (getD (c .currents) k 0)) (r .driver) ≡ driverAfter (c .time + d) v (driverIn (viewOf c .drivers) k)
+      driver-is : driving (c .time) (drivenOf (getD (c .currents) k 0)) (r .driver) ≡ driverAfter m (c .time + d) v (driverIn (viewOf c .drivers) k)
       unfolding driverView
       driver-is = to .driver (c .time) (drivenOf (getD (c .currents) k 0)) ∙ rw (driver-in c k kd)
 
-      pub schedule-view : (t i : ℕ) → i ≡ next → r .full ≡ false → viewOf (scheduledTo c p k (r .driver) t i) ≡ applied M p (Schedule k d v) (viewOf c)
+      pub schedule-view : (t i : ℕ) → i ≡ next → r .full ≡ false → viewOf (scheduledTo c p k (r .driver) t i) ≡ applied M p (Schedule k d v m) (viewOf c)
       unfolding viewOf driverView processView
       schedule-view t i e f =
-          change-is (Schedule k d v) (scheduledTo c p k (r .driver) t i) refl
+          change-is (Schedule k d v m) (scheduledTo c p k (r .driver) t i) refl
           (driver-set (c .time) (c .currents) (c .drivers) (c .ndrivers) k (r .driver) (omega (arith, s .drivers)) ∙ rw driver-is)
           (moved-is i (c .variables) ∙ rw (← full-is, f, e)) refl
 
-      stays : r .full ≡ true → viewOf c .drivers ≡ set (viewOf c .drivers) k (driverAfter (c .time + d) v (driverIn (viewOf c .drivers) k))
+      stays : r .full ≡ true → viewOf c .drivers ≡ set (viewOf c .drivers) k (driverAfter m (c .time + d) v (driverIn (viewOf c .drivers) k))
       unfolding driverAfter
       stays f = rw (← full-is, f, set-getD)
 
-      pub full-view : r .full ≡ true → viewOf (stopsBy c p (failure noNode 3)) ≡ applied M p (Schedule k d v) (viewOf c)
+      pub full-view : r .full ≡ true → viewOf (stopsBy c p (failure noNode 3)) ≡ applied M p (Schedule k d v m) (viewOf c)
       unfolding viewOf driverView
-      full-view f = change-is (Schedule k d v) (stopsBy c p (failure noNode 3)) refl (stays f) (stopped-is (failure noNode 3) ∙ rw (← full-is, f)) refl
+      full-view f = change-is (Schedule k d v m) (stopsBy c p (failure noNode 3)) refl (stays f) (stopped-is (failure noNode 3) ∙ rw (← full-is, f)) refl

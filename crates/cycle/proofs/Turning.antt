@@ -24,6 +24,7 @@ use Rattle.rules.specs.declared.driven.Driven.{Driven}
 use Rattle.rules.specs.declared.value.Failure.{Failure}
 use Rattle.rules.specs.Evaluation.{failure, noNode}
 use Rattle.rules.specs.declared.effect.Effect.{Effect}
+use Rattle.rules.specs.declared.mechanism.Mechanism.{Mechanism}
 use Rattle.rules.specs.declared.effect.Effect.the-variants.{Skip, Store, Schedule, Jump, Wait, WaitFor, Stop}
 use Rattle.rules.proofs.Effects.{own-statement, placed, effect-fits}
 use Rattle.rules.proofs.Picks.{standing-stays}
@@ -174,7 +175,7 @@ module _ {M : Model} {now p : ℕ} {c : Config} {e : Effect} (t : Turn M now p c
   pub stop-turn : (i : Failure) → e ≡ Stop i → Next (stopsBy c p i)
   stop-turn i x = turned (stopsBy c p i) (rw x (stop-view M c p in-nprocesses s in-16 i)) refl refl (stops-sized c p s i) (f .due)
 
-  module _ (k d : ℕ) (v : Driven) (x : e ≡ Schedule k d v) where
+  module _ (k d : ℕ) (v : Driven) (w : Mechanism) (x : e ≡ Schedule k d v w) where
     schedule-fits : ScheduleFits M p k d v
     schedule-fits = rw x at fits
 
@@ -194,13 +195,13 @@ module _ {M : Model} {now p : ℕ} {c : Config} {e : Effect} (t : Turn M now p c
     pub word-held : drivenOf (wordFor v) ≡ v
     word-held = held (signalAt M (driverAt M k .signal)) v (schedule-fits .value)
 
-    module _ (r : Scheduled) (to : ScheduledTo (getD (c .drivers) k noDriver) d v r) where
+    module _ (r : Scheduled) (to : ScheduledTo (getD (c .drivers) k noDriver) d v w r) where
       pub full-turn : r .full ≡ true → Next (stopsBy c p (failure noNode 3))
-      full-turn g = turned (stopsBy c p (failure noNode 3)) (rw x (full-view M c p in-nprocesses s in-16 k d v in-ndrivers in-drivers r to g)) refl refl (stops-sized c p s (failure noNode 3)) (f .due)
+      full-turn g = turned (stopsBy c p (failure noNode 3)) (rw x (full-view M c p in-nprocesses s in-16 k d v w in-ndrivers in-drivers r to g)) refl refl (stops-sized c p s (failure noNode 3)) (f .due)
 
       pub schedule-turn : r .full ≡ false → (u i : ℕ) → u ≡ firstTime (pendingOf now (r .driver)) → i ≡ following → Next (scheduledTo c p k (r .driver) u i)
       schedule-turn g u i a b =
-          turned (scheduledTo c p k (r .driver) u i) (rw x (schedule-view M c p in-nprocesses s in-16 k d v in-ndrivers in-drivers r to u i b g)) refl refl
+          turned (scheduledTo c p k (r .driver) u i) (rw x (schedule-view M c p in-nprocesses s in-16 k d v w in-ndrivers in-drivers r to u i b g)) refl refl
           (scheduled-sized c p s k (r .driver) u i) first
         where
           first : (j : ℕ) → j < c .ndrivers → getD (set (c .due) k u) j 0 ≡ firstTime (pendingOf (c .time) (getD (set (c .drivers) k (r .driver)) j noDriver))

@@ -137,9 +137,9 @@ impl Config {
                     self.variables[a] = v;
                     self.places[p] = next;
                 }
-                Effect::Schedule(k, d, v) => {
+                Effect::Schedule(k, d, v, w) => {
                     let e = self.drivers[k];
-                    let r = e.schedule(d, v);
+                    let r = e.schedule(d, v, w);
                     if r.full {
                         self.standings[p] = STOPPED;
                         self.faults[p] = 3;

@@ -9,7 +9,7 @@ ghost use Rattle.fields.specs.Fields.{ownerOf};
 ghost use Rattle.fields.specs.Facts.{Spans};
 ghost use Rattle.rules.specs.declared.driven.Driven.the-variants.{To};
 ghost use Rattle.rules.specs.declared.effect.Effect.the-variants.{Skip, Store, Schedule, Jump, WaitFor};
-ghost use Rattle.rules.specs.Statements.{withValue, withDelay, effectBy, nextPlace};
+ghost use Rattle.rules.specs.Statements.{withValue, withDelay, mechanismOf, effectBy, nextPlace};
 ghost use Rattle.expressions.specs.Reading.{arrays, Runs};
 use crate::eval::eval;
 use crate::operators::int;
@@ -21,6 +21,7 @@ use model::owners::assignment_driver;
 use rules::NO_NODE;
 use rules::driven::Driven;
 use rules::effect::Effect;
+use rules::mechanism::Mechanism;
 use rules::value::Failure;
 use rules::value::Value;
 
@@ -48,9 +49,20 @@ fn branch(a: usize, v: Value) -> Effect
     }
 }
 
+// How an assignment of the kind delays.
+fn mechanism_of(kind: usize) -> Mechanism
+    ensures { λ r. ⌜ r ≡ mechanismOf kind ⌝ }
+{
+    if kind == 7 {
+        Mechanism::Inertial
+    } else {
+        Mechanism::Transport
+    }
+}
+
 // A schedule of a value or null on driver k: fault 2 for a negative delay.
-fn schedule(k: usize, c: Value, v: Driven) -> Effect
-    ensures { λ r. ⌜ r ≡ withDelay c (λ d. Schedule k d v) ⌝ }
+fn schedule(k: usize, c: Value, v: Driven, w: Mechanism) -> Effect
+    ensures { λ r. ⌜ r ≡ withDelay c (λ d. Schedule k d v w) ⌝ }
 {
     match c {
         Value::Fault(f) => Effect::Stop(f),
@@ -61,18 +73,18 @@ fn schedule(k: usize, c: Value, v: Driven) -> Effect
                     node: NO_NODE,
                 })
             } else {
-                Effect::Schedule(k, d, v)
+                Effect::Schedule(k, d, v, w)
             }
         }
     }
 }
 
-fn assign(k: usize, v: Value, c: Value) -> Effect
-    ensures { λ r. ⌜ r ≡ withValue v (λ x. withDelay c (λ d. Schedule k d (To x))) ⌝ }
+fn assign(k: usize, v: Value, c: Value, w: Mechanism) -> Effect
+    ensures { λ r. ⌜ r ≡ withValue v (λ x. withDelay c (λ d. Schedule k d (To x) w)) ⌝ }
 {
     match v {
         Value::Fault(f) => Effect::Stop(f),
-        Value::Of(x) => schedule(k, c, Driven::To(x)),
+        Value::Of(x) => schedule(k, c, Driven::To(x), w),
     }
 }
 
@@ -111,12 +123,13 @@ pub fn effect_of<'a>(
     match kind {
         0 => Effect::Skip,
         1 => store(s.a, eval(m, index, variables, signals, s.b)),
-        2 => {
+        2 | 7 => {
             let v = eval(m, index, variables, signals, s.b);
             assign(
                 assignment_driver(m, index, n),
                 v,
                 eval(m, index, variables, signals, s.c),
+                mechanism_of(kind),
             )
         }
         3 => branch(s.a, eval(m, index, variables, signals, s.b)),
@@ -131,6 +144,7 @@ pub fn effect_of<'a>(
             assignment_driver(m, index, n),
             eval(m, index, variables, signals, s.c),
             Driven::Null,
+            Mechanism::Transport,
         ),
         _ => Effect::Skip,
     }

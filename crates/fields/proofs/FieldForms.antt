@@ -1,7 +1,7 @@
 -- The laws of rule 5 as the code works it out: of the fields of a record, and of totals that are the model's. Assumes nothing.
 use mathlib.Core.Path.{_≡_}
 use mathlib.Core.Bool.{Bool, false, _&&_, _||_}
-use mathlib.Core.Logic.{_⊎_, ⊎-elim}
+use mathlib.Core.Logic.{_⊎_, inl, inr, ⊎-elim}
 use Prim.Native.Nat.{ℕ, _+_, _-_, _^_, _≤_, _<_}
 use native.Mathlib.Omega.{arith}
 use lib.Dec.{eqb, leb, ltb}
@@ -104,9 +104,9 @@ module _ (M : Model) (t : Totals) (h : TotalsOf M t) where
     unfolding statementOk every
     variable-set e = rw (e, h .variables, h .nodes)
 
-    pub signal-set : s .kind ≡ 2 → ((((ltb (s .a) (t .signals) && ltb (s .b) (t .nodes)) && ltb (s .c) (t .nodes)) && eqb (s .set) 0) && s .zeros) ≡ statementOk M n s
+    pub signal-set : (s .kind ≡ 2) ⊎ (s .kind ≡ 7) → ((((ltb (s .a) (t .signals) && ltb (s .b) (t .nodes)) && ltb (s .c) (t .nodes)) && eqb (s .set) 0) && s .zeros) ≡ statementOk M n s
     unfolding statementOk every
-    signal-set e = rw (e, h .signals, h .nodes)
+    signal-set e = rw (h .signals, h .nodes) (⊎-elim (λ q. rw q) (λ q. rw q) e)
 
     module _ (r : Bool) (q : r ≡ inSpan M (ownerOf M n) (s .a)) where
       pub branch-form : s .kind ≡ 3 → ((((r && ltb (s .b) (t .nodes)) && eqb (s .c) 0) && eqb (s .set) 0) && s .zeros) ≡ statementOk M n s
@@ -125,8 +125,8 @@ module _ (M : Model) (t : Totals) (h : TotalsOf M t) where
     unfolding statementOk every
     null-set e = rw (e, h .signals, h .nodes)
 
-    pub other-form : (s .kind ≡ 0 → ⊥) → (s .kind ≡ 1 → ⊥) → (s .kind ≡ 2 → ⊥) → (s .kind ≡ 3 → ⊥) → (s .kind ≡ 4 → ⊥) → (s .kind ≡ 5 → ⊥) → (s .kind ≡ 6 → ⊥) → false ≡ statementOk M n s
+    pub other-form : (s .kind ≡ 0 → ⊥) → (s .kind ≡ 1 → ⊥) → ((s .kind ≡ 2) ⊎ (s .kind ≡ 7) → ⊥) → (s .kind ≡ 3 → ⊥) → (s .kind ≡ 4 → ⊥) → (s .kind ≡ 5 → ⊥) → (s .kind ≡ 6 → ⊥) → false ≡ statementOk M n s
     unfolding statementOk
     other-form a b c d e f g =
         let k = s .kind in
-        rw (ne-eqb k 0 a, ne-eqb k 1 b, ne-eqb k 2 c, ne-eqb k 3 d, ne-eqb k 4 e, ne-eqb k 5 f, ne-eqb k 6 g)
+        rw (ne-eqb k 0 a, ne-eqb k 1 b, ne-eqb k 2 (λ x. c (inl x)), ne-eqb k 7 (λ x. c (inr x)), ne-eqb k 3 d, ne-eqb k 4 e, ne-eqb k 5 f, ne-eqb k 6 g)

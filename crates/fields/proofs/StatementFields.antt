@@ -5,7 +5,7 @@ use mathlib.Core.Logic.{_⊎_, ⊎-elim}
 use Prim.Native.Nat.{ℕ, _^_, _≤_, _<_}
 use native.Mathlib.Omega.{arith}
 use borrow.Author.Tests.{ne-eqb, ltb-true, leb-true, eqb-true}
-use lib.Dec.{T, eqb, leb, lit≤}
+use lib.Dec.{eqb, leb}
 use lib.ListN.{length}
 use Rattle.base.proofs.Below.{every-at, all-at, among, and-left, and-right, split, or-cases}
 use Rattle.blocks.specs.Records.{Model, processAt, statementAt}
@@ -23,16 +23,16 @@ present M x h f =
     ⊎-elim (λ (u : isNode M x ≡ true). ltb-true _ _ u) (λ (u : eqb x absent ≡ true). absurd (f (eqb-true _ _ u))) (or-cases (isNode M x) _ h)
 
 module _ (M : Model) (n : ℕ) (s : StatementRecord) (ok : statementOk M n s ≡ true) where
-  pub kind-most : s .kind ≤ 6
+  pub kind-most : s .kind ≤ 7
   unfolding statementOk
   kind-most =
       let k = s .kind in
-      ⊎-elim (λ (l : k < 7). omega arith)
-      (λ (l : 7 ≤ k).
+      ⊎-elim (λ (l : k < 8). omega arith)
+      (λ (l : 8 ≤ k).
       absurd
       (false≢true
-      (rw (ne-eqb k 0 (omega arith), ne-eqb k 1 (omega arith), ne-eqb k 2 (omega arith), ne-eqb k 3 (omega arith), ne-eqb k 4 (omega arith), ne-eqb k 5 (omega arith), ne-eqb k 6 (omega arith)) at ok)))
-      (split k 7)
+      (rw (ne-eqb k 0 (omega arith), ne-eqb k 1 (omega arith), ne-eqb k 2 (omega arith), ne-eqb k 7 (omega arith), ne-eqb k 3 (omega arith), ne-eqb k 4 (omega arith), ne-eqb k 5 (omega arith), ne-eqb k 6 (omega arith)) at ok)))
+      (split k 8)
 
   pub names-variable : s .kind ≡ 1 → s .a < length (M .variables)
   unfolding statementOk
@@ -40,13 +40,15 @@ module _ (M : Model) (n : ℕ) (s : StatementRecord) (ok : statementOk M n s ≡
 
   -- a signal assignment, of a value or of null: its signal and its delay
   abbrev Assigns : Type 0
-  Assigns = (s .kind ≡ 2) ⊎ (s .kind ≡ 6)
+  Assigns = ((s .kind ≡ 2) ⊎ (s .kind ≡ 7)) ⊎ (s .kind ≡ 6)
 
   assignment : Assigns → (s .a < length (M .signals)) × (s .c < length (M .nodes))
   unfolding statementOk
   assignment =
       ⊎-elim
+      (⊎-elim
       (λ (e : s .kind ≡ 2). (ltb-true _ _ (every-at _ 0 (rw e at ok)), ltb-true _ _ (every-at _ 2 (rw e at ok))))
+      (λ (e : s .kind ≡ 7). (ltb-true _ _ (every-at _ 0 (rw e at ok)), ltb-true _ _ (every-at _ 2 (rw e at ok)))))
       (λ (e : s .kind ≡ 6). (ltb-true _ _ (every-at _ 0 (rw e at ok)), ltb-true _ _ (every-at _ 2 (rw e at ok))))
 
   pub names-signal : Assigns → s .a < length (M .signals)
@@ -55,16 +57,18 @@ module _ (M : Model) (n : ℕ) (s : StatementRecord) (ok : statementOk M n s ≡
   pub delay-node : Assigns → s .c < length (M .nodes)
   delay-node h = assignment h .1
 
-  -- an assigned value or a branch's condition
-  pub value-node : 1 ≤ s .kind → s .kind ≤ 3 → s .b < length (M .nodes)
+  pub variable-value : s .kind ≡ 1 → s .b < length (M .nodes)
   unfolding statementOk
-  value-node l h =
-      among (λ k. s .kind ≡ k → s .b < length (M .nodes)) 1 3 (s .kind)
-      ((λ e. ltb-true _ _ (every-at _ 1 (rw e at ok))), ((λ e. ltb-true _ _ (every-at _ 1 (rw e at ok))), ((λ e. ltb-true _ _ (every-at _ 1 (rw e at ok))), tt)))
-      l (omega arith) refl
+  variable-value e = ltb-true _ _ (every-at _ 1 (rw e at ok))
 
-  pub value-at : (k : ℕ) → s .kind ≡ k → T (leb 1 k) → T (leb k 3) → s .b < length (M .nodes)
-  value-at k e l h = value-node (rw e (lit≤ l)) (rw e (lit≤ h))
+  pub signal-value : (s .kind ≡ 2) ⊎ (s .kind ≡ 7) → s .b < length (M .nodes)
+  unfolding statementOk
+  signal-value =
+      ⊎-elim (λ (e : s .kind ≡ 2). ltb-true _ _ (every-at _ 1 (rw e at ok))) (λ (e : s .kind ≡ 7). ltb-true _ _ (every-at _ 1 (rw e at ok)))
+
+  pub branch-condition : s .kind ≡ 3 → s .b < length (M .nodes)
+  unfolding statementOk
+  branch-condition e = ltb-true _ _ (every-at _ 1 (rw e at ok))
 
   pub target : 3 ≤ s .kind → s .kind ≤ 4 → Spans M (ownerOf M n) (s .a)
   unfolding statementOk inSpan

@@ -5,7 +5,7 @@ use mathlib.Core.List.{[], _∷_}
 use lib.Dec.{eqb, leb, ltb}
 use lib.ListN.{length}
 use Rattle.base.specs.Below.{allBelow, every}
-use Rattle.base.specs.Cases.{_∣_, _is_⇒_}
+use Rattle.base.specs.Cases.{_∣_, _⇒_, _is_⇒_}
 use Rattle.base.specs.Course.{firstWith}
 use Rattle.blocks.specs.Records.{plain, register, Model, signalAt, variableAt, processAt, driverAt, nodeAt, statementAt}
 use Rattle.blocks.specs.declared.records.SignalRecord.{SignalRecord}
@@ -88,12 +88,16 @@ isNode M n = ltb n (length (M .nodes))
 abbrev pub isNodeOrAbsent : Model → ℕ → Bool
 isNodeOrAbsent M n = isNode M n || eqb n absent
 
+-- a signal assignment of a value: kind 2, and kind 7, "the inertial form of kind 2"
+abbrev pub assigns : ℕ → Bool
+assigns kind = eqb kind 2 || eqb kind 7
+
 -- the fields by the statement's kind, n being its number
 unfoldable pub statementOk : Model → ℕ → StatementRecord → Bool
 statementOk M n s =
     s .kind is 0 ⇒ every (eqb (s .a) 0 ∷ eqb (s .b) 0 ∷ eqb (s .c) 0 ∷ eqb (s .set) 0 ∷ s .zeros ∷ [])
     ∣ s .kind is 1 ⇒ every (ltb (s .a) (length (M .variables)) ∷ isNode M (s .b) ∷ eqb (s .c) 0 ∷ eqb (s .set) 0 ∷ s .zeros ∷ [])
-    ∣ s .kind is 2 ⇒ every (ltb (s .a) (length (M .signals)) ∷ isNode M (s .b) ∷ isNode M (s .c) ∷ eqb (s .set) 0 ∷ s .zeros ∷ [])
+    ∣ assigns (s .kind) ⇒ every (ltb (s .a) (length (M .signals)) ∷ isNode M (s .b) ∷ isNode M (s .c) ∷ eqb (s .set) 0 ∷ s .zeros ∷ [])
     ∣ s .kind is 3 ⇒ every (inSpan M (ownerOf M n) (s .a) ∷ isNode M (s .b) ∷ eqb (s .c) 0 ∷ eqb (s .set) 0 ∷ s .zeros ∷ [])
     ∣ s .kind is 4 ⇒ every (inSpan M (ownerOf M n) (s .a) ∷ eqb (s .b) 0 ∷ eqb (s .c) 0 ∷ eqb (s .set) 0 ∷ s .zeros ∷ [])
     ∣ s .kind is 5 ⇒ every (eqb (s .a) 0 ∷ isNodeOrAbsent M (s .b) ∷ isNodeOrAbsent M (s .c) ∷ ltb (s .set) (2 ^ length (M .signals)) ∷ s .zeros ∷ [])

@@ -243,7 +243,7 @@ fn statement_ok<'a>(m: &'a [u8], index: &'a Index, t: Totals, n: usize, s: State
     match kind {
         0 => (s.a == 0) & (s.b == 0) & (s.c == 0) & (s.set == 0) & s.zeros,
         1 => (s.a < t.variables) & (s.b < t.nodes) & (s.c == 0) & (s.set == 0) & s.zeros,
-        2 => (s.a < t.signals) & (s.b < t.nodes) & (s.c < t.nodes) & (s.set == 0) & s.zeros,
+        2 | 7 => (s.a < t.signals) & (s.b < t.nodes) & (s.c < t.nodes) & (s.set == 0) & s.zeros,
         3 => jump_ok(m, index, t, n, s.a) & (s.b < t.nodes) & (s.c == 0) & (s.set == 0) & s.zeros,
         4 => jump_ok(m, index, t, n, s.a) & (s.b == 0) & (s.c == 0) & (s.set == 0) & s.zeros,
         5 => {

@@ -1,6 +1,7 @@
 -- The laws of rules 8 and 20 as the code works them out, of what was read of a statement, a signal or the drivers. Assumes nothing.
 use mathlib.Core.Path.{_≡_}
 use mathlib.Core.Bool.{Bool, true, not, _&&_, _||_}
+use mathlib.Core.Logic.{_⊎_, inl, inr, ⊎-elim}
 use Prim.Native.Nat.{ℕ, _≤_}
 use native.Mathlib.Omega.{arith}
 use lib.Dec.{eqb, leb, ltb}
@@ -24,9 +25,9 @@ module _ (M : Model) (s u : StatementRecord) (e : s ≡ u) where
     unfolding statementOwned
     variable-owned k x y q r = rw (← e, ← f, k, q, r)
 
-    pub signal-owned : s .kind ≡ 2 → (d t : ℕ) (x y : Bool) → d ≡ driverFor M o (u .a) → t ≡ length (M .drivers) → x ≡ readsOwn M p (s .b) → y ≡ readsOwn M p (s .c) → ((ltb d t && x) && y) ≡ statementOwned M o u
+    pub signal-owned : (s .kind ≡ 2) ⊎ (s .kind ≡ 7) → (d t : ℕ) (x y : Bool) → d ≡ driverFor M o (u .a) → t ≡ length (M .drivers) → x ≡ readsOwn M p (s .b) → y ≡ readsOwn M p (s .c) → ((ltb d t && x) && y) ≡ statementOwned M o u
     unfolding statementOwned every
-    signal-owned k d t x y q r v w = rw (q, r, v, w, ← e, ← f, k)
+    signal-owned k d t x y q r v w = rw (q, r, v, w, ← e, ← f) (⊎-elim (λ k. rw k) (λ k. rw k) k)
 
     pub branch-owned : s .kind ≡ 3 → (x : Bool) → x ≡ readsOwn M p (s .b) → x ≡ statementOwned M o u
     unfolding statementOwned
@@ -43,10 +44,11 @@ module _ (M : Model) (s u : StatementRecord) (e : s ≡ u) where
     pub driver-named : (d : ℕ) → d ≡ driverFor M p (s .a) → d ≡ driverFor M o (u .a)
     driver-named d q = rw (← e, ← f) q
 
-  pub other-owned : (o : ℕ) → (s .kind ≡ 1 → ⊥) → (s .kind ≡ 2 → ⊥) → (s .kind ≡ 3 → ⊥) → (s .kind ≡ 5 → ⊥) → (s .kind ≡ 6 → ⊥) → true ≡ statementOwned M o u
+  pub other-owned : (o : ℕ) → (s .kind ≡ 1 → ⊥) → ((s .kind ≡ 2) ⊎ (s .kind ≡ 7) → ⊥) → (s .kind ≡ 3 → ⊥) → (s .kind ≡ 5 → ⊥) → (s .kind ≡ 6 → ⊥) → true ≡ statementOwned M o u
   unfolding statementOwned
   other-owned o f g h i j =
-      rw (← e, ne-eqb (s .kind) 1 f, ne-eqb (s .kind) 2 g, ne-eqb (s .kind) 3 h, ne-eqb (s .kind) 5 i, ne-eqb (s .kind) 6 j)
+      let k = s .kind in
+      rw (← e, ne-eqb k 1 f, ne-eqb k 2 (λ x. g (inl x)), ne-eqb k 7 (λ x. g (inr x)), ne-eqb k 3 h, ne-eqb k 5 i, ne-eqb k 6 j)
 
   pub not-null : (s .kind ≡ 6 → ⊥) → true ≡ nullOk M u
   unfolding nullOk

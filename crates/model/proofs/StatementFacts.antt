@@ -1,17 +1,19 @@
 -- What acceptance gives of a statement, by its kind, from the rules 5, 7, 8 and 20. Assumes nothing.
 use mathlib.Core.Path.{_≡_}
-use mathlib.Core.Bool.{Bool, true, _||_}
-use mathlib.Core.Logic.{inl, inr}
+use mathlib.Core.Bool.{Bool, true, _&&_, _||_}
+use mathlib.Core.Logic.{_⊎_, inl, inr, ⊎-elim}
+use mathlib.Core.List.{[], _∷_}
 use Prim.Native.Nat.{ℕ}
 use native.Mathlib.Omega.{arith}
 use borrow.Author.Tests.{ne-eqb, ltb-true, eqb-true, eqb-false, not-true}
 use lib.Dec.{eqb, ltb}
 use lib.ListN.{length}
+use Rattle.base.specs.Below.{every}
 use Rattle.base.proofs.Below.{every-at, and-left, and-right}
 use Rattle.blocks.specs.Records.{plain, Model, signalAt, variableAt}
 use Rattle.blocks.specs.declared.records.StatementRecord.{StatementRecord}
 use Rattle.fields.specs.Fields.{absent, isNodeOrAbsent, ownerOf, statementOk}
-use Rattle.fields.proofs.StatementFields.{present, kind-most, names-variable, names-signal, value-node, delay-node, target, wait-condition, wait-delay, wait-set}
+use Rattle.fields.proofs.StatementFields.{present, kind-most, names-variable, names-signal, variable-value, signal-value, branch-condition, delay-node, target, wait-condition, wait-delay, wait-set}
 use Rattle.trees.specs.Trees.{integer, boolean, typeOf, statementTyped}
 use Rattle.model.specs.Nulls.{nullOk}
 use Rattle.model.specs.Owners.{driverFor, readsOwn, statementOwned}
@@ -30,19 +32,20 @@ module _ (M : Model) (n : ℕ) (s : StatementRecord) (ok : statementOk M n s ≡
       record {
         variable = names-variable M n s ok e;
         own = eqb-true _ p (and-left own _ o);
-        value = record { node = value-node M n s ok (omega arith) (omega arith); type = eqb-true _ _ (rw e at typed); own = and-right own _ o };
+        value = record { node = variable-value M n s ok e; type = eqb-true _ _ (rw e at typed); own = and-right own _ o };
       }
 
-  signal-assignment : s .kind ≡ 2 → SignalAssignment M p s
+  signal-assignment : (s .kind ≡ 2) ⊎ (s .kind ≡ 7) → SignalAssignment M p s
   unfolding statementTyped statementOwned
   signal-assignment e =
-      let t = rw e at typed in
-      let o = rw e at owned in
       let same : Bool = eqb (typeOf M (s .b)) (signalAt M (s .a) .ty) in
+      let has : Bool = ltb (driverFor M p (s .a)) (length (M .drivers)) in
+      let t : (same && eqb (typeOf M (s .c)) integer) ≡ true = ⊎-elim (λ k. rw k at typed) (λ k. rw k at typed) e in
+      let o : every (has ∷ readsOwn M p (s .b) ∷ readsOwn M p (s .c) ∷ []) ≡ true = ⊎-elim (λ k. rw k at owned) (λ k. rw k at owned) e in
       record {
         signal = names-signal M n s ok (inl e);
         driver = ltb-true _ _ (every-at _ 0 o);
-        value = record { node = value-node M n s ok (omega arith) (omega arith); type = eqb-true _ _ (and-left same _ t); own = every-at _ 1 o };
+        value = record { node = signal-value M n s ok e; type = eqb-true _ _ (and-left same _ t); own = every-at _ 1 o };
         delay = record { node = delay-node M n s ok (inl e); type = eqb-true _ _ (and-right same _ t); own = every-at _ 2 o };
       }
 
@@ -64,7 +67,7 @@ module _ (M : Model) (n : ℕ) (s : StatementRecord) (ok : statementOk M n s ≡
   branch e =
       record {
         target = target M n s ok (omega arith) (omega arith);
-        condition = record { node = value-node M n s ok (omega arith) (omega arith); type = eqb-true _ _ (rw e at typed); own = rw e at owned };
+        condition = record { node = branch-condition M n s ok e; type = eqb-true _ _ (rw e at typed); own = rw e at owned };
       }
 
   -- an operand that may be absent, and is not

@@ -1,6 +1,7 @@
 -- What acceptance says of each part of a model, as plain facts: all that the layers above know of an accepted model.
 use mathlib.Core.Path.{_≡_}
 use mathlib.Core.Bool.{true}
+use mathlib.Core.Logic.{_⊎_}
 use Prim.Native.Nat.{ℕ, _^_, _≤_, _<_}
 use lib.ListN.{length}
 use Rattle.blocks.specs.Records.{Model, signalAt, variableAt, driverAt, nodeAt, statementAt}
@@ -86,7 +87,7 @@ pub record VariableAssignment (M : Model) (p : ℕ) (s : StatementRecord) : Type
   pub own : variableAt M (s .a) .process ≡ p
   pub value : Expression M p (variableAt M (s .a) .ty) (s .b)
 
--- kind 2: signal a <= b after c
+-- kinds 2 and 7: signal a <= b after c
 pub record SignalAssignment (M : Model) (p : ℕ) (s : StatementRecord) : Type 0 where
   pub signal : s .a < length (M .signals)
   pub driver : driverFor M p (s .a) < length (M .drivers)
@@ -113,9 +114,9 @@ pub record NullAssignment (M : Model) (p : ℕ) (s : StatementRecord) : Type 0 w
 
 -- a statement of process p, by its kind
 pub record StatementFits (M : Model) (p : ℕ) (s : StatementRecord) : Type 0 where
-  pub kind : s .kind ≤ 6
+  pub kind : s .kind ≤ 7
   pub variableAssignment : s .kind ≡ 1 → VariableAssignment M p s
-  pub signalAssignment : s .kind ≡ 2 → SignalAssignment M p s
+  pub signalAssignment : (s .kind ≡ 2) ⊎ (s .kind ≡ 7) → SignalAssignment M p s
   pub branch : s .kind ≡ 3 → Branch M p s
   pub jump : s .kind ≡ 4 → Spans M p (s .a)
   pub wait : s .kind ≡ 5 → Wait M p s

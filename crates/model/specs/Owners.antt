@@ -11,7 +11,7 @@ use Rattle.blocks.specs.Records.{Model, signalAt, variableAt, driverAt, nodeAt,
 use Rattle.blocks.specs.declared.records.DriverRecord.{DriverRecord}
 use Rattle.blocks.specs.declared.records.NodeRecord.{NodeRecord}
 use Rattle.blocks.specs.declared.records.StatementRecord.{StatementRecord}
-use Rattle.fields.specs.Fields.{absent, ownerOf}
+use Rattle.fields.specs.Fields.{absent, assigns, ownerOf}
 use Rattle.trees.specs.Trees.{operandsOf}
 
 -- by process, then by signal
@@ -48,12 +48,12 @@ nextReads M p n before = readsBy M p (nodeAt M n) (getD before (nodeAt M n .a) f
 unfoldable pub readsOwn : Model → ℕ → ℕ → Bool
 readsOwn M p n = course (nextReads M p) n
 
--- "kind 2 lacks its driver, or a variable is assigned, or read in a statement's tree, outside its process", and "Kind 6 needs its
--- driver record as kind 2 does": p is the statement's process
+-- "kind 2 lacks its driver, or a variable is assigned, or read in a statement's tree, outside its process"; "Kind 6 needs its driver
+-- record as kind 2 does", and kind 7 does: p is the statement's process
 unfoldable pub statementOwned : Model → ℕ → StatementRecord → Bool
 statementOwned M p s =
     s .kind is 1 ⇒ (eqb (variableAt M (s .a) .process) p && readsOwn M p (s .b))
-    ∣ s .kind is 2 ⇒ every (ltb (driverFor M p (s .a)) (length (M .drivers)) ∷ readsOwn M p (s .b) ∷ readsOwn M p (s .c) ∷ [])
+    ∣ assigns (s .kind) ⇒ every (ltb (driverFor M p (s .a)) (length (M .drivers)) ∷ readsOwn M p (s .b) ∷ readsOwn M p (s .c) ∷ [])
     ∣ s .kind is 3 ⇒ readsOwn M p (s .b)
     ∣ s .kind is 5 ⇒ ((eqb (s .b) absent || readsOwn M p (s .b)) && (eqb (s .c) absent || readsOwn M p (s .c)))
     ∣ s .kind is 6 ⇒ (ltb (driverFor M p (s .a)) (length (M .drivers)) && readsOwn M p (s .c))

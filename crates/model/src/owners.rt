@@ -206,7 +206,7 @@ fn statement_owned<'a>(m: &'a [u8], index: &'a Index, t: Totals, n: usize) -> bo
     let kind = s.kind;
     match kind {
         1 => (variable_process(m, index, s.a) == p) & reads_own(m, index, s.b, p),
-        2 => (assignment_driver(m, index, n) < t.drivers)
+        2 | 7 => (assignment_driver(m, index, n) < t.drivers)
             & reads_own(m, index, s.b, p)
             & reads_own(m, index, s.c, p),
         3 => reads_own(m, index, s.b, p),

@@ -25,7 +25,9 @@ use Rattle.rules.specs.declared.value.Failure.{Failure}
 use Rattle.rules.specs.declared.value.Value.{Value}
 use Rattle.rules.specs.declared.value.Value.the-variants.{Of, Fault}
 use Rattle.rules.specs.declared.effect.Effect.{Effect}
-use Rattle.rules.specs.declared.effect.Effect.the-variants.{Wait, WaitFor, Stop}
+use Rattle.rules.specs.declared.effect.Effect.the-variants.{Schedule, Wait, WaitFor, Stop}
+use Rattle.rules.specs.declared.mechanism.Mechanism.{Mechanism}
+use Rattle.rules.specs.declared.mechanism.Mechanism.the-variants.{Transport, Inertial}
 use Rattle.rules.specs.Configuration.{Configuration, processIn}
 use Rattle.rules.specs.declared.moment.Moment.{Moment}
 use Rattle.rules.specs.declared.moment.Moment.the-variants.{Now, DeltaAgo, UnitsAgo}
@@ -69,6 +71,12 @@ module _ (M : Model) (fs : Facts M) (p : ℕ) where
           let r = fs .drives p (s .a) (g .driver) in
           record { driver = g .driver; own = r .process; delay = l; value = rw (r .signal) h }
 
+      assigns : (m : Mechanism) (kind : ℕ) → SignalAssignment M p s
+          → EffectFits M p kind (withValue (evalOf M e (s .b)) (λ v. withDelay (evalOf M e (s .c)) (λ d. Schedule (driverFor M p (s .a)) d (To v) m)))
+      assigns m kind g =
+          expression (EffectFits M p kind) _ (s .b) _ (g .value) (λ f h. h)
+          (λ v h. delay (EffectFits M p kind) (s .c) _ (g .delay) (λ f h. h) (λ d l. assigned g v d h l))
+
       released : NullAssignment M p s → (d : ℕ) → d < 2147483648 → ScheduleFits M p (driverFor M p (s .a)) d Null
       released g d l =
           let r = fs .drives p (s .a) (g .driver) in
@@ -83,13 +91,11 @@ module _ (M : Model) (fs : Facts M) (p : ℕ) where
       pub effect-by : Fits (effectBy M e p s)
       unfolding effectBy
       effect-by =
-          among (λ k. s .kind ≡ k → Fits (effectBy M e p s)) 0 7 (s .kind)
+          among (λ k. s .kind ≡ k → Fits (effectBy M e p s)) 0 8 (s .kind)
           ((λ k. rw k tt)
           and (λ k. let g = f .variableAssignment k in
           rw k (expression (EffectFits M p 1) _ (s .b) _ (g .value) (λ f h. h) (λ v h. record { variable = g .variable; own = g .own; value = h })))
-          and (λ k. let g = f .signalAssignment k in
-          rw k (expression (EffectFits M p 2) _ (s .b) _ (g .value) (λ f h. h)
-          (λ v h. delay (EffectFits M p 2) (s .c) _ (g .delay) (λ f h. h) (λ d l. assigned g v d h l))))
+          and (λ k. rw k (assigns Transport 2 (f .signalAssignment (inl k))))
           and (λ k. let g = f .branch k in
           rw k (expression (EffectFits M p 3) _ (s .b) _ (g .condition) (λ f h. h)
           (λ v h. by-test (EffectFits M p 3) (eqb v 0) _ _ (λ t. g .target) (λ t. tt))))
@@ -97,6 +103,7 @@ module _ (M : Model) (fs : Facts M) (p : ℕ) where
           and (λ k. rw k (waits (f .wait k)))
           and (λ k. let g = f .nullAssignment k in
           rw k (delay (EffectFits M p 6) (s .c) _ (g .delay) (λ f h. h) (λ d l. released g d l)))
+          and (λ k. rw k (assigns Inertial 7 (f .signalAssignment (inr k))))
           and tt)
           (omega arith) (omega (arith, f .kind)) refl
 

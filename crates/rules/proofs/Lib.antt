@@ -9,6 +9,7 @@ pub mod Failing
 pub mod FirstReachable
 pub mod Invariant
 pub mod Lists
+pub mod Marks
 pub mod Outcomes
 pub mod Picks
 pub mod Settling

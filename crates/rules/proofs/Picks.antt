@@ -20,6 +20,7 @@ use Rattle.model.specs.Owners.{readsOwn}
 use Rattle.model.specs.Facts.{Expression, StatementFits, Facts}
 use Rattle.rules.specs.declared.driven.Driven.{Driven}
 use Rattle.rules.specs.declared.effect.Effect.{Effect}
+use Rattle.rules.specs.declared.mechanism.Mechanism.{Mechanism}
 use Rattle.rules.specs.declared.effect.Effect.the-variants.{Skip, Store, Schedule, Jump, Wait, WaitFor, Stop}
 use Rattle.rules.specs.Configuration.{DriverState, Configuration, driverIn, processIn}
 use Rattle.rules.specs.Evaluation.{Environment, environmentOf, evalOf}
@@ -32,14 +33,14 @@ use Rattle.rules.proofs.Effects.{own-statement, placed, effect-fits}
 -- what an effect of process p writes is p's own
 pub record Owns (M : Model) (p : ℕ) (x : Effect) : Type 0 where
   pub variable : (a v : ℕ) → x ≡ Store a v → variableAt M a .process ≡ p
-  pub driver : (k d : ℕ) (v : Driven) → x ≡ Schedule k d v → driverAt M k .process ≡ p
+  pub driver : (k d : ℕ) (v : Driven) (m : Mechanism) → x ≡ Schedule k d v m → driverAt M k .process ≡ p
 
 -- an effect that stores, and one that schedules
 abbrev Stores : Effect → Type 0
 Stores x = (a : ℕ) × (v : ℕ) × (x ≡ Store a v)
 
 abbrev Schedules : Effect → Type 0
-Schedules x = (k : ℕ) × (d : ℕ) × (v : Driven) × (x ≡ Schedule k d v)
+Schedules x = (k : ℕ) × (d : ℕ) × (v : Driven) × (m : Mechanism) × (x ≡ Schedule k d v m)
 
 -- one that leaves the drivers, and so overflows none
 abbrev Leaves : Effect → Type 0
@@ -48,7 +49,7 @@ Leaves x = ((t : ℕ) (ds : List DriverState) → driversAfter x t ds ≡ ds) ×
 stores : (x : Effect) → Stores x ⊎ ((vs : List ℕ) → variablesAfter x vs ≡ vs)
 stores Skip = inr (λ vs. refl)
 stores (Store a v) = inl (a, v, refl)
-stores (Schedule k d v) = inr (λ vs. refl)
+stores (Schedule k d v m) = inr (λ vs. refl)
 stores (Jump a) = inr (λ vs. refl)
 stores Wait = inr (λ vs. refl)
 stores (WaitFor d) = inr (λ vs. refl)
@@ -57,7 +58,7 @@ stores (Stop f) = inr (λ vs. refl)
 schedules : (x : Effect) → Schedules x ⊎ Leaves x
 schedules Skip = inr (λ t ds. refl, λ t ds. refl)
 schedules (Store a v) = inr (λ t ds. refl, λ t ds. refl)
-schedules (Schedule k d v) = inl (k, d, v, refl)
+schedules (Schedule k d v m) = inl (k, d, v, m, refl)
 schedules (Jump a) = inr (λ t ds. refl, λ t ds. refl)
 schedules Wait = inr (λ t ds. refl, λ t ds. refl)
 schedules (WaitFor d) = inr (λ t ds. refl, λ t ds. refl)
@@ -81,7 +82,7 @@ module _ (M : Model) (p q : ℕ) (x : Effect) (other : p ≢ q) (ox : Owns M p x
   pub driver-stays : (t : ℕ) (ds : List DriverState) (k : ℕ) → driverAt M k .process ≡ q → driverIn (driversAfter x t ds) k ≡ driverIn ds k
   driver-stays t ds k own =
       ⊎-elim
-      (λ (s : Schedules x). rw (s .3) (getD-set-other ds (s .0) k _ _ (λ same. other (cc (ox .driver (s .0) (s .1) (s .2) (s .3))))))
+      (λ (s : Schedules x). rw (s .4) (getD-set-other ds (s .0) k _ _ (λ same. other (cc (ox .driver (s .0) (s .1) (s .2) (s .3) (s .4))))))
       (λ (l : Leaves x). rw (l .0 t ds))
       (schedules x)
 
@@ -89,7 +90,7 @@ module _ (M : Model) (p q : ℕ) (x : Effect) (other : p ≢ q) (ox : Owns M p x
   pub full-stays : (y : Effect) → Owns M q y → (t : ℕ) (ds : List DriverState) → fullAfter y t (driversAfter x t ds) ≡ fullAfter y t ds
   full-stays y oy t ds =
       ⊎-elim
-      (λ (s : Schedules y). rw (s .3, driver-stays t ds (s .0) (oy .driver (s .0) (s .1) (s .2) (s .3))))
+      (λ (s : Schedules y). rw (s .4, driver-stays t ds (s .0) (oy .driver (s .0) (s .1) (s .2) (s .3) (s .4))))
       (λ (l : Leaves y). rw (l .1 t ds, l .1 t (driversAfter x t ds)))
       (schedules y)
 
@@ -115,8 +116,8 @@ module _ (M : Model) (p q : ℕ) (x y : Effect) (other : p ≢ q) (ox : Owns M p
       (λ (s : Schedules x).
       ⊎-elim
       (λ (r : Schedules y).
-      let apart : s .0 ≢ r .0 = λ same. other (cc (ox .driver (s .0) (s .1) (s .2) (s .3), oy .driver (r .0) (r .1) (r .2) (r .3))) in
-      rw (s .3, r .3, getD-set-other ds (s .0) (r .0) _ _ (λ e. apart (sym e)), getD-set-other ds (r .0) (s .0) _ _ apart)
+      let apart : s .0 ≢ r .0 = λ same. other (cc (ox .driver (s .0) (s .1) (s .2) (s .3) (s .4), oy .driver (r .0) (r .1) (r .2) (r .3) (r .4))) in
+      rw (s .4, r .4, getD-set-other ds (s .0) (r .0) _ _ (λ e. apart (sym e)), getD-set-other ds (r .0) (s .0) _ _ apart)
       (set-comm ds (s .0) (r .0) _ _ apart))
       (λ (l : Leaves y). rw (l .0 t ds, l .0 t (driversAfter x t ds)))
       (schedules y))
@@ -155,14 +156,15 @@ module _ (M : Model) (p : ℕ) (e e' : Environment) (same : SameReads M p e e') 
   pub effect-same : effectBy M e p s ≡ effectBy M e' p s
   unfolding effectBy
   effect-same =
-      among (λ k. s .kind ≡ k → effectBy M e p s ≡ effectBy M e' p s) 0 7 (s .kind)
+      among (λ k. s .kind ≡ k → effectBy M e p s ≡ effectBy M e' p s) 0 8 (s .kind)
       ((λ k. rw k)
       and (λ k. rw (k, value-same (f .variableAssignment k .value)))
-      and (λ k. rw (k, value-same (f .signalAssignment k .value), value-same (f .signalAssignment k .delay)))
+      and (λ k. let g = f .signalAssignment (inl k) in rw (k, value-same (g .value), value-same (g .delay)))
       and (λ k. rw (k, value-same (f .branch k .condition)))
       and (λ k. rw k)
       and (λ k. rw k (wait-same k))
       and (λ k. rw (k, value-same (f .nullAssignment k .delay)))
+      and (λ k. let g = f .signalAssignment (inr k) in rw (k, value-same (g .value), value-same (g .delay)))
       and tt)
       (omega arith) (omega (arith, f .kind)) refl
 
@@ -171,7 +173,7 @@ module _ (M : Model) (fs : Facts M) (c : Configuration) (r : Reachable M c) wher
   owns : (p : ℕ) → p < length (M .processes) → Owns M p (effectOf M c p)
   owns p h =
       let fits = effect-fits M c r fs p h in
-      record { variable = λ a v e. (rw e at fits) .own; driver = λ k d v e. (rw e at fits) .own }
+      record { variable = λ a v e. (rw e at fits) .own; driver = λ k d v m e. (rw e at fits) .own }
 
   -- the effect of q is the same after an effect x of p
   local : (p q : ℕ) (x : Effect) → p ≢ q → Owns M p x → q < length (M .processes) → effectOf M (applied M p x c) q ≡ effectOf M c q

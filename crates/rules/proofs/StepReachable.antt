@@ -78,8 +78,8 @@ module _ (M : Model) (p t : ℕ) (q : ProcessState) (f : ProcessValid M p t q) w
     process-after : (e : Effect) (full : Bool) (next : ℕ) → t ≤ lastTime → Spans M p next → EffectFits M p (statementAt M (q .place) .kind) e → ProcessValid M p t (processAfter e full t next q)
     process-after Skip full next h s x = moved-valid next s
     process-after (Store a v) full next h s x = moved-valid next s
-    process-after (Schedule k d v) true next h s x = stopped-valid (failure noNode 3) (inr (inr refl))
-    process-after (Schedule k d v) false next h s x = moved-valid next s
+    process-after (Schedule k d v m) true next h s x = stopped-valid (failure noNode 3) (inr (inr refl))
+    process-after (Schedule k d v m) false next h s x = moved-valid next s
     process-after (Jump a) full next h s x = moved-valid a x
     process-after Wait full next h s x = waits-valid x none tt
     process-after (WaitFor d) full next h s x = waits-valid (x .0) (some (t + d)) (omega arith, omega (arith, x .1))
@@ -89,7 +89,7 @@ module _ (M : Model) (p t : ℕ) (q : ProcessState) (f : ProcessValid M p t q) w
 length-variables : (e : Effect) (vs : List ℕ) → length (variablesAfter e vs) ≡ length vs
 length-variables Skip vs = refl
 length-variables (Store a v) vs = length-set vs a v
-length-variables (Schedule k d v) vs = refl
+length-variables (Schedule k d v m) vs = refl
 length-variables (Jump a) vs = refl
 length-variables Wait vs = refl
 length-variables (WaitFor d) vs = refl
@@ -98,7 +98,7 @@ length-variables (Stop n) vs = refl
 length-drivers : (e : Effect) (t : ℕ) (ds : List DriverState) → length (driversAfter e t ds) ≡ length ds
 length-drivers Skip t ds = refl
 length-drivers (Store a v) t ds = refl
-length-drivers (Schedule k d v) t ds = length-set ds k _
+length-drivers (Schedule k d v m) t ds = length-set ds k _
 length-drivers (Jump a) t ds = refl
 length-drivers Wait t ds = refl
 length-drivers (WaitFor d) t ds = refl
@@ -109,7 +109,7 @@ module _ (M : Model) (p kind : ℕ) where
     variables-after : (e : Effect) → EffectFits M p kind e → (a : ℕ) → a < length (M .variables) → ValueOf (variableAt M a .ty) (getD (variablesAfter e vs) a 0)
     variables-after Skip x = typed
     variables-after (Store a v) x = set-each (λ a v. ValueOf (variableAt M a .ty) v) vs (length (M .variables)) a v 0 long (λ h. x .value) typed
-    variables-after (Schedule k d v) x = typed
+    variables-after (Schedule k d v m) x = typed
     variables-after (Jump a) x = typed
     variables-after Wait x = typed
     variables-after (WaitFor d) x = typed
@@ -122,9 +122,9 @@ module _ (M : Model) (p kind : ℕ) where
     drivers-after : (e : Effect) → EffectFits M p kind e → (k : ℕ) → k < length (M .drivers) → ValidAt t k (driverIn (driversAfter e t ds) k)
     drivers-after Skip x = valid
     drivers-after (Store a v) x = valid
-    drivers-after (Schedule k d v) x =
+    drivers-after (Schedule k d v m) x =
         set-each (ValidAt t) ds (length (M .drivers)) k _ _ long
-        (λ h. driver-scheduled _ t (driverIn ds k) (valid k h) (t + d) v (omega arith) (omega (arith, x .delay)) (x .value)) valid
+        (λ h. driver-scheduled _ t (driverIn ds k) (valid k h) m (t + d) v (omega arith) (omega (arith, x .delay)) (x .value)) valid
     drivers-after (Jump a) x = valid
     drivers-after Wait x = valid
     drivers-after (WaitFor d) x = valid

@@ -103,7 +103,7 @@ pub record ScheduleFits (M : Model) (p k d : ℕ) (v : Driven) : Type 0 where
 abbrev pub EffectFits : Model → ℕ → ℕ → Effect → Type 0
 EffectFits M p kind Skip = Unit {0}
 EffectFits M p kind (Store a v) = StoreFits M p a v
-EffectFits M p kind (Schedule k d v) = ScheduleFits M p k d v
+EffectFits M p kind (Schedule k d v m) = ScheduleFits M p k d v
 EffectFits M p kind (Jump a) = Spans M p a
 EffectFits M p kind Wait = kind ≡ 5
 EffectFits M p kind (WaitFor d) = (kind ≡ 5) × (d < 2147483648)

@@ -1,7 +1,7 @@
 -- What a pick does: "A pick runs one statement of a ready process and moves the place on".
 -- "Statement kinds: 0 null; 1 variable a := b; 2 signal a <= b after c; 3 unless b go to statement a; 4 go to a; 5 wait on the
--- set until b for c, where b or c 65,535 means absent." Statement kind 6: signal a <= null after c.
-use mathlib.Core.Bool.{Bool, false}
+-- set until b for c, where b or c 65,535 means absent." Kind 6: signal a <= null after c. Kind 7 "is the inertial form of kind 2".
+use mathlib.Core.Bool.{Bool, true, false, _&&_}
 use mathlib.Core.List.{List, [], _∷_, _++_}
 use mathlib.Core.Option.{Option, none, some}
 use Prim.Native.Nat.{ℕ, _+_}
@@ -12,10 +12,12 @@ use lib.Signed.{ltZ}
 use Rattle.base.specs.Cases.{_∣_, _⇒_, _is_⇒_}
 use Rattle.blocks.specs.Records.{Model, processAt, statementAt}
 use Rattle.blocks.specs.declared.records.StatementRecord.{StatementRecord}
-use Rattle.fields.specs.Fields.{absent, endOf}
+use Rattle.fields.specs.Fields.{absent, assigns, endOf}
 use Rattle.model.specs.Owners.{driverFor}
 use Rattle.rules.specs.declared.driven.Driven.{Driven}
 use Rattle.rules.specs.declared.driven.Driven.the-variants.{To, Null}
+use Rattle.rules.specs.declared.mechanism.Mechanism.{Mechanism}
+use Rattle.rules.specs.declared.mechanism.Mechanism.the-variants.{Transport, Inertial}
 use Rattle.rules.specs.declared.value.Failure.{Failure}
 use Rattle.rules.specs.declared.value.Value.{Value}
 use Rattle.rules.specs.declared.value.Value.the-variants.{Of, Fault}
@@ -33,16 +35,20 @@ withValue (Of x) next = next x
 unfoldable pub withDelay : Value → (ℕ → Effect) → Effect
 withDelay v next = withValue v (λ x. ltZ (int x) (pos 0) ⇒ Stop (failure noNode 2) ∣ next (natAbs (int x)))
 
+-- how an assignment of the kind delays
+abbrev pub mechanismOf : ℕ → Mechanism
+mechanismOf kind = eqb kind 7 ⇒ Inertial ∣ Transport
+
 -- what statement s of process p does. Kind 2 "works out b, then c"; kind 5 "works out c once".
 unfoldable pub effectBy : Model → Environment → ℕ → StatementRecord → Effect
 effectBy M e p s =
     s .kind is 0 ⇒ Skip
     ∣ s .kind is 1 ⇒ withValue (evalOf M e (s .b)) (λ v. Store (s .a) v)
-    ∣ s .kind is 2 ⇒ withValue (evalOf M e (s .b)) (λ v. withDelay (evalOf M e (s .c)) (λ c. Schedule (driverFor M p (s .a)) c (To v)))
+    ∣ assigns (s .kind) ⇒ withValue (evalOf M e (s .b)) (λ v. withDelay (evalOf M e (s .c)) (λ c. Schedule (driverFor M p (s .a)) c (To v) (mechanismOf (s .kind))))
     ∣ s .kind is 3 ⇒ withValue (evalOf M e (s .b)) (λ v. eqb v 0 ⇒ Jump (s .a) ∣ Skip)
     ∣ s .kind is 4 ⇒ Jump (s .a)
     ∣ s .kind is 5 ⇒ (eqb (s .c) absent ⇒ Wait ∣ withDelay (evalOf M e (s .c)) WaitFor)
-    ∣ s .kind is 6 ⇒ withDelay (evalOf M e (s .c)) (λ c. Schedule (driverFor M p (s .a)) c Null)
+    ∣ s .kind is 6 ⇒ withDelay (evalOf M e (s .c)) (λ c. Schedule (driverFor M p (s .a)) c Null Transport)
     ∣ Skip
 
 -- the effect of the statement at process p's place
@@ -50,17 +56,42 @@ unfoldable pub effectOf : Model → Configuration → ℕ → Effect
 effectOf M c p =
     effectBy M (environmentOf (c .variables) (c .signals) (c .earlier)) p (statementAt M (processIn (c .processes) p .place))
 
+-- the transactions that a test keeps: it is given each one and those after it
+unfoldable pub kept : (Transaction → List Transaction → Bool) → List Transaction → List Transaction
+kept test [] = []
+kept test (x ∷ after) = test x after ⇒ (x ∷ kept test after) ∣ kept test after
+
 -- the pending transactions before the time at
 unfoldable pub before : ℕ → List Transaction → List Transaction
-before at [] = []
-before at (x ∷ w) = ltb (x .time) at ⇒ (x ∷ before at w) ∣ before at w
+before at = kept (λ x after. ltb (x .time) at)
 
 -- "removes pending transactions at time + c or later, and adds one there": kind 6 "with the same waveform rule as kind 2", v being a
 -- value or null
-unfoldable pub scheduled : List Transaction → ℕ → Driven → List Transaction
-scheduled w at v = before at w ++ (record { time = at; value = v } ∷ [])
+unfoldable pub added : List Transaction → ℕ → Driven → List Transaction
+added w at v = before at w ++ (record { time = at; value = v } ∷ [])
 
--- fault 3: "a ninth transaction"
+-- "has an equal value (null equals no value)"
+unfoldable pub equalValue : Driven → Driven → Bool
+equalValue (To x) (To y) = eqb x y
+equalValue (To x) Null = false
+equalValue Null v = false
+
+-- "the new transaction is marked; going back from it, a pending one is marked if the one right after it is marked and has an equal
+-- value": the new one is the last
+unfoldable pub marked : Transaction → List Transaction → Bool
+marked x [] = true
+marked x (y ∷ after) = marked y after && equalValue (x .value) (y .value)
+
+-- "Unmarked ones are removed": what a delay leaves of a waveform, the new transaction being its last
+unfoldable pub leftBy : Mechanism → List Transaction → List Transaction
+leftBy Transport w = w
+leftBy Inertial w = kept marked w
+
+-- a schedule: "After the removal and the addition of kind 2", what the delay leaves
+unfoldable pub scheduled : Mechanism → List Transaction → ℕ → Driven → List Transaction
+scheduled m w at v = leftBy m (added w at v)
+
+-- fault 3: "a ninth transaction"; kind 7: "The limit of eight is tested after that."
 unfoldable pub overflows : List Transaction → Bool
 overflows w = ltb 8 (length w)
 
@@ -83,7 +114,7 @@ stops q f = record { place = q .place; standing = stopped; deadline = q .deadlin
 abbrev pub processAfter : Effect → Bool → ℕ → ℕ → ProcessState → ProcessState
 processAfter Skip full t next q = moved q next
 processAfter (Store a v) full t next q = moved q next
-processAfter (Schedule k d v) full t next q = full ⇒ stops q (failure noNode 3) ∣ moved q next
+processAfter (Schedule k d v m) full t next q = full ⇒ stops q (failure noNode 3) ∣ moved q next
 processAfter (Jump a) full t next q = moved q a
 processAfter Wait full t next q = waits q none
 processAfter (WaitFor d) full t next q = waits q (some (t + d))
@@ -92,7 +123,7 @@ processAfter (Stop f) full t next q = stops q f
 abbrev pub variablesAfter : Effect → List ℕ → List ℕ
 variablesAfter Skip vs = vs
 variablesAfter (Store a v) vs = set vs a v
-variablesAfter (Schedule k d v) vs = vs
+variablesAfter (Schedule k d v m) vs = vs
 variablesAfter (Jump a) vs = vs
 variablesAfter Wait vs = vs
 variablesAfter (WaitFor d) vs = vs
@@ -102,7 +133,7 @@ variablesAfter (Stop f) vs = vs
 abbrev pub fullAfter : Effect → ℕ → List DriverState → Bool
 fullAfter Skip t ds = false
 fullAfter (Store a v) t ds = false
-fullAfter (Schedule k d v) t ds = overflows (scheduled (driverIn ds k .pending) (t + d) v)
+fullAfter (Schedule k d v m) t ds = overflows (scheduled m (driverIn ds k .pending) (t + d) v)
 fullAfter (Jump a) t ds = false
 fullAfter Wait t ds = false
 fullAfter (WaitFor d) t ds = false
@@ -112,13 +143,13 @@ abbrev pub withPending : DriverState → List Transaction → DriverState
 withPending d w = record { current = d .current; pending = w }
 
 -- driver k with the transaction, unless that overflows
-unfoldable pub driverAfter : ℕ → Driven → DriverState → DriverState
-driverAfter at v d = overflows (scheduled (d .pending) at v) ⇒ d ∣ withPending d (scheduled (d .pending) at v)
+unfoldable pub driverAfter : Mechanism → ℕ → Driven → DriverState → DriverState
+driverAfter m at v d = overflows (scheduled m (d .pending) at v) ⇒ d ∣ withPending d (scheduled m (d .pending) at v)
 
 abbrev pub driversAfter : Effect → ℕ → List DriverState → List DriverState
 driversAfter Skip t ds = ds
 driversAfter (Store a v) t ds = ds
-driversAfter (Schedule k d v) t ds = set ds k (driverAfter (t + d) v (driverIn ds k))
+driversAfter (Schedule k d v m) t ds = set ds k (driverAfter m (t + d) v (driverIn ds k))
 driversAfter (Jump a) t ds = ds
 driversAfter Wait t ds = ds
 driversAfter (WaitFor d) t ds = ds

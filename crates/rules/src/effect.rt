@@ -1,5 +1,6 @@
 // The effect of a statement.
 use crate::driven::Driven;
+use crate::mechanism::Mechanism;
 use crate::value::Failure;
 
 // What one statement does to its process, its variables and its drivers.
@@ -8,8 +9,8 @@ pub enum Effect {
     Skip,
     // variable := value
     Store(usize, u32),
-    // driver, delay, value or null: a transaction
-    Schedule(usize, u32, Driven),
+    // driver, delay, value or null, delay mechanism: a transaction
+    Schedule(usize, u32, Driven, Mechanism),
     // the next place
     Jump(usize),
     // waits, with no deadline

@@ -1,7 +1,8 @@
 // The rules of configurations, statements and orders (specs/), and their laws (proofs/). Code has only the forms that the rules name:
-// a value or a fault, a value or null, when a signal is read, and what a statement does.
+// a value or a fault, a value or null, when a signal is read, how an assignment delays, and what a statement does.
 pub mod driven;
 pub mod effect;
+pub mod mechanism;
 pub mod moment;
 pub mod value;
 

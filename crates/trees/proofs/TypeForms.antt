@@ -1,6 +1,7 @@
 -- The laws of rule 7 as the code works it out, of what was read of a statement. Assumes nothing.
 use mathlib.Core.Path.{_≡_}
 use mathlib.Core.Bool.{Bool, true, _&&_, _||_}
+use mathlib.Core.Logic.{_⊎_, inl, inr, ⊎-elim}
 use Prim.Native.Nat.{ℕ}
 use lib.Dec.{eqb}
 use borrow.Author.Tests.{ne-eqb}
@@ -16,9 +17,9 @@ module _ (M : Model) (s u : StatementRecord) (e : s ≡ u) where
     unfolding statementTyped
     variable-typed k y q = rw (← e, k, p, q)
 
-    pub signal-typed : s .kind ≡ 2 → (y z : ℕ) → y ≡ signalAt M (s .a) .ty → z ≡ typeOf M (s .c) → (eqb x y && eqb z integer) ≡ statementTyped M u
+    pub signal-typed : (s .kind ≡ 2) ⊎ (s .kind ≡ 7) → (y z : ℕ) → y ≡ signalAt M (s .a) .ty → z ≡ typeOf M (s .c) → (eqb x y && eqb z integer) ≡ statementTyped M u
     unfolding statementTyped
-    signal-typed k y z q r = rw (← e, k, p, q, r)
+    signal-typed k y z q r = rw (← e, p, q, r) (⊎-elim (λ k. rw k) (λ k. rw k) k)
 
     pub branch-typed : s .kind ≡ 3 → eqb x boolean ≡ statementTyped M u
     unfolding statementTyped
@@ -32,7 +33,8 @@ module _ (M : Model) (s u : StatementRecord) (e : s ≡ u) where
   unfolding statementTyped
   null-typed k x p = rw (← e, k, p)
 
-  pub other-typed : (s .kind ≡ 1 → ⊥) → (s .kind ≡ 2 → ⊥) → (s .kind ≡ 3 → ⊥) → (s .kind ≡ 5 → ⊥) → (s .kind ≡ 6 → ⊥) → true ≡ statementTyped M u
+  pub other-typed : (s .kind ≡ 1 → ⊥) → ((s .kind ≡ 2) ⊎ (s .kind ≡ 7) → ⊥) → (s .kind ≡ 3 → ⊥) → (s .kind ≡ 5 → ⊥) → (s .kind ≡ 6 → ⊥) → true ≡ statementTyped M u
   unfolding statementTyped
   other-typed f g h i j =
-      rw (← e, ne-eqb (s .kind) 1 f, ne-eqb (s .kind) 2 g, ne-eqb (s .kind) 3 h, ne-eqb (s .kind) 5 i, ne-eqb (s .kind) 6 j)
+      let k = s .kind in
+      rw (← e, ne-eqb k 1 f, ne-eqb k 2 (λ x. g (inl x)), ne-eqb k 7 (λ x. g (inr x)), ne-eqb k 3 h, ne-eqb k 5 i, ne-eqb k 6 j)

@@ -11,7 +11,7 @@ use Rattle.base.specs.Course.{course}
 use Rattle.blocks.specs.Records.{Model, signalAt, variableAt, nodeAt, statementAt}
 use Rattle.blocks.specs.declared.records.NodeRecord.{NodeRecord}
 use Rattle.blocks.specs.declared.records.StatementRecord.{StatementRecord}
-use Rattle.fields.specs.Fields.{absent}
+use Rattle.fields.specs.Fields.{absent, assigns}
 
 -- how many operands a node of the kind has: two, one (not, negate) or none
 unfoldable pub operandsOf : ℕ → ℕ
@@ -93,11 +93,11 @@ nextType M n types = typeBy M (nodeAt M n) (getD types (nodeAt M n .a) mistyped)
 unfoldable pub typeOf : Model → ℕ → ℕ
 typeOf M n = course (nextType M) n
 
--- "assigned value, delay (integer) or condition (boolean) included"
+-- "assigned value, delay (integer) or condition (boolean) included"; kind 7 "obeys the types as kind 2 does"
 unfoldable pub statementTyped : Model → StatementRecord → Bool
 statementTyped M s =
     s .kind is 1 ⇒ eqb (typeOf M (s .b)) (variableAt M (s .a) .ty)
-    ∣ s .kind is 2 ⇒ (eqb (typeOf M (s .b)) (signalAt M (s .a) .ty) && eqb (typeOf M (s .c)) integer)
+    ∣ assigns (s .kind) ⇒ (eqb (typeOf M (s .b)) (signalAt M (s .a) .ty) && eqb (typeOf M (s .c)) integer)
     ∣ s .kind is 3 ⇒ eqb (typeOf M (s .b)) boolean
     ∣ s .kind is 5 ⇒ ((eqb (s .b) absent || eqb (typeOf M (s .b)) boolean) && (eqb (s .c) absent || eqb (typeOf M (s .c)) integer))
     ∣ s .kind is 6 ⇒ eqb (typeOf M (s .c)) integer

@@ -163,7 +163,7 @@ fn statement_typed<'a>(m: &'a [u8], index: &'a Index, n: usize) -> bool
     let kind = s.kind;
     match kind {
         1 => type_at(m, index, s.b) == variable_type(m, index, s.a),
-        2 => (type_at(m, index, s.b) == signal_type(m, index, s.a))
+        2 | 7 => (type_at(m, index, s.b) == signal_type(m, index, s.a))
             & (type_at(m, index, s.c) == INTEGER),
         3 => type_at(m, index, s.b) == BOOLEAN,
         5 => typed_or_absent(m, index, s.b, BOOLEAN) & typed_or_absent(m, index, s.c, INTEGER),

@@ -1,2 +1,3 @@
 pub mod Drivers
 pub mod Held
+pub mod Schedules

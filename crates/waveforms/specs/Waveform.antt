@@ -1,12 +1,14 @@
 -- What a driver's functions promise of its waveform.
 use mathlib.Core.Path.{_≡_}
-use mathlib.Core.List.{List}
-use Prim.Native.Nat.{ℕ, _+_, _≤_, _<_}
-use lib.ListN.{getD}
+use mathlib.Core.Bool.{true, false}
+use mathlib.Core.List.{List, [], _∷_, _++_}
+use Prim.Native.Nat.{ℕ, _+_, suc, _≤_, _<_}
+use lib.ListN.{getD, drop}
 use Rattle.rules.specs.declared.driven.Driven.{Driven}
-use Rattle.rules.specs.Configuration.{DriverState}
-use Rattle.rules.specs.Statements.{scheduled, overflows, driverAfter}
-use Rattle.waveforms.specs.Pending.{NoneBefore, pendingOf}
+use Rattle.rules.specs.declared.mechanism.Mechanism.{Mechanism}
+use Rattle.rules.specs.Configuration.{Transaction, DriverState}
+use Rattle.rules.specs.Statements.{before, equalValue, leftBy, scheduled, overflows, driverAfter}
+use Rattle.waveforms.specs.Pending.{drivenOf, NoneBefore, pendingOf}
 use Rattle.waveforms.specs.declared.driver.Driver.{Driver}
 use Rattle.waveforms.specs.declared.driver.Scheduled.{Scheduled}
 
@@ -21,6 +23,12 @@ pub record Kept (ts : List ℕ) (c at n : ℕ) : Type 0 where
   pub below : (k : ℕ) → k < n → getD ts k 0 < at
   pub stop : n < c → at ≤ getD ts n 0
 
+-- n is the place where a run of words with the value of v begins, the last of the first c
+pub record RunStart (vs : List ℕ) (c : ℕ) (v : Driven) (n : ℕ) : Type 0 where
+  pub within : n ≤ c
+  pub run : (k : ℕ) → n ≤ k → k < c → equalValue (drivenOf (getD vs k 0)) v ≡ true
+  pub other : (k : ℕ) → suc k ≡ n → equalValue (drivenOf (getD vs k 0)) v ≡ false
+
 -- each of the first c times is n less
 abbrev pub Nearer : List ℕ → ℕ → ℕ → List ℕ → Type 0
 Nearer old c n new = (j : ℕ) → j < c → n + getD new j 0 ≡ getD old j 0
@@ -29,10 +37,29 @@ Nearer old c n new = (j : ℕ) → j < c → n + getD new j 0 ≡ getD old j 0
 abbrev pub driving : ℕ → Driven → Driver → DriverState
 driving t x d = record { current = x; pending = pendingOf t d }
 
+-- r has what d has pending before delay units
+pub record BeforeTime (delay : ℕ) (d r : Driver) : Type 0 where
+  pub pending : (t : ℕ) → pendingOf t r ≡ before (t + delay) (pendingOf t d)
+  pub few : r .count ≤ 8
+
+-- r has what d has pending, but for the first n
+pub record Without (n : ℕ) (d r : Driver) : Type 0 where
+  pub pending : (t : ℕ) → pendingOf t r ≡ drop n (pendingOf t d)
+  pub few : r .count ≤ 8
+
+-- a new transaction of v
+abbrev pub new : ℕ → Driven → List Transaction
+new at v = record { time = at; value = v } ∷ []
+
+-- r has what a delay leaves of d's pending transactions before a new one of v
+pub record LeftBy (m : Mechanism) (v : Driven) (d r : Driver) : Type 0 where
+  pub pending : (t at : ℕ) → pendingOf t r ++ new at v ≡ leftBy m (pendingOf t d ++ new at v)
+  pub few : r .count ≤ 8
+
 -- a schedule of v, a value or null, in some units: whatever the time and the current value are, the driver is what the rules make of it
-pub record ScheduledTo (d : Driver) (delay : ℕ) (v : Driven) (r : Scheduled) : Type 0 where
-  pub driver : (t : ℕ) (x : Driven) → driving t x (r .driver) ≡ driverAfter (t + delay) v (driving t x d)
-  pub full : (t : ℕ) → r .full ≡ overflows (scheduled (pendingOf t d) (t + delay) v)
+pub record ScheduledTo (d : Driver) (delay : ℕ) (v : Driven) (m : Mechanism) (r : Scheduled) : Type 0 where
+  pub driver : (t : ℕ) (x : Driven) → driving t x (r .driver) ≡ driverAfter m (t + delay) v (driving t x d)
+  pub full : (t : ℕ) → r .full ≡ overflows (scheduled m (pendingOf t d) (t + delay) v)
   pub few : r .driver .count ≤ 8
 
 -- at most eight are pending, each in n units or later

@@ -6,8 +6,10 @@ ghost use Prim.Native.Nat.{ℕ, _≤_};
 ghost use lib.ListN.{drop};
 ghost use Rattle.rules.specs.Configuration.{lastTime};
 ghost use Rattle.waveforms.specs.Pending.{drivenOf, wordFor, pendingOf, firstTime, NoneBefore};
-ghost use Rattle.waveforms.specs.Waveform.{Waveform, Kept, Nearer, ScheduledTo, Ahead, Elapsed};
+ghost use Rattle.rules.specs.Statements.{equalValue};
+ghost use Rattle.waveforms.specs.Waveform.{Waveform, Kept, RunStart, Nearer, BeforeTime, Without, LeftBy, ScheduledTo, Ahead, Elapsed};
 use rules::driven::Driven;
+use rules::mechanism::Mechanism;
 
 // Later than any time: stands for no transaction and no deadline.
 pub const NEVER: u64 = 18446744073709551615;
@@ -36,6 +38,17 @@ fn word_for(v: Driven) -> u32
     }
 }
 
+// Whether the word w holds the value of v.
+fn holds(w: u32, v: Driven) -> bool
+    requires { ⌜ drivenOf (wordFor v) ≡ v ⌝ }
+    ensures { λ r. ⌜ r ≡ equalValue (drivenOf w) v ⌝ }
+{
+    match v {
+        Driven::To(x) => w == x,
+        Driven::Null => false,
+    }
+}
+
 // How many of the first count times lie before the time at: the place of the first that does not.
 fn kept(times: [u32; 8], count: usize, at: u32) -> usize
     requires { ⌜ count ≤ 8 ⌝ }
@@ -49,6 +62,22 @@ fn kept(times: [u32; 8], count: usize, at: u32) -> usize
         n += 1;
     }
     n
+}
+
+// Of the first count words, where the run of those with the value of v begins that is last.
+fn run_start(values: [u32; 8], count: usize, v: Driven) -> usize
+    requires { ⌜ count ≤ 8 ⌝ }
+    requires { ⌜ drivenOf (wordFor v) ≡ v ⌝ }
+    ensures { λ r. ⌜ RunStart values count v r ⌝ }
+{
+    let mut first = count;
+    while first > 0 {
+        if !holds(values[first - 1], v) {
+            return first;
+        }
+        first -= 1;
+    }
+    first
 }
 
 // The first count times, n units later.
@@ -84,20 +113,61 @@ impl Driver {
         }
     }
 
-    // Removes the pending transactions in delay units or later, and adds one there. A ninth is refused: the driver stays.
-    pub fn schedule(mut self, delay: u32, value: Driven) -> Scheduled
+    // Removes the pending transactions in delay units or later.
+    fn until(mut self, delay: u32) -> Driver
         requires { ⌜ Waveform self ⌝ }
-        requires { ⌜ drivenOf (wordFor value) ≡ value ⌝ }
-        ensures { λ r. ⌜ ScheduledTo self delay value r ⌝ }
+        ensures { λ r. ⌜ BeforeTime delay self r ⌝ }
     {
         let ts = self.times;
-        let n = kept(ts, self.count, delay);
+        self.count = kept(ts, self.count, delay);
+        self
+    }
+
+    // The first n transactions leave.
+    fn without(mut self, n: usize) -> Driver
+        requires { ⌜ n ≤ self .count ⌝ }
+        requires { ⌜ self .count ≤ 8 ⌝ }
+        ensures { λ r. ⌜ Without n self r ⌝ }
+    {
+        let mut i = 0;
+        while i < n {
+            self = self.without_first();
+            i += 1;
+        }
+        self
+    }
+
+    // Removes what the delay removes where a transaction of v follows: nothing, or all before the run of its value that is last.
+    fn left_by(self, v: Driven, mechanism: Mechanism) -> Driver
+        requires { ⌜ self .count ≤ 8 ⌝ }
+        requires { ⌜ drivenOf (wordFor v) ≡ v ⌝ }
+        ensures { λ r. ⌜ LeftBy mechanism v self r ⌝ }
+    {
+        match mechanism {
+            Mechanism::Transport => self,
+            Mechanism::Inertial => {
+                let vs = self.values;
+                self.without(run_start(vs, self.count, v))
+            }
+        }
+    }
+
+    // Removes the pending transactions in delay units or later, adds one there, and removes what the delay does. A ninth is refused:
+    // the driver stays.
+    pub fn schedule(self, delay: u32, value: Driven, mechanism: Mechanism) -> Scheduled
+        requires { ⌜ Waveform self ⌝ }
+        requires { ⌜ drivenOf (wordFor value) ≡ value ⌝ }
+        ensures { λ r. ⌜ ScheduledTo self delay value mechanism r ⌝ }
+    {
+        let early = self.until(delay);
+        let mut d = early.left_by(value, mechanism);
+        let n = d.count;
         if n < 8 {
-            self.times[n] = delay;
-            self.values[n] = word_for(value);
-            self.count = n + 1;
+            d.times[n] = delay;
+            d.values[n] = word_for(value);
+            d.count = n + 1;
             Scheduled {
-                driver: self,
+                driver: d,
                 full: false,
             }
         } else {

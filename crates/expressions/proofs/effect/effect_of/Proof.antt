@@ -1,10 +1,19 @@
 -- `effect_of` gives the effect of the specification: the `match` says which line of `effectBy` holds. Assumes nothing.
+use mathlib.Core.Path.{_∙_}
 use borrow.Author.Tests.{eq-eqb, ne-eqb}
 use borrow.Author.Needs.{needs}
 use Rattle.rules.specs.Statements.{effectBy}
-use Rattle.expressions.proofs.Statements.{statement-fits, driver-call, no-statement}
+use Rattle.expressions.proofs.Statements.{assigned, statement-fits, driver-call, no-statement}
 use Rattle.expressions.proofs.effect.effect_of.Statement.{statement}
 use Rattle.expressions.proofs.effect.effect_of.Tie as tie
+
+returns-4 : tie.Need-returns-4
+returns-4 c =
+    let d = c .before .before .before in
+    let h = d .before .before in
+    let driver = rw (← h .before .statement-at .ensures) at (d .assignment-driver .ensures) in
+    rw (← h .before .statement-at .ensures)
+    (c .assign .ensures ∙ rw (d .before .eval2 .ensures, c .before .before .eval3 .ensures, driver, c .before .mechanism-of .ensures) (assigned _ _ _ _ (h .match .keys3)))
 
 pub effect-of-spec : {M : Type 1} → statement M
 unfolding effectBy
@@ -25,6 +34,8 @@ effect-of-spec =
     (λ c κs.
     let h = c .before .before in
     (h .before .before .before .pre .0, statement-fits (h .before .before .before .pre) (h .before .statement-at .ensures) .signalAssignment (h .match .keys3) .delay .node))
+    -- mechanism-of-requires
+    (λ c κs. search needs)
     -- assign-requires
     (λ c κs. search needs)
     -- eval-requires-4
@@ -56,10 +67,7 @@ effect-of-spec =
     let h = c .before .before in
     rw (← h .before .statement-at .ensures, h .match .keys2, ← c .before .eval .ensures) (c .store .ensures))
     -- returns-4
-    (λ c.
-    let h = c .before .before .before .before in
-    let driver = rw (← h .before .statement-at .ensures) at (c .before .before .assignment-driver .ensures) in
-    rw (← h .before .statement-at .ensures, h .match .keys3, ← c .before .before .before .eval2 .ensures, ← c .before .eval3 .ensures, ← driver) (c .assign .ensures))
+    returns-4
     -- returns-5
     (λ c.
     let h = c .before .before in

@@ -18,14 +18,14 @@ schedule-spec =
     -- returns
     (λ c.
     let s = c .before .before .before in
-    delay-fault (λ d. Schedule (s .args .k) d (s .args .v)) (c .before .c .given .1))
+    delay-fault (λ d. Schedule (s .args .k) d (s .args .v) (s .args .w)) (c .before .c .given .1))
     -- returns-2
     (λ c.
     let k = c .before .before in
     let s = k .before .before .before in
-    delay-negative (λ d. Schedule (s .args .k) d (s .args .v)) (k .before .c2 .given .1) (k .known-told2 .given .0 .1) (c .before .int .ensures) (c .if1 .taken))
+    delay-negative (λ d. Schedule (s .args .k) d (s .args .v) (s .args .w)) (k .before .c2 .given .1) (k .known-told2 .given .0 .1) (c .before .int .ensures) (c .if1 .taken))
     -- returns-3
     (λ c.
     let k = c .before .before in
     let s = k .before .before .before in
-    delay-kept (λ d. Schedule (s .args .k) d (s .args .v)) (k .before .c2 .given .1) (k .known-told2 .given .0 .1) (c .before .int .ensures) (c .if1 .left)))
+    delay-kept (λ d. Schedule (s .args .k) d (s .args .v) (s .args .w)) (k .before .c2 .given .1) (k .known-told2 .given .0 .1) (c .before .int .ensures) (c .if1 .left)))

@@ -8,7 +8,7 @@ use lib.ListN.{length}
 use Rattle.blocks.specs.Records.{modelOf}
 use Rattle.blocks.specs.Index.{Starts}
 use Rattle.fields.specs.Fields.{fieldsOk, statementOk}
-use Rattle.fields.proofs.StatementFields.{statement-ok, names-variable, value-at, delay-node, wait-condition, wait-delay}
+use Rattle.fields.proofs.StatementFields.{statement-ok, names-variable, variable-value, signal-value, branch-condition, delay-node, wait-condition, wait-delay}
 use Rattle.trees.specs.Trees.{treesOk}
 use Rattle.model.proofs.RuleForms.{variable-owned, signal-owned, branch-owned, wait-owned, null-owned, other-owned}
 use Rattle.model.proofs.owners.statement_owned.Statement.{statement}
@@ -40,7 +40,7 @@ reads-own-requires : tie.Need-reads-own-requires
 reads-own-requires c κs =
     let o = c .before .before in
     let s = o .before .before .before in
-    read o _ (value-at (modelOf (now (s .args .m))) (s .args .n) (o .before .statement-at .result) (ok o) 1 (c .before .match .keys1) tt tt)
+    read o _ (variable-value (modelOf (now (s .args .m))) (s .args .n) (o .before .statement-at .result) (ok o) (c .before .match .keys1))
 
 assignment-driver-requires : tie.Need-assignment-driver-requires
 assignment-driver-requires c κs =
@@ -52,7 +52,7 @@ reads-own-requires-2 : tie.Need-reads-own-requires-2
 reads-own-requires-2 c κs =
     let o = c .before .before .before in
     let s = o .before .before .before in
-    read o _ (value-at (modelOf (now (s .args .m))) (s .args .n) (o .before .statement-at .result) (ok o) 2 (c .before .before .match .keys2) tt tt)
+    read o _ (signal-value (modelOf (now (s .args .m))) (s .args .n) (o .before .statement-at .result) (ok o) (c .before .before .match .keys2))
 
 reads-own-requires-3 : tie.Need-reads-own-requires-3
 reads-own-requires-3 c κs =
@@ -64,7 +64,7 @@ reads-own-requires-4 : tie.Need-reads-own-requires-4
 reads-own-requires-4 c κs =
     let o = c .before in
     let s = o .before .before .before in
-    read o _ (value-at (modelOf (now (s .args .m))) (s .args .n) (o .before .statement-at .result) (ok o) 3 (c .match .keys3) tt tt)
+    read o _ (branch-condition (modelOf (now (s .args .m))) (s .args .n) (o .before .statement-at .result) (ok o) (c .match .keys3))
 
 own-or-absent-requires : tie.Need-own-or-absent-requires
 own-or-absent-requires c κs =

@@ -5,7 +5,7 @@ use mathlib.Core.Logic.{inl, inr}
 use denote.Ref.{now}
 use Rattle.blocks.specs.Records.{modelOf}
 use Rattle.fields.specs.Fields.{statementOk}
-use Rattle.fields.proofs.StatementFields.{statement-ok, names-variable, names-signal, value-at, delay-node, wait-condition, wait-delay}
+use Rattle.fields.proofs.StatementFields.{statement-ok, names-variable, names-signal, variable-value, signal-value, branch-condition, delay-node, wait-condition, wait-delay}
 use Rattle.trees.proofs.TypeForms.{variable-typed, signal-typed, branch-typed, wait-typed, null-typed, other-typed}
 use Rattle.trees.proofs.types.statement_typed.Statement.{statement}
 use Rattle.trees.proofs.types.statement_typed.Tie as tie
@@ -22,7 +22,7 @@ ok c =
 type-at-requires : tie.Need-type-at-requires
 type-at-requires c κs =
     let s = c .before .before .before in
-    (s .pre .0 .starts, (s .pre .0 .type, value-at (modelOf (now (s .args .m))) (s .args .n) (c .before .statement-at .result) (ok (c .before)) 1 (c .match .keys1) tt tt))
+    (s .pre .0 .starts, (s .pre .0 .type, variable-value (modelOf (now (s .args .m))) (s .args .n) (c .before .statement-at .result) (ok (c .before)) (c .match .keys1)))
 
 variable-type-requires : tie.Need-variable-type-requires
 variable-type-requires c κs =
@@ -32,7 +32,7 @@ variable-type-requires c κs =
 type-at-requires-2 : tie.Need-type-at-requires-2
 type-at-requires-2 c κs =
     let s = c .before .before .before in
-    (s .pre .0 .starts, (s .pre .0 .type, value-at (modelOf (now (s .args .m))) (s .args .n) (c .before .statement-at .result) (ok (c .before)) 2 (c .match .keys2) tt tt))
+    (s .pre .0 .starts, (s .pre .0 .type, signal-value (modelOf (now (s .args .m))) (s .args .n) (c .before .statement-at .result) (ok (c .before)) (c .match .keys2)))
 
 signal-type-requires : tie.Need-signal-type-requires
 signal-type-requires c κs =
@@ -47,7 +47,7 @@ type-at-requires-3 c κs =
 type-at-requires-4 : tie.Need-type-at-requires-4
 type-at-requires-4 c κs =
     let s = c .before .before .before in
-    (s .pre .0 .starts, (s .pre .0 .type, value-at (modelOf (now (s .args .m))) (s .args .n) (c .before .statement-at .result) (ok (c .before)) 3 (c .match .keys3) tt tt))
+    (s .pre .0 .starts, (s .pre .0 .type, branch-condition (modelOf (now (s .args .m))) (s .args .n) (c .before .statement-at .result) (ok (c .before)) (c .match .keys3)))
 
 typed-or-absent-requires : tie.Need-typed-or-absent-requires
 typed-or-absent-requires c κs =

@@ -173,15 +173,15 @@ enum-known-effect-2 : tie.Need-enum-known-effect-2 Inv-loop μ-loop
 enum-known-effect-2 c = search needs
 
 mul-e : tie.Need-mul-e Inv-loop μ-loop
-mul-e c = omega (arith, in-drivers (turn (c .before .before .before .before)) _ _ _ (c .before .effect2 .given .1))
+mul-e c = omega (arith, in-drivers (turn (c .before .before .before .before)) _ _ _ _ (c .before .effect2 .given .1))
 
 element-copy-out-e : tie.Need-element-copy-out-e Inv-loop μ-loop
-element-copy-out-e c = in-drivers (turn (c .before .before .before .before)) _ _ _ (c .before .effect2 .given .1)
+element-copy-out-e c = in-drivers (turn (c .before .before .before .before)) _ _ _ _ (c .before .effect2 .given .1)
 
 schedule-requires : tie.Need-schedule-requires Inv-loop μ-loop
 schedule-requires c κs =
     let t = turn (c .before .before .before .before .before) in
-    (waveform t _ _ _ (c .before .before .effect2 .given .1), word-held t _ _ _ (c .before .before .effect2 .given .1))
+    (waveform t _ _ _ _ (c .before .before .effect2 .given .1), word-held t _ _ _ _ (c .before .before .effect2 .given .1))
 
 mul-self-4 : tie.Need-mul-self-4 Inv-loop μ-loop
 mul-self-4 c = omega (arith, in-16 (turn (c .before .before .before .before .before .before .before)))
@@ -205,22 +205,22 @@ loop-less-4 : tie.Need-loop-less-4 Inv-loop μ-loop
 loop-less-4 c = falls (c .before .before .before .before .before .before .before)
 
 loop-again-4 : tie.Need-loop-again-4 Inv-loop μ-loop
-loop-again-4 c = next (c .before .before .before .before .before .before .before) _ (full-turn (turn (c .before .before .before .before .before .before .before)) _ _ _ (c .before .before .before .before .effect2 .given .1) _ (c .before .schedule .ensures) (c .if2 .taken))
+loop-again-4 c = next (c .before .before .before .before .before .before .before) _ (full-turn (turn (c .before .before .before .before .before .before .before)) _ _ _ _ (c .before .before .before .before .effect2 .given .1) _ (c .before .schedule .ensures) (c .if2 .taken))
 
 first-time-requires : tie.Need-first-time-requires Inv-loop μ-loop
 first-time-requires c κs = early (turn (c .before .before .before .before .before .before .before .before))
 
 mul-self-7 : tie.Need-mul-self-7 Inv-loop μ-loop
-mul-self-7 c = omega (arith, in-drivers (turn (c .before .before .before .before .before .before .before .before .before)) _ _ _ (c .before .before .before .before .before .before .effect2 .given .1))
+mul-self-7 c = omega (arith, in-drivers (turn (c .before .before .before .before .before .before .before .before .before)) _ _ _ _ (c .before .before .before .before .before .before .effect2 .given .1))
 
 element-write-self-7 : tie.Need-element-write-self-7 Inv-loop μ-loop
-element-write-self-7 c = in-drivers (turn (c .before .before .before .before .before .before .before .before .before)) _ _ _ (c .before .before .before .before .before .before .effect2 .given .1)
+element-write-self-7 c = in-drivers (turn (c .before .before .before .before .before .before .before .before .before)) _ _ _ _ (c .before .before .before .before .before .before .effect2 .given .1)
 
 mul-f : tie.Need-mul-f Inv-loop μ-loop
-mul-f c = omega (arith, in-drivers (turn (c .before .before .before .before .before .before .before .before .before)) _ _ _ (c .before .before .before .before .before .before .effect2 .given .1))
+mul-f c = omega (arith, in-drivers (turn (c .before .before .before .before .before .before .before .before .before)) _ _ _ _ (c .before .before .before .before .before .before .effect2 .given .1))
 
 element-set-from-f : tie.Need-element-set-from-f Inv-loop μ-loop
-element-set-from-f c = in-drivers (turn (c .before .before .before .before .before .before .before .before .before)) _ _ _ (c .before .before .before .before .before .before .effect2 .given .1)
+element-set-from-f c = in-drivers (turn (c .before .before .before .before .before .before .before .before .before)) _ _ _ _ (c .before .before .before .before .before .before .effect2 .given .1)
 
 mul-self-8 : tie.Need-mul-self-8 Inv-loop μ-loop
 mul-self-8 c = omega (arith, in-16 (turn (c .before .before .before .before .before .before .before .before .before)))
@@ -232,7 +232,7 @@ loop-less-5 : tie.Need-loop-less-5 Inv-loop μ-loop
 loop-less-5 c = falls (c .before .before .before .before .before .before .before .before .before)
 
 loop-again-5 : tie.Need-loop-again-5 Inv-loop μ-loop
-loop-again-5 c = next (c .before .before .before .before .before .before .before .before .before) _ (schedule-turn (turn (c .before .before .before .before .before .before .before .before .before)) _ _ _ (c .before .before .before .before .before .before .effect2 .given .1) _ (c .before .before .before .schedule .ensures) (c .before .before .if2 .left) _ _ (c .first-time .ensures) (c .before .before .before .before .before .before .before .before .next-place .ensures))
+loop-again-5 c = next (c .before .before .before .before .before .before .before .before .before) _ (schedule-turn (turn (c .before .before .before .before .before .before .before .before .before)) _ _ _ _ (c .before .before .before .before .before .before .effect2 .given .1) _ (c .before .before .before .schedule .ensures) (c .before .before .if2 .left) _ _ (c .first-time .ensures) (c .before .before .before .before .before .before .before .before .next-place .ensures))
 
 enum-known-effect-3 : tie.Need-enum-known-effect-3 Inv-loop μ-loop
 enum-known-effect-3 c = search needs

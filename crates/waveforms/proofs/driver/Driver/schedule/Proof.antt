@@ -1,30 +1,34 @@
+-- `schedule`: one more after those that are kept, unless it is a ninth. Assumes nothing.
 use mathlib.Core.Path.{_≡_}
 use borrow.Author.Needs.{needs}
 use Rattle.waveforms.specs.Pending.{drivenOf}
-use Rattle.waveforms.proofs.Drivers.{scheduled-in, scheduled-ninth}
+use Rattle.waveforms.proofs.Schedules.{scheduled-in, scheduled-ninth}
 use Rattle.waveforms.proofs.driver.Driver.schedule.Statement.{statement}
 use Rattle.waveforms.proofs.driver.Driver.schedule.Tie as tie
 
-kept-requires : tie.Need-kept-requires
-kept-requires c κs = search needs
+until-requires : tie.Need-until-requires
+until-requires c κs = search needs
 
-mul-self : tie.Need-mul-self
-mul-self c = search needs
+left-by-requires : tie.Need-left-by-requires
+left-by-requires c κs = search needs
 
-element-write-self : tie.Need-element-write-self
-element-write-self c = search needs
+mul-d : tie.Need-mul-d
+mul-d c = search needs
+
+element-write-d : tie.Need-element-write-d
+element-write-d c = search needs
 
 word-for-requires : tie.Need-word-for-requires
 word-for-requires c κs = search needs
 
-mul-self-2 : tie.Need-mul-self-2
-mul-self-2 c = search needs
+mul-d-2 : tie.Need-mul-d-2
+mul-d-2 c = search needs
 
-element-write-self-2 : tie.Need-element-write-self-2
-element-write-self-2 c = search needs
+element-write-d-2 : tie.Need-element-write-d-2
+element-write-d-2 c = search needs
 
-add-self : tie.Need-add-self
-add-self c = search needs
+add-d : tie.Need-add-d
+add-d c = search needs
 
 returns : tie.Need-returns
 returns c =
@@ -39,12 +43,13 @@ pub schedule-spec : {M : Type 1} → statement M
 schedule-spec =
     tie.close
     (tie.spec
-    kept-requires
-    mul-self
-    element-write-self
+    until-requires
+    left-by-requires
+    mul-d
+    element-write-d
     word-for-requires
-    mul-self-2
-    element-write-self-2
-    add-self
+    mul-d-2
+    element-write-d-2
+    add-d
     returns
     returns-2)
