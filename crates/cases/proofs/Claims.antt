@@ -1,4 +1,5 @@
--- The claims on the inverter and on the shared bus and register: their lists are played by computation, and the claims say the rest. Assumes nothing.
+-- The claims on the inverter, on the shared bus and register and on inertial assignments: their lists are played by computation, and
+-- the claims say the rest. Assumes nothing.
 use mathlib.Core.Path.{_≡_, refl}
 use mathlib.Core.Bool.{true, false}
 use mathlib.Core.List.{List, [], _∷_}
@@ -9,6 +10,7 @@ use borrow.Author.Tests.{le-leb}
 use lib.ListN.{length}
 use Rattle.determinacy.specs.Kernel.{NormalForm}
 use Rattle.determinacy.specs.Determinacy.{Exactly}
+use Rattle.values.specs.Nine.{‘0’, Z}
 use Rattle.blocks.specs.Records.{Model, modelOf}
 use Rattle.rules.specs.declared.driven.Driven.the-variants.{Null}
 use Rattle.rules.specs.Configuration.{Configuration}
@@ -18,10 +20,12 @@ use Rattle.session.proofs.Demand3.{determinate}
 use Rattle.session.proofs.ListLaws.{list-laws}
 use Rattle.cases.specs.Inverter.{inverter, inverterBytes}
 use Rattle.cases.specs.Guarded.{shared, sharedBytes, carried}
-use Rattle.cases.specs.Claims.{settling, picking, woken, waking, kernel, tally, Comes, Ends, alike, behind, InverterDetermined, disconnecting, swapping, SharedDetermined, early, InverterLaws}
+use Rattle.cases.specs.Inertial.{due, filtered, filteredBytes, waveforms}
+use Rattle.cases.specs.Claims.{settling, picking, woken, waking, kernel, tally, Comes, Ends, alike, behind, InverterDetermined, disconnecting, swapping, SharedDetermined, filtering, filteringLast, FilteredDetermined, early, InverterLaws}
 use Rattle.cases.proofs.Rules.{the-orders}
 use Rattle.cases.proofs.Inverter.{model-read, accepted-inverter}
 use Rattle.cases.proofs.Guarded.{shared-read, accepted-shared}
+use Rattle.cases.proofs.Inertial.{filtered-read, accepted-filtered}
 
 -- the two processes that are there are not ready, and no other can be picked
 quiet-by : (M : Model) → length (M .processes) ≡ 2 → (c : Configuration) → isReady 0 c ≡ false → isReady 1 c ≡ false → NormalForm (kernelOf M) c
@@ -109,6 +113,30 @@ shared-determined =
       swapping-ends = swapping-ends;
       same-end = alike determinate accepted-shared disconnecting swapping disconnecting-ends swapping-ends .same-end;
       all-off = rw shared-read swapped-off;
+    }
+
+filtering-ends : Ends filteredBytes filtering 5 1
+unfolding the-orders filtered picksOf advancesOf
+filtering-ends = ends filtered-read filtering refl refl refl refl refl
+
+last-ends : Ends filteredBytes filteringLast 5 1
+unfolding the-orders filtered picksOf advancesOf
+last-ends = ends filtered-read filteringLast refl refl refl refl refl
+
+filtered-pending : waveforms (tallyOf filtered filtering .end) ≡ (due ‘0’ 3 ∷ []) ∷ (due Z 2 ∷ []) ∷ []
+unfolding the-orders filtered
+filtered-pending = refl
+
+pub filtered-determined : FilteredDetermined
+filtered-determined =
+    record {
+      read = filtered-read;
+      accepted = accepted-filtered;
+      demand3 = determinate;
+      filtering-ends = filtering-ends;
+      last-ends = last-ends;
+      same-end = alike determinate accepted-filtered filtering filteringLast filtering-ends last-ends .same-end;
+      pending = rw filtered-read filtered-pending;
     }
 
 early-refusal : early .refusal ≡ 14

@@ -1,5 +1,5 @@
--- The claims over all models and lists of orders, used on the inverter and on a model with null transactions. Each fact stands
--- with the part of the claim that proves it: a claim with a premise more, or with a part less, is no proof of it.
+-- The claims over all models and lists of orders, used on the inverter and on models with null and with inertial assignments. Each
+-- fact stands with the part of the claim that proves it: a claim with a premise more, or with a part less, is no proof of it.
 use mathlib.Core.Path.{_≡_, refl, sym, _∙_}
 use mathlib.Core.Bool.{true}
 use mathlib.Core.Logic.{_≢_}
@@ -8,6 +8,7 @@ use Prim.Native.Nat.{ℕ, _-_, _≤_}
 use Rattle.determinacy.specs.Kernel.{Kernel, NormalForm}
 use Rattle.determinacy.specs.Determinacy.{Tally, Exactly, Alike, Behind}
 use Rattle.blocks.specs.Records.{modelOf}
+use Rattle.values.specs.Nine.{‘0’, Z}
 use Rattle.model.specs.Rules.{refusalOf}
 use Rattle.rules.specs.declared.driven.Driven.the-variants.{Null}
 use Rattle.rules.specs.Configuration.{Configuration, first}
@@ -19,6 +20,7 @@ use Rattle.session.specs.ListLaws.{ListLaws}
 use Rattle.cases.specs.Forms.{pickOrder, advanceOrder, settleOrder, orderBytes, asBytes}
 use Rattle.cases.specs.Inverter.{inverter, inverterBytes, inverterOrders, inverterOrderBytes}
 use Rattle.cases.specs.Guarded.{shared, sharedBytes, disconnected, swapped, carried}
+use Rattle.cases.specs.Inertial.{due, filtered, filteredBytes, waveforms}
 
 -- a fact, and what proves it: nothing else may stand behind `by`
 infix 2 _by_
@@ -110,6 +112,24 @@ pub record SharedDetermined : Type 0 where
   pub same-end : tallyOf (modelOf sharedBytes) disconnecting .end ≡ tallyOf (modelOf sharedBytes) swapping .end
       by alike demand3 accepted disconnecting swapping disconnecting-ends swapping-ends .same-end
   pub all-off : carried (tallyOf (modelOf sharedBytes) swapping .end) ≡ Null ∷ Null ∷ Null ∷ Null ∷ []
+
+-- the orders of the line with two drivers, and the same with process 1 picked first
+abbrev pub filtering : Bytes
+filtering = asBytes (orderBytes (settleOrder 10 ∷ advanceOrder ∷ [])) refl
+
+abbrev pub filteringLast : Bytes
+filteringLast = asBytes (orderBytes (pickOrder 1 ∷ pickOrder 0 ∷ pickOrder 1 ∷ settleOrder 10 ∷ advanceOrder ∷ [])) refl
+
+-- Demand 3 on inertial assignments: the order of picks does not change what is pending
+pub record FilteredDetermined : Type 0 where
+  pub read : modelOf filteredBytes ≡ filtered
+  pub accepted : refusalOf filteredBytes ≡ 0
+  pub demand3 : Determinate
+  pub filtering-ends : Ends filteredBytes filtering 5 1
+  pub last-ends : Ends filteredBytes filteringLast 5 1
+  pub same-end : tallyOf (modelOf filteredBytes) filtering .end ≡ tallyOf (modelOf filteredBytes) filteringLast .end
+      by alike demand3 accepted filtering filteringLast filtering-ends last-ends .same-end
+  pub pending : waveforms (tallyOf (modelOf filteredBytes) filtering .end) ≡ (due ‘0’ 3 ∷ []) ∷ (due Z 2 ∷ []) ∷ []
 
 -- an advance before any pick
 abbrev pub early : Outcome

@@ -1,21 +1,23 @@
--- Inertial delays (document 02, item 6), played by the rules: what stays pending of a line to which one process assigns.
+-- Inertial delays (document 02, item 6), played by the rules: what stays pending of a line to which one process assigns, and a
+-- line with two drivers.
 use mathlib.Core.Path.{_≡_}
-use mathlib.Core.List.{List, [], _∷_, _++_, map}
+use mathlib.Core.List.{List, [], _∷_, _++_, map, flatten}
 use Prim.Native.Nat.{ℕ, _+_}
 use lib.Dec.{eqb}
 use lib.ListN.{length, replicate}
 use Rattle.base.specs.Cases.{_∣_, _⇒_}
 use Rattle.base.specs.Rules.{firstFailing}
-use Rattle.blocks.specs.Records.{bus, Model}
+use Rattle.blocks.specs.Records.{plain, bus, Model}
 use Rattle.blocks.specs.declared.records.NodeRecord.{NodeRecord}
 use Rattle.blocks.specs.declared.records.StatementRecord.{StatementRecord}
+use Rattle.fields.specs.Fields.{absent}
 use Rattle.values.specs.Nine.{‘0’, ‘1’, Z}
 use Rattle.trees.specs.Trees.{logic}
 use Rattle.model.specs.Rules.{recordRules}
 use Rattle.rules.specs.declared.driven.Driven.the-variants.{To}
-use Rattle.rules.specs.Configuration.{Transaction, driverIn}
+use Rattle.rules.specs.Configuration.{Transaction, DriverState, Configuration, driverIn}
 use Rattle.session.specs.Lists.{after}
-use Rattle.cases.specs.Forms.{signal, process, driver, node, statement, pickOrder, settleOrder}
+use Rattle.cases.specs.Forms.{signal, process, driver, node, statement, pickOrder, settleOrder, block}
 use Rattle.cases.specs.Answers.{answerTo, faultIn}
 
 -- an assignment to the line: its statement's kind, its value and its delay
@@ -103,3 +105,65 @@ pub record InertialPlayed : Type 0 where
   pub ninth-done : ninth eightInTurn ≡ 0
   pub ninth-fails : ninth eightAlike ≡ 3
   pub accepted : map (λ c. firstFailing (recordRules (line (c .assignments)))) inertialCases ≡ replicate 8 0
+
+-- Signal 0 starts at '0'. Process 0: signal 0 <= '1' after 2; signal 0 <= '0' after 3; wait. Process 1: signal 0 <= 'Z' after 2; wait. All
+-- three are inertial.
+unfoldable pub filtered : Model
+filtered =
+    record {
+      signals = signal logic plain ‘0’ ∷ [];
+      variables = [];
+      processes = process 0 3 ∷ process 3 2 ∷ [];
+      drivers = driver 0 0 ∷ driver 1 0 ∷ [];
+      nodes = node 2 0 0 ‘1’ ∷ node 1 0 0 2 ∷ node 2 0 0 ‘0’ ∷ node 1 0 0 3 ∷ node 2 0 0 Z ∷ node 1 0 0 2 ∷ [];
+      statements =
+          statement 7 0 0 1 0
+          ∷ statement 7 0 2 3 0
+          ∷ statement 5 0 absent absent 0
+          ∷ statement 7 0 4 5 0
+          ∷ statement 5 0 absent absent 0
+          ∷ [];
+    }
+
+-- the same model as bytes: a block for each kind of which it has records
+unfoldable pub filteredBlocks : List (List ℕ)
+filteredBlocks =
+    block 0 1 1
+    (1 ∷ 0 ∷ 0 ∷ 0 ∷ 2 ∷ 0 ∷ 0 ∷ 0 ∷ 0 ∷ 0 ∷ 0 ∷ 0
+    ∷ [])
+    253 254
+    ∷ block 1 3 2
+    (0 ∷ 0 ∷ 3 ∷ 0 ∷ 0 ∷ 0 ∷ 0 ∷ 0 ∷ 0 ∷ 0 ∷ 0 ∷ 0
+    ∷ 3 ∷ 0 ∷ 2 ∷ 0 ∷ 0 ∷ 0 ∷ 0 ∷ 0 ∷ 0 ∷ 0 ∷ 0 ∷ 0
+    ∷ [])
+    245 253
+    ∷ block 2 4 2
+    (0 ∷ 0 ∷ 0 ∷ 0 ∷ 0 ∷ 0 ∷ 0 ∷ 0 ∷ 0 ∷ 0 ∷ 0 ∷ 0
+    ∷ 1 ∷ 0 ∷ 0 ∷ 0 ∷ 0 ∷ 0 ∷ 0 ∷ 0 ∷ 0 ∷ 0 ∷ 0 ∷ 0
+    ∷ [])
+    250 253
+    ∷ block 3 5 6
+    (2 ∷ 0 ∷ 0 ∷ 0 ∷ 0 ∷ 0 ∷ 0 ∷ 0 ∷ 3 ∷ 0 ∷ 0 ∷ 0
+    ∷ 1 ∷ 0 ∷ 0 ∷ 0 ∷ 0 ∷ 0 ∷ 0 ∷ 0 ∷ 2 ∷ 0 ∷ 0 ∷ 0
+    ∷ 2 ∷ 0 ∷ 0 ∷ 0 ∷ 0 ∷ 0 ∷ 0 ∷ 0 ∷ 2 ∷ 0 ∷ 0 ∷ 0
+    ∷ 1 ∷ 0 ∷ 0 ∷ 0 ∷ 0 ∷ 0 ∷ 0 ∷ 0 ∷ 3 ∷ 0 ∷ 0 ∷ 0
+    ∷ 2 ∷ 0 ∷ 0 ∷ 0 ∷ 0 ∷ 0 ∷ 0 ∷ 0 ∷ 4 ∷ 0 ∷ 0 ∷ 0
+    ∷ 1 ∷ 0 ∷ 0 ∷ 0 ∷ 0 ∷ 0 ∷ 0 ∷ 0 ∷ 2 ∷ 0 ∷ 0 ∷ 0
+    ∷ [])
+    224 249
+    ∷ block 4 6 5
+    (7 ∷ 0 ∷ 0 ∷ 0 ∷ 0 ∷ 0 ∷ 1 ∷ 0 ∷ 0 ∷ 0 ∷ 0 ∷ 0
+    ∷ 7 ∷ 0 ∷ 0 ∷ 0 ∷ 2 ∷ 0 ∷ 3 ∷ 0 ∷ 0 ∷ 0 ∷ 0 ∷ 0
+    ∷ 5 ∷ 0 ∷ 0 ∷ 0 ∷ 255 ∷ 255 ∷ 255 ∷ 255 ∷ 0 ∷ 0 ∷ 0 ∷ 0
+    ∷ 7 ∷ 0 ∷ 0 ∷ 0 ∷ 4 ∷ 0 ∷ 5 ∷ 0 ∷ 0 ∷ 0 ∷ 0 ∷ 0
+    ∷ 5 ∷ 0 ∷ 0 ∷ 0 ∷ 255 ∷ 255 ∷ 255 ∷ 255 ∷ 0 ∷ 0 ∷ 0 ∷ 0
+    ∷ [])
+    205 250
+    ∷ []
+
+unfoldable pub filteredBytes : List ℕ
+filteredBytes = flatten filteredBlocks
+
+-- what the drivers of a configuration have pending
+abbrev pub waveforms : Configuration → List (List Transaction)
+waveforms c = map (λ (d : DriverState). d .pending) (c .drivers)

@@ -11,7 +11,7 @@ ghost use Rattle.cases.specs.Inverter.{inverterLines, InverterPlayed};
 ghost use Rattle.cases.specs.Guarded.{guardedRows, GuardedPlayed};
 ghost use Rattle.cases.specs.Delays.{delayRows, DelaysPlayed, DelaysUsed};
 ghost use Rattle.cases.specs.Inertial.{inertialCases, InertialPlayed};
-ghost use Rattle.cases.specs.Claims.{settling, tally, InverterDetermined, SharedDetermined, InverterLaws};
+ghost use Rattle.cases.specs.Claims.{settling, tally, InverterDetermined, SharedDetermined, FilteredDetermined, InverterLaws};
 
 // How many rows the proved table has; that they hold, that none is missing, and the laws of division and of faults used once.
 pub fn bench_rows() -> usize
@@ -61,10 +61,12 @@ pub fn delay_rows() -> usize
     15
 }
 
-// How many cases of an inertial delay are played; that they leave what they should, and when a ninth transaction is a fault.
+// How many cases of an inertial delay are played; that they leave what they should, when a ninth transaction is a fault, and that
+// picks in another order leave the same pending.
 pub fn inertial_cases() -> usize
     ensures { λ r. ⌜ r ≡ length inertialCases ⌝ }
     ensures { λ r. ⌜ InertialPlayed ⌝ }
+    ensures { λ r. ⌜ FilteredDetermined ⌝ }
 {
     8
 }
