@@ -35,7 +35,7 @@ withValue (Of x) next = next x
 unfoldable pub withDelay : Value → (ℕ → Effect) → Effect
 withDelay v next = withValue v (λ x. ltZ (int x) (pos 0) ⇒ Stop (failure noNode 2) ∣ next (natAbs (int x)))
 
--- how an assignment of the kind delays
+-- "Statement kind 7 is the inertial form of kind 2": how an assignment of the kind delays
 abbrev pub mechanismOf : ℕ → Mechanism
 mechanismOf kind = eqb kind 7 ⇒ Inertial ∣ Transport
 

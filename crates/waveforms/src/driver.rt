@@ -5,8 +5,8 @@ ghost use mathlib.Core.List.{[], _∷_, _++_};
 ghost use Prim.Native.Nat.{ℕ, _≤_};
 ghost use lib.ListN.{drop};
 ghost use Rattle.rules.specs.Configuration.{lastTime};
-ghost use Rattle.waveforms.specs.Pending.{drivenOf, wordFor, pendingOf, firstTime, NoneBefore};
 ghost use Rattle.rules.specs.Statements.{equalValue};
+ghost use Rattle.waveforms.specs.Pending.{drivenOf, wordFor, pendingOf, firstTime, NoneBefore};
 ghost use Rattle.waveforms.specs.Waveform.{Waveform, Kept, RunStart, Nearer, BeforeTime, Without, LeftBy, ScheduledTo, Ahead, Elapsed};
 use rules::driven::Driven;
 use rules::mechanism::Mechanism;
@@ -152,8 +152,8 @@ impl Driver {
         }
     }
 
-    // Removes the pending transactions in delay units or later, adds one there, and removes what the delay does. A ninth is refused:
-    // the driver stays.
+    // Removes the pending transactions in delay units or later and what the delay removes of those before, and adds one. A ninth is
+    // refused: the driver stays.
     pub fn schedule(self, delay: u32, value: Driven, mechanism: Mechanism) -> Scheduled
         requires { ⌜ Waveform self ⌝ }
         requires { ⌜ drivenOf (wordFor value) ≡ value ⌝ }
