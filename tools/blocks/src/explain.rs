@@ -90,6 +90,8 @@ process counter
         b.process();
         b.assign(v, sum);
         b.schedule(s, sum, sum);
+        b.inertial(s, sum, one);
+        b.inertial(s, one, sum);
         b.unless(less, 0);
         b.null();
         b.go(0);
@@ -105,10 +107,12 @@ process counter
 (s0 + 1)
 process 0, statement 0: v0 := (s0 + 1)
 process 0, statement 1: s0 <= (s0 + 1) after (s0 + 1)
-process 0, statement 2: unless (1 < (s0 + 1)) goto l0
-process 1, statement 5: s1 <= null after (s0 + 1)
-process 1, statement 6: wait on s0 until (1 < (s0 + 1))
-process 1, statement 7: wait for (s0 + 1)
+process 0, statement 2: s0 <= inertial (s0 + 1) after 1
+process 0, statement 3: s0 <= inertial 1 after (s0 + 1)
+process 0, statement 4: unless (1 < (s0 + 1)) goto l0
+process 1, statement 7: s1 <= null after (s0 + 1)
+process 1, statement 8: wait on s0 until (1 < (s0 + 1))
+process 1, statement 9: wait for (s0 + 1)
 ";
         assert_eq!(explained(&m, sum), expected);
         assert_eq!(explained(&m, unused), "7\nno statement uses it\n");

@@ -72,6 +72,7 @@ pub fn statement(m: &Model, s: &StatementRecord) -> String {
         3 => format!("unless {} goto l{}", expression(m, s.b), s.a),
         4 => format!("goto l{}", s.a),
         6 => format!("s{} <= null after {}", s.a, expression(m, s.c)),
+        7 => format!("s{} <= inertial {} after {}", s.a, expression(m, s.b), expression(m, s.c)),
         _ => wait(m, s),
     }
 }
@@ -162,7 +163,7 @@ mod tests {
     // that grow past a limit.
     #[test]
     fn a_listing_makes_a_model_that_does_the_same() {
-        let (mut compared, mut with_null, mut with_division, mut with_delay_0, mut failed) = (0, 0, 0, 0, 0);
+        let (mut compared, mut with_null, mut with_inertial, mut with_division, mut with_delay_0, mut failed) = (0, 0, 0, 0, 0, 0);
         for seed in 0..4_000 {
             let mut rng = Rng::new(seed);
             let m = gen::model(&mut rng);
@@ -175,12 +176,14 @@ mod tests {
                 compared += 1;
                 failed += ours.1.len();
                 with_null += m.statements.iter().any(|s| s.kind == 6) as usize;
+                with_inertial += m.statements.iter().any(|s| s.kind == 7) as usize;
                 with_division += m.nodes.iter().any(|d| (16..=18).contains(&d.kind)) as usize;
                 with_delay_0 += m.nodes.iter().any(|d| d.kind == 5 && d.k == 0) as usize;
             }
         }
         assert!(compared > 500, "{compared} models compared");
         assert!(with_null > 100, "{with_null} of them with a null transaction");
+        assert!(with_inertial > 100, "{with_inertial} of them with an inertial assignment");
         assert!(with_division > 100, "{with_division} of them with a division");
         assert!(with_delay_0 > 50, "{with_delay_0} of them with a delay of 0");
         assert!(failed > 30, "{failed} nodes that failed");
@@ -204,7 +207,7 @@ process p1
     }
 
     #[test]
-    fn a_listing_of_null_assignments() {
+    fn a_listing_of_null_and_inertial_assignments() {
         let listed = "\
 signal s0 logic bus 'Z'
 signal s1 logic register 'H'
@@ -220,6 +223,8 @@ process p1
   -- drives s1
   s1 <= null after (- 2)
   s0 <= 'L' after 0
+  s0 <= inertial 'L' after 0
+  s1 <= inertial (not s0) after (- 2)
   wait on s0, s1
 ";
         let blocks = text::model(listed).expect("a listing is a model text");

@@ -6,8 +6,9 @@
 //!     LABEL:                          names the next statement
 //!     null
 //!     VARIABLE := EXPRESSION
-//!     SIGNAL <= EXPRESSION after EXPRESSION
-//!     SIGNAL <= null after EXPRESSION
+//!     SIGNAL <= [transport] EXPRESSION after EXPRESSION
+//!     SIGNAL <= [transport] null after EXPRESSION
+//!     SIGNAL <= inertial EXPRESSION after EXPRESSION
 //!     unless EXPRESSION goto LABEL
 //!     goto LABEL
 //!     wait [on SIGNAL, ..] [until EXPRESSION] [for EXPRESSION]
@@ -15,6 +16,11 @@
 //! TYPE is integer, logic or (variables) boolean. A signal without `bus` or `register` is plain; these two are for logic signals,
 //! and only they take null transactions (the kernel refuses others with 20). `null` is no value. A process gets a driver for each
 //! signal that it assigns, also where it assigns only null.
+//!
+//! Without a word, and with `transport`, an assignment has transport delay (statement kind 2, for null kind 6): what is pending
+//! for earlier times stays. With `inertial` (kind 7) only the transactions right before the new one that have its value stay, so
+//! a pulse shorter than the delay vanishes. VHDL's own default is inertial: there an assignment without a word is what `inertial`
+//! is here. Null has no inertial form.
 //!
 //! EXPRESSION: an integer, a logic value as '0' or 'U', a name, `SIGNAL delayed K`, `not e`, `- e`, `e OP e` with OP one of
 //! `and or xor = < + - * / mod rem`, and parentheses. As in VHDL, `not` binds strongest, then `* / mod rem`, `+ -`, `= <`, and
@@ -24,7 +30,7 @@
 //! `SIGNAL delayed K` is the signal's value K time units ago, K from 1 to 31; `SIGNAL delayed 0` is its value before the latest
 //! delta step, in a wait's condition before the one under way.
 //!
-//! The words `null not and or xor mod rem` are reserved: they name nothing.
+//! The words `null transport inertial not and or xor mod rem` are reserved: they name nothing.
 //!
 //! Orders: `pick P`, `advance`, `settle N`, `read S`, with numbers.
 
@@ -66,8 +72,11 @@ const LEVELS: [&[(&str, u8)]; 4] = [
 /// The level of `+` and `-`; a minus sign binds alike.
 const ADDING: usize = 2;
 
+/// The words that say which delay an assignment to a signal has.
+const DELAYS: [&str; 2] = ["transport", "inertial"];
+
 fn is_reserved(word: &str) -> bool {
-    word == "null" || word == "not" || LEVELS.iter().any(|level| level.iter().any(|o| o.0 == word))
+    word == "null" || word == "not" || DELAYS.contains(&word) || LEVELS.iter().any(|level| level.iter().any(|o| o.0 == word))
 }
 
 fn not_reserved(word: String) -> Result<String, String> {
@@ -200,6 +209,7 @@ impl Reader {
                 Ok(self.node(6, e, 0, 0))
             }
             Token::Word(w) if w == "null" => Err("`null` is no value: it stands alone between `<=` and `after`".to_string()),
+            Token::Word(w) if DELAYS.contains(&w.as_str()) => Err(format!("`{w}` stands right after `<=`, nowhere else")),
             Token::Word(w) if !is_reserved(&w) => {
                 if let Some(v) = self.variables.iter().rposition(|n| *n == w) {
                     return Ok(self.node(3, v as u16, 0, 0));
@@ -285,6 +295,20 @@ impl Reader {
         self.statement(s)
     }
 
+    /// What a signal is assigned, with the word before it: the statement's kind and its b.
+    fn assigned(&mut self) -> Result<(u8, u16), String> {
+        let inertial = self.takes_word("inertial");
+        if !inertial {
+            self.takes_word("transport");
+        }
+        match (inertial, self.takes_word("null")) {
+            (false, false) => Ok((2, self.expression()?)),
+            (false, true) => Ok((6, 0)),
+            (true, false) => Ok((7, self.expression()?)),
+            (true, true) => Err("`null` has no inertial form: it is assigned with `transport`, or without a word".to_string()),
+        }
+    }
+
     fn assignment(&mut self, name: &str) -> Result<(), String> {
         if self.takes(&Token::Sign(":")) {
             self.labels.push((name.to_string(), self.model.statements.len() as u16));
@@ -299,7 +323,7 @@ impl Reader {
         }
         if self.takes(&Token::Sign("<=")) {
             let a = self.signal(name)?;
-            let (kind, b) = if self.takes_word("null") { (6, 0) } else { (2, self.expression()?) };
+            let (kind, b) = self.assigned()?;
             if !self.takes_word("after") {
                 return Err("`after` and a delay are missing".to_string());
             }
@@ -409,6 +433,16 @@ mod tests {
     use super::*;
     use crate::list;
 
+    const WAIT: StatementRecord = StatementRecord { kind: 5, a: 0, b: ABSENT, c: ABSENT, set: 0 };
+
+    fn assign(kind: u8, a: u16, b: u16, c: u16) -> StatementRecord {
+        StatementRecord { kind, a, b, c, set: 0 }
+    }
+
+    fn driver(process: u8, signal: u8) -> DriverRecord {
+        DriverRecord { process, signal }
+    }
+
     // Process card_b assigns only null, and has its driver all the same.
     #[test]
     fn null_assignments() {
@@ -429,10 +463,7 @@ process card_b
         assert_eq!(m.signals, [signal(PLAIN, 2), signal(BUS, 4), signal(REGISTER, 7)]);
         let constant = |kind, k| NodeRecord { kind, a: 0, b: 0, k };
         assert_eq!(m.nodes, [constant(2, 2), constant(1, 2), constant(1, 3), constant(1, 0)]);
-        let wait = StatementRecord { kind: 5, a: 0, b: ABSENT, c: ABSENT, set: 0 };
-        let assign = |kind, a, b, c| StatementRecord { kind, a, b, c, set: 0 };
-        assert_eq!(m.statements, [assign(2, 1, 0, 1), assign(6, 2, 0, 2), wait, assign(6, 1, 0, 3), wait]);
-        let driver = |process, signal| DriverRecord { process, signal };
+        assert_eq!(m.statements, [assign(2, 1, 0, 1), assign(6, 2, 0, 2), WAIT, assign(6, 1, 0, 3), WAIT]);
         assert_eq!(m.drivers, [driver(0, 1), driver(0, 2), driver(1, 1)]);
     }
 
@@ -442,6 +473,66 @@ process card_b
         for (ty, number) in [("logic '0'", 20), ("integer 0", 20), ("logic bus '0'", 0), ("logic register '0'", 0)] {
             let text = format!("signal s {ty}\nprocess p\ns <= null after 0\nwait");
             assert_eq!(model(&text).map(|blocks| judge(&blocks)), Ok(number), "{ty}");
+        }
+    }
+
+    // Process filter assigns only inertially, and has its driver all the same. A listing says `inertial`, and no word for transport.
+    #[test]
+    fn transport_and_inertial_assignments() {
+        let text = "\
+signal pulse logic '0'
+signal line logic bus 'Z'
+process sensor
+  pulse <= '1' after 2
+  pulse <= transport '0' after 3
+  line <= null after 4
+  line <= transport null after 5
+  wait
+process filter
+  line <= inertial pulse after 6
+  wait
+";
+        let blocks = model(text).expect("a model text");
+        let m = load(&blocks).expect("an accepted model");
+        let sensor = [assign(2, 0, 0, 1), assign(2, 0, 2, 3), assign(6, 1, 0, 4), assign(6, 1, 0, 5), WAIT];
+        assert_eq!(m.statements, [&sensor[..], &[assign(7, 1, 6, 7), WAIT]].concat());
+        assert_eq!(m.drivers, [driver(0, 0), driver(0, 1), driver(1, 1)]);
+        let listed = "\
+signal s0 logic '0'
+signal s1 logic bus 'Z'
+process p0
+  -- drives s0
+  -- drives s1
+  s0 <= '1' after 2
+  s0 <= '0' after 3
+  s1 <= null after 4
+  s1 <= null after 5
+  wait
+process p1
+  -- drives s1
+  s1 <= inertial s0 after 6
+  wait
+";
+        assert_eq!(list::model(&m), listed);
+        assert_eq!(model(listed), Ok(blocks));
+    }
+
+    // Wrong types are the kernel's to refuse.
+    #[test]
+    fn an_inertial_assignment_obeys_the_types() {
+        for (ty, value, delay, number) in [
+            ("logic '0'", "'1'", "2", 0),
+            ("logic bus 'Z'", "'1'", "2", 0),
+            ("logic register '0'", "'1'", "2", 0),
+            ("integer 0", "1", "2", 0),
+            ("logic '0'", "1", "2", 7),
+            ("integer 0", "'1'", "2", 7),
+            ("integer 0", "s = 1", "2", 7),
+            ("logic '0'", "'1'", "'1'", 7),
+            ("integer 0", "1", "s = 1", 7),
+        ] {
+            let text = format!("signal s {ty}\nprocess p\ns <= inertial {value} after {delay}\nwait");
+            assert_eq!(model(&text).map(|blocks| judge(&blocks)), Ok(number), "{text}");
         }
     }
 
@@ -501,6 +592,9 @@ process p0
             ("v3 := v0 = - v1 / v2", "v3 := (v0 = (- (v1 / v2)))"),
             ("v3 := not v3 and v0 mod v1 = 0", "v3 := ((not v3) and ((v0 mod v1) = 0))"),
             ("s0 <= v0 / v1 after v0 mod 10", "s0 <= (v0 / v1) after (v0 mod 10)"),
+            ("s0 <= transport - v0 * v1 after v2 + 1", "s0 <= (- (v0 * v1)) after (v2 + 1)"),
+            ("s0 <= inertial - v0 * v1 after v2 + 1", "s0 <= inertial (- (v0 * v1)) after (v2 + 1)"),
+            ("s0 <= inertial(v0)after(v1)", "s0 <= inertial v0 after v1"),
             ("wait until v0 rem v1 = 0 for v0 * v1", "wait until ((v0 rem v1) = 0) for (v0 * v1)"),
         ] {
             let blocks = model(&format!("{OPERANDS}{read}")).expect(read);
@@ -576,8 +670,8 @@ process p0
     }
 
     #[test]
-    fn operators_and_null_are_no_names() {
-        for word in ["mod", "rem", "and", "or", "xor", "not"] {
+    fn reserved_words_are_no_names() {
+        for word in ["mod", "rem", "and", "or", "xor", "not", "transport", "inertial"] {
             for text in ["signal W integer 0", "process W", "process p\nvariable W integer 0", "process p\nW:", "process p\nW := 3"]
             {
                 let line = text.lines().count();
@@ -585,9 +679,49 @@ process p0
                 assert_eq!(model(&text.replace('W', word)), Err(error), "{word} in {text}");
             }
         }
-        for name in ["modulus", "rem_1", "remainder", "Mod"] {
+        for name in ["modulus", "rem_1", "remainder", "Mod", "transporter", "inertial_1", "Inertial"] {
             let text = format!("signal {name} integer 7\nprocess p\n{name} <= {name} mod 3 after 0");
             assert_eq!(model(&text).map(|blocks| judge(&blocks)), Ok(0), "{name}");
+        }
+    }
+
+    #[test]
+    fn wrong_words_of_delay_are_told() {
+        let missing = "something is missing at the end of the line";
+        let no_delay = "`after` and a delay are missing";
+        let no_value = "`null` is no value: it stands alone between `<=` and `after`";
+        let no_inertial_null = "`null` has no inertial form: it is assigned with `transport`, or without a word";
+        let transport = "`transport` stands right after `<=`, nowhere else";
+        let inertial = "`inertial` stands right after `<=`, nowhere else";
+        for (statement, error) in [
+            ("s <= inertial null after 0", no_inertial_null),
+            ("s <= inertial null", no_inertial_null),
+            ("s <= inertial not null after 0", no_value),
+            ("s <= transport not null after 0", no_value),
+            ("s <= transport null", no_delay),
+            ("s <= transport '1'", no_delay),
+            ("s <= inertial '1'", no_delay),
+            ("s <= '1' inertial after 0", no_delay),
+            ("s <= transport", missing),
+            ("s <= inertial", missing),
+            ("s <= inertial '1' after", missing),
+            ("s <= inertial '1' after 0 0", "`0` is one too many"),
+            ("s <= inertial transport '1' after 0", transport),
+            ("s <= transport inertial '1' after 0", inertial),
+            ("s <= inertial inertial '1' after 0", inertial),
+            ("s <= not inertial '1' after 0", inertial),
+            ("s <= (inertial '1') after 0", inertial),
+            ("s <= '1' after transport 2", transport),
+            ("v := inertial '1'", inertial),
+            ("wait until transport", transport),
+            ("wait on inertial", "there is no signal `inertial`"),
+            ("s inertial <= '1' after 0", "`s` begins no item"),
+            ("s <= Inertial '1' after 0", "there is no signal `Inertial`"),
+            ("t <= inertial '1' after 0", "there is no signal `t`"),
+            ("v <= inertial '1' after 0", "there is no signal `v`"),
+        ] {
+            let text = format!("signal s logic bus 'Z'\nprocess p\nvariable v logic '0'\n{statement}");
+            assert_eq!(model(&text), Err(format!("line 4: {error}")), "{statement}");
         }
     }
 
