@@ -3,6 +3,7 @@
 mod arithmetic;
 mod delay_zero;
 mod failing_node;
+mod inertial;
 mod nulls;
 
 use crate::builder::Builder;
@@ -752,7 +753,7 @@ fn fields() {
         |b| b.m.nodes[8].k = 1,
         |b| b.m.nodes[9].b = 1,
         |b| b.m.statements[0].a = 1,
-        |b| b.m.statements[0].kind = 7,
+        |b| b.m.statements[0].kind = 8,
         |b| b.m.statements[1].a = 3,
         |b| b.m.statements[1].b = 13,
         |b| b.m.statements[1].b = ABSENT,

@@ -66,6 +66,14 @@ impl Builder {
         self.node(2, 0, 0, k as i32)
     }
 
+    /// A constant of this type.
+    pub fn constant(&mut self, ty: u8, k: i32) -> u16 {
+        match ty {
+            INTEGER => self.integer(k),
+            _ => self.logic(k as u8),
+        }
+    }
+
     pub fn read_variable(&mut self, variable: u16) -> u16 {
         self.node(3, variable, 0, 0)
     }
@@ -109,6 +117,11 @@ impl Builder {
 
     pub fn schedule(&mut self, signal: u16, b: u16, c: u16) -> u16 {
         self.statement(2, signal, b, c, 0)
+    }
+
+    /// An inertial assignment.
+    pub fn inertial(&mut self, signal: u16, b: u16, c: u16) -> u16 {
+        self.statement(7, signal, b, c, 0)
     }
 
     pub fn unless(&mut self, b: u16, target: u16) -> u16 {

@@ -132,6 +132,66 @@ pub fn releases(kind: u8, list: &[(i32, Carried)]) -> Builder {
     b
 }
 
+/// What a process does with its driver: assigns a value, by transport or inertial, or
+/// null, each after a delay; or waits for a time.
+#[derive(Clone, Copy, Debug)]
+pub enum Act {
+    Transport(i32, i32),
+    Inertial(i32, i32),
+    Null(i32),
+    Wait(i32),
+}
+
+/// Process 0 does this with its driver of a signal of this type and kind, then waits;
+/// process 1 waits on the signal.
+pub fn acts(ty: u8, kind: u8, list: &[Act]) -> Builder {
+    let mut b = Builder::new();
+    let s = b.signal_of(ty, kind, 2);
+    b.driver(0, s);
+    b.process();
+    for &act in list {
+        match act {
+            Act::Transport(value, delay) => {
+                let (value, delay) = (b.constant(ty, value), b.integer(delay));
+                b.schedule(s, value, delay)
+            }
+            Act::Inertial(value, delay) => {
+                let (value, delay) = (b.constant(ty, value), b.integer(delay));
+                b.inertial(s, value, delay)
+            }
+            Act::Null(delay) => {
+                let delay = b.integer(delay);
+                b.release(s, delay)
+            }
+            Act::Wait(time) => {
+                let time = b.integer(time);
+                b.wait(0, ABSENT, time)
+            }
+        };
+    }
+    b.wait(0, ABSENT, ABSENT);
+    b.process();
+    b.wait(1 << s, ABSENT, ABSENT);
+    b
+}
+
+/// A pulse of value 3 and this width, both its edges inertial with this delay.
+pub fn pulse(ty: u8, kind: u8, width: i32, delay: i32) -> Builder {
+    let (rise, fall) = (Act::Inertial(3, delay), Act::Inertial(2, delay));
+    acts(ty, kind, &[rise, Act::Wait(width), fall])
+}
+
+/// Transport transactions with these values after 1, 2 and so on; null where there is
+/// none.
+pub fn row(values: &[Carried]) -> Vec<Act> {
+    let acts = values.iter().zip(1..);
+    acts.map(|(&value, delay)| match value {
+        Some(value) => Act::Transport(value, delay),
+        None => Act::Null(delay),
+    })
+    .collect()
+}
+
 /// A null after x + y on a bus that has eight transactions pending.
 pub fn null_after(x: i32, y: i32) -> Builder {
     let eight: Vec<(i32, Carried)> = (1..=8).map(|n| (n, (n % 2 == 0).then_some(3))).collect();
@@ -516,8 +576,7 @@ fn pulses(ty: u8, start: i32, list: &[(i32, i32)]) -> Builder {
     let zero = b.integer(0);
     b.process();
     for &(value, time) in list {
-        let kind = if ty == INTEGER { 1 } else { 2 };
-        let (value, time) = (b.node(kind, 0, 0, value), b.integer(time));
+        let (value, time) = (b.constant(ty, value), b.integer(time));
         b.schedule(s, value, zero);
         b.wait(0, ABSENT, time);
     }
@@ -804,6 +863,64 @@ fn null_sessions(add: &mut impl FnMut(String, &Builder, Vec<u8>)) {
     }
 }
 
+/// Inertial assignments behind all that may be pending.
+fn inertial_sessions(add: &mut impl FnMut(String, &Builder, Vec<u8>)) {
+    for (ty, kind) in [(INTEGER, PLAIN), (LOGIC, PLAIN), (LOGIC, REGISTER)] {
+        for (width, delay) in [(0, 0), (0, 1), (1, 1), (2, 1), (2, 3), (3, 3), (4, 3)] {
+            add(
+                format!("a pulse of {width}, delay {delay}, type {ty}, kind {kind}"),
+                &pulse(ty, kind, width, delay),
+                watched(8),
+            );
+        }
+    }
+    let (one, other, null) = (Some(3), Some(2), None);
+    for (n, values) in [
+        &[][..],
+        &[one],
+        &[other],
+        &[null],
+        &[one, one, one],
+        &[one, other, one],
+        &[other, one, one],
+        &[one, null, one],
+        &[one, one, null],
+        &[null, null],
+        &[one; 7],
+        &[one; 8],
+        &[other; 8],
+        &[null; 8],
+        &[other, one, one, one, one, one, one, one],
+        &[one, one, one, one, one, one, one, other],
+        // H beside 1.
+        &[one, Some(7)],
+    ]
+    .into_iter()
+    .enumerate()
+    {
+        let many = values.len() as i32;
+        for delay in [0, many - 1, many, many + 1, many + 2] {
+            let last = Act::Inertial(3, delay.max(0));
+            add(
+                format!("an inertial one after {delay} behind row {n}"),
+                &acts(LOGIC, BUS, &[row(values), vec![last]].concat()),
+                watched(4),
+            );
+        }
+    }
+    for (old, new) in [(-7, 7), (0, 256), (1, 65_537), (-1, TOP)] {
+        let list = [Act::Transport(old, 1), Act::Inertial(new, 2)];
+        let name = format!("an inertial {new} behind {old}");
+        add(name, &acts(INTEGER, PLAIN, &list), watched(4));
+    }
+    for (value, delay, _) in scheduled_faults() {
+        let mut model = scheduled(value, delay);
+        model.m.statements[0].kind = 7;
+        let name = format!("an inertial one of {value:?} after {delay:?}");
+        add(name, &model, watched(3));
+    }
+}
+
 /// Nodes that fail, in picks and in a delta step.
 fn failing_sessions(add: &mut impl FnMut(String, &Builder, Vec<u8>)) {
     let picks = |n: u8| orders(&[(PICK, 0, 0), (PICK, n, 0), (PICK, 0, 0), (SETTLE, 0, 9)]);
@@ -910,6 +1027,7 @@ pub fn sessions() -> Vec<Case> {
         );
     }
     null_sessions(&mut add);
+    inertial_sessions(&mut add);
     failing_sessions(&mut add);
     delay_zero_sessions(&mut add);
     for turns in [998, 999, 1_000, 1_001, 1_002] {

@@ -44,12 +44,48 @@ pub const TIME_LIMIT: u64 = 1_000_000_000_000;
 /// What a transaction carries: a value, or null where it is None.
 pub type Carried = Option<i32>;
 
+/// A pending transaction: its time and what it carries.
+pub type Pending = (u64, Carried);
+
 #[derive(Clone, Debug, Default, PartialEq, Eq)]
 pub struct Driver {
     /// The current transaction; a null one turns the driver off.
     pub current: Carried,
-    /// Pending transactions (time, value or null), rising in time.
-    pub wave: Vec<(u64, Carried)>,
+    /// Pending transactions, rising in time.
+    pub wave: Vec<Pending>,
+}
+
+impl Driver {
+    /// Removes the pending ones at the new one's time or later and adds it; of those
+    /// before it an inertial one leaves the marked alone. A ninth is a fault, and the
+    /// driver stays.
+    fn schedule(&mut self, new: Pending, inertial: bool) -> Result<(), Fault> {
+        let before = self.wave.iter().take_while(|t| t.0 < new.0).count();
+        let marks = match inertial {
+            true => marks(&self.wave[..before], new.1),
+            false => [true; WAVEFORM],
+        };
+        if marks[..before].iter().filter(|&&mark| mark).count() == WAVEFORM {
+            return Err(Fault::of_statement(NINTH));
+        }
+        self.wave.truncate(before);
+        let mut marks = marks.into_iter();
+        self.wave.retain(|_| marks.next() == Some(true));
+        self.wave.push(new);
+        Ok(())
+    }
+}
+
+/// The marks of the pending ones before a new one, which is marked itself: going back
+/// from it, each whose next one is marked and has an equal value. Null equals none.
+fn marks(wave: &[Pending], new: Carried) -> [bool; WAVEFORM] {
+    let mut marks = [false; WAVEFORM];
+    let (mut marked, mut next) = (true, new);
+    for (mark, &(_, carried)) in marks.iter_mut().zip(wave).rev() {
+        marked = marked && carried.is_some() && carried == next;
+        (*mark, next) = (marked, carried);
+    }
+    marks
 }
 
 #[derive(Clone, Copy, Debug, Default, PartialEq, Eq)]
@@ -273,7 +309,7 @@ impl Config {
         }
     }
 
-    /// Kinds 2 and 6: gives the process's driver of signal a, after c, what the
+    /// Kinds 2, 6 and 7: gives the process's driver of signal a, after c, what the
     /// transaction carries; Err is the fault.
     fn schedule(
         &mut self,
@@ -283,15 +319,8 @@ impl Config {
         carried: Carried,
     ) -> Result<(), Fault> {
         let at = self.time + self.delay(m, s.c)?;
-        let driver = driver_of(m, process, s.a as usize).expect("kinds 2 and 6 have their driver");
-        let wave = &mut self.drivers[driver].wave;
-        let kept = wave.iter().take_while(|t| t.0 < at).count();
-        if kept == WAVEFORM {
-            return Err(Fault::of_statement(NINTH));
-        }
-        wave.truncate(kept);
-        wave.push((at, carried));
-        Ok(())
+        let driver = driver_of(m, process, s.a as usize).expect("an assignment has its driver");
+        self.drivers[driver].schedule((at, carried), s.kind == 7)
     }
 
     /// Runs one statement of the process; Err is its fault.
@@ -303,7 +332,7 @@ impl Config {
             1 => {
                 self.variables[s.a as usize] = self.evaluate(m, s.b)?.raw();
             }
-            2 => {
+            2 | 7 => {
                 let value = self.evaluate(m, s.b)?.raw();
                 self.schedule(m, process, s, Some(value))?;
             }

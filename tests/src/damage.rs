@@ -3,6 +3,7 @@
 
 mod arithmetic;
 mod guarded;
+mod inertial;
 
 use crate::builder::Builder;
 use crate::gen;
@@ -12,6 +13,7 @@ use crate::numbers;
 use crate::rng::Rng;
 pub use arithmetic::ARITHMETIC;
 pub use guarded::GUARDED;
+pub use inertial::INERTIAL;
 
 /// A model and bytes to change in its records (kind, record, byte, value).
 struct Subject {
@@ -302,14 +304,9 @@ fn some<T>(rng: &mut Rng, list: &[T], fits: impl Fn(&T) -> bool) -> Option<usize
     one_of(rng, (0..list.len()).filter(|&n| fits(&list[n])))
 }
 
-/// Does the statement assign a signal: is it kind 2 or 6?
-fn assigns(s: &StatementRecord) -> bool {
-    s.kind == 2 || s.kind == 6
-}
-
 /// Does the statement name a delay c?
 fn delays(s: &StatementRecord) -> bool {
-    assigns(s) || s.kind == 5
+    assigns_signal(s) || s.kind == 5
 }
 
 /// Adds a node; gives its number.
@@ -453,7 +450,7 @@ const FIELD: &[Way] = &[
     }),
     ("a statement's kind", |rng, s| {
         let n = rng.below(s.m.statements.len());
-        s.m.statements[n].kind = rng.choose(&[7, 8, 128, 255]);
+        s.m.statements[n].kind = rng.choose(&[8, 9, 128, 255]);
         Some(())
     }),
     ("an assigned variable", |rng, s| {
@@ -462,12 +459,12 @@ const FIELD: &[Way] = &[
         Some(())
     }),
     ("an assigned signal", |rng, s| {
-        let n = some(rng, &s.m.statements, assigns)?;
+        let n = some(rng, &s.m.statements, assigns_signal)?;
         s.m.statements[n].a = missing(rng, s.m.signals.len(), 65_535);
         Some(())
     }),
     ("a statement's b", |rng, s| {
-        let uses = |s: &StatementRecord| (1..=3).contains(&s.kind) || s.kind == 5;
+        let uses = |s: &StatementRecord| [1, 2, 3, 5, 7].contains(&s.kind);
         let n = some(rng, &s.m.statements, uses)?;
         let most = 65_535 - (s.m.statements[n].kind == 5) as usize;
         s.m.statements[n].b = missing(rng, s.m.nodes.len(), most);
@@ -662,7 +659,7 @@ const TYPE: &[Way] = &[
     }),
     ("an assigned value's type", |rng, s| {
         let types = node_types(&s.m)?;
-        let n = some(rng, &s.m.statements, |s| s.kind == 1 || s.kind == 2)?;
+        let n = some(rng, &s.m.statements, |s| s.kind == 1 || assigns_value(s))?;
         let t = s.m.statements[n];
         let ty = match t.kind {
             1 => s.m.variables[t.a as usize].ty,
@@ -731,6 +728,48 @@ fn variables_used(m: &Model) -> Vec<bool> {
     used
 }
 
+/// Removes an assignment's driver.
+fn remove_driver(s: &mut Subject, n: usize) -> Option<()> {
+    let p = process_of(&s.m, n);
+    let d = driver_of(&s.m, p, s.m.statements[n].a as usize)?;
+    s.m.drivers.remove(d);
+    Some(())
+}
+
+/// Gives an assignment such a signal that its process does not drive.
+fn undriven(
+    rng: &mut Rng,
+    s: &mut Subject,
+    n: usize,
+    fits: impl Fn(&SignalRecord) -> bool,
+) -> Option<()> {
+    let p = process_of(&s.m, n);
+    let free = |&x: &usize| fits(&s.m.signals[x]) && driver_of(&s.m, p, x).is_none();
+    s.m.statements[n].a = one_of(rng, (0..s.m.signals.len()).filter(free))? as u16;
+    Some(())
+}
+
+/// Puts another process's variable, or what one operator makes of it, in place of an
+/// expression of statement n.
+fn foreign(rng: &mut Rng, s: &mut Subject, n: usize, role: Role) -> Option<()> {
+    let p = process_of(&s.m, n);
+    let (_, old) = expressions(&s.m.statements[n])
+        .into_iter()
+        .find(|e| e.0 == role)?;
+    let ty = node_types(&s.m)?[old as usize];
+    let fits = |v: &VariableRecord| v.ty == ty && v.process as usize != p;
+    let v = some(rng, &s.m.variables, fits)? as u16;
+    if s.m.nodes.len() > 398 {
+        return None;
+    }
+    let mut new = node(&mut s.m, 3, v, 0);
+    if rng.chance(1, 2) {
+        new = node(&mut s.m, if ty == INTEGER { 10 } else { 6 }, new, 0);
+    }
+    set_expression(&mut s.m.statements[n], role, new);
+    Some(())
+}
+
 fn add_driver(m: &mut Model, process: u8, signal: u8) {
     m.drivers.push(DriverRecord { process, signal });
     m.drivers.sort_by_key(|d| (d.process, d.signal));
@@ -774,19 +813,13 @@ const OWNER: &[Way] = &[
         Some(())
     }),
     ("a driver removed", |rng, s| {
-        let n = some(rng, &s.m.statements, assigns)?;
-        let p = process_of(&s.m, n);
-        let d = driver_of(&s.m, p, s.m.statements[n].a as usize)?;
-        s.m.drivers.remove(d);
-        Some(())
+        let n = some(rng, &s.m.statements, assigns_signal)?;
+        remove_driver(s, n)
     }),
     ("a signal without a driver here", |rng, s| {
-        let n = some(rng, &s.m.statements, assigns)?;
-        let p = process_of(&s.m, n);
+        let n = some(rng, &s.m.statements, assigns_signal)?;
         let ty = s.m.signals[s.m.statements[n].a as usize].ty;
-        let free = |&x: &usize| s.m.signals[x].ty == ty && driver_of(&s.m, p, x).is_none();
-        s.m.statements[n].a = one_of(rng, (0..s.m.signals.len()).filter(free))? as u16;
-        Some(())
+        undriven(rng, s, n, |x| x.ty == ty)
     }),
     ("another process's variable assigned", |rng, s| {
         let n = some(rng, &s.m.statements, |s| s.kind == 1)?;
@@ -1182,7 +1215,7 @@ pub fn limits() -> Vec<(String, Vec<u8>, u32)> {
     });
     let kinds = [(0, 5), (19, 5), (255, 5)];
     list.field("node kind", &kinds, |m, x| m.nodes[0].kind = x as u8);
-    let kinds = [(6, 5), (7, 5), (255, 5)];
+    let kinds = [(6, 5), (8, 5), (255, 5)];
     list.field("statement kind", &kinds, |m, x| {
         m.statements[0].kind = x as u8
     });
@@ -1311,6 +1344,7 @@ pub fn limits() -> Vec<(String, Vec<u8>, u32)> {
 
     guarded::limits(&mut list);
     arithmetic::limits(&mut list);
+    inertial::limits(&mut list);
 
     // Drivers and variables.
     list.changed(8, "a driver twice", |b| b.driver(1, 1));

@@ -163,7 +163,7 @@ impl Findings {
         let (_, random, _) = random.ok_or("no random sessions")?;
         random.require("random sessions: number", &[0], RANDOM / 2)?;
         self.columns
-            .require("random sessions:", &COLUMNS, RANDOM / 40)?;
+            .require("random sessions:", &COLUMNS, RANDOM / 50)?;
         match random.sum() - random.of(0) {
             refused if refused < RANDOM / 20 => Err(format!("{refused} random sessions refused")),
             _ => Ok(()),

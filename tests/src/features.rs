@@ -5,12 +5,15 @@
 pub mod arithmetic;
 pub mod delay_zero;
 pub mod failing_node;
+pub mod inertial;
 pub mod nulls;
 
 use crate::cycle::{Config, Process, Step, Value, READY, WAITING};
 use crate::damage::{self, Ways};
-use crate::model::{expressions, operands, Model, NodeRecord, Role, ABSENT};
-use crate::session::{ADVANCE, PICK, SETTLE};
+use crate::model::{assigns_signal, expressions, operands};
+use crate::model::{DriverRecord, Model, NodeRecord, Role, ABSENT};
+use crate::rng::Rng;
+use crate::session::{self, ADVANCE, ANSWER, ORDER, PICK, SETTLE};
 use std::collections::BTreeSet;
 
 /// Names of what was seen.
@@ -69,12 +72,29 @@ pub const FEATURES: &[Feature] = &[
         of_model: delay_zero::of_model,
         of_session: delay_zero::of_session,
     },
+    Feature {
+        name: "inertial assignments",
+        damages: damage::INERTIAL,
+        model: inertial::in_models,
+        session: inertial::in_sessions,
+        fault: || inertial::FAULT.to_vec(),
+        of_model: inertial::of_model,
+        of_session: inertial::of_session,
+    },
 ];
 
 /// The damages of the features that have some.
 pub fn damages() -> Vec<Ways> {
     let all = FEATURES.iter().map(|f| f.damages);
     all.filter(|d| !d.names().is_empty()).collect()
+}
+
+/// A model damaged in one of the features' ways, each as likely: the number, how, and
+/// the bytes.
+pub fn damaged(rng: &mut Rng) -> (u32, &'static str, Vec<u8>) {
+    let all = damages();
+    let many: Vec<usize> = all.iter().map(|d| d.names().len()).collect();
+    all[rng.weighted(&many)].damaged(rng)
 }
 
 /// All that the features show of a model.
@@ -108,6 +128,16 @@ fn in_roles<'a>(
     let roles: Vec<Role> = all.filter(|e| trees[e.1 as usize]).map(|e| e.0).collect();
     let had = names.iter().filter(move |row| roles.contains(&row.1));
     had.map(|row| row.0)
+}
+
+/// The kinds of the assignments to a driver.
+fn assignments(m: &Model, d: &DriverRecord) -> BTreeSet<u8> {
+    let p = m.processes[d.process as usize];
+    let own = &m.statements[p.first as usize..(p.first + p.count) as usize];
+    let given = own
+        .iter()
+        .filter(|s| assigns_signal(s) && s.a == d.signal as u16);
+    given.map(|s| s.kind).collect()
 }
 
 /// Is it a boolean `and` or `or` whose a decides?
@@ -155,6 +185,17 @@ fn ready_place(c: &Config, process: usize) -> Option<usize> {
     let ready = |p: &&Process| p.standing == READY;
     let process = c.processes.get(process).filter(ready);
     process.map(|p| p.place as usize)
+}
+
+/// The answers to the orders and the end configuration.
+fn play(m: &Model, orders: &[u8]) -> (Vec<u8>, Config) {
+    let mut c = Config::first(m);
+    let mut answers = vec![0; 4 * orders.len()];
+    let pairs = orders.chunks_exact(ORDER);
+    for (order, answer) in pairs.zip(answers.chunks_exact_mut(ANSWER)) {
+        session::play(m, &mut c, order, answer);
+    }
+    (answers, c)
 }
 
 /// Advances; gives the conditions that a delta step asked for.

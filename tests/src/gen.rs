@@ -2,6 +2,7 @@
 
 mod calculation;
 mod edges;
+mod pulses;
 
 use crate::builder::Builder;
 use crate::cycle::{Config, READY, STOPPED};
@@ -35,6 +36,8 @@ struct Maker<'r> {
     wild: bool,
     /// Delays of 0 occur.
     deltas: bool,
+    /// So many assignments of four are inertial.
+    inertial: usize,
 }
 
 impl Maker<'_> {
@@ -390,6 +393,14 @@ impl Maker<'_> {
         self.node(14, trap, k, 0)
     }
 
+    /// A transport or an inertial assignment.
+    fn schedule(&mut self, signal: u16, value: u16, delay: u16) {
+        match self.rng.chance(self.inertial, 4) {
+            true => self.b.inertial(signal, value, delay),
+            false => self.b.schedule(signal, value, delay),
+        };
+    }
+
     /// A process that changes one of its signals time and again.
     fn clock(&mut self, process: u8, driven: &[u16]) {
         let s = self.rng.choose(driven);
@@ -409,7 +420,7 @@ impl Maker<'_> {
             let next = self.node(11, read, step, 0);
             self.turned(next)
         };
-        self.b.schedule(s, value, delay);
+        self.schedule(s, value, delay);
         let all = u32::MAX >> (32 - self.b.m.signals.len());
         match self.rng.below(4) {
             0 => self.b.wait(1 << s, ABSENT, ABSENT),
@@ -447,7 +458,7 @@ impl Maker<'_> {
         let on = self.rng.below(5) as i32;
         let off = on + self.rng.range(-1, 5) as i32;
         let (on, off) = (self.node(1, 0, 0, on), self.node(1, 0, 0, off.max(0)));
-        self.b.schedule(s, value, on);
+        self.schedule(s, value, on);
         self.b.release(s, off);
         let turn = self.rng.range(1, 9) as i32;
         let turn = self.node(1, 0, 0, turn);
@@ -533,7 +544,7 @@ impl Maker<'_> {
                         let ty = self.b.m.signals[s as usize].ty;
                         let value = self.value(ty, process);
                         let delay = self.delay(process);
-                        self.b.schedule(s, value, delay);
+                        self.schedule(s, value, delay);
                     }
                 }
                 3 => {
@@ -550,11 +561,14 @@ impl Maker<'_> {
         }
     }
 
-    /// Transactions with rising delays on one driver, around eight of them.
+    /// Transactions with rising delays on one driver, around eight of them. Where inertial
+    /// ones occur, some bursts have one value for all of them.
     fn burst(&mut self, process: u8, driven: &[u16], left: usize) {
         let s = self.rng.choose(driven);
         let ty = self.b.m.signals[s as usize].ty;
         let many = (self.rng.range(7, 11) as usize).min(left);
+        let same = self.inertial > 0 && self.rng.chance(1, 6);
+        let same = same.then(|| self.expression(ty, process, 3));
         let mut k = 0;
         for _ in 0..many {
             k += self.rng.weighted(&[1, 12, 6, 2]) as i32;
@@ -563,7 +577,9 @@ impl Maker<'_> {
             } else {
                 self.reuse(INTEGER, process, 1).expect("a constant exists")
             };
-            if self.guarded(s) && self.rng.chance(1, 2) {
+            if let Some(value) = same {
+                self.schedule(s, value, delay);
+            } else if self.guarded(s) && self.rng.chance(1, 2) {
                 self.b.release(s, delay);
             } else {
                 let value = self.expression(ty, process, 3);
@@ -636,8 +652,10 @@ pub fn model_of(rng: &mut Rng, wild: bool) -> Model {
         readers: vec![],
         wild,
         deltas: false,
+        inertial: 0,
     };
     maker.deltas = maker.rng.chance(1, 3);
+    maker.inertial = maker.rng.choose(&[0, 0, 1, 2, 4]);
     // Plain signals alone in two models of five.
     let shared = maker.rng.chance(3, 5);
     for _ in 0..signals {
@@ -708,12 +726,23 @@ pub fn model_of(rng: &mut Rng, wild: bool) -> Model {
     maker.b.m
 }
 
-/// A random accepted model: one that calculates, one that looks a delta back, a
-/// tame or a wild one.
+/// A random accepted model.
 pub fn model(rng: &mut Rng) -> Model {
-    match rng.weighted(&[2, 1, 17]) {
+    weighted_model(rng, &[2, 1, 1, 17])
+}
+
+/// A random accepted model for a long run.
+pub fn run_model(seed: u64) -> Model {
+    weighted_model(&mut Rng::new(seed), &[3, 3, 3, 13])
+}
+
+/// One that calculates, one that looks a delta back, one of pulses, a tame or a wild
+/// one, each as likely as its weight.
+fn weighted_model(rng: &mut Rng, weights: &[usize; 4]) -> Model {
+    match rng.weighted(weights) {
         0 => calculation::model(rng),
         1 => edges::model(rng),
+        2 => pulses::model(rng),
         _ => {
             let wild = rng.chance(2, 5);
             model_of(rng, wild)
@@ -922,8 +951,8 @@ fn list_length(rng: &mut Rng) -> usize {
 fn delta_marathon(rng: &mut Rng) -> (Model, Vec<u8>) {
     let mut b = Builder::new();
     let forms = rng.below(6);
-    let kind = if forms == 5 { BUS } else { PLAIN };
-    let s = b.signal_of(LOGIC, kind, rng.choose(&[2, 3]));
+    let line = if forms == 5 { BUS } else { PLAIN };
+    let s = b.signal_of(LOGIC, line, rng.choose(&[2, 3]));
     let t = b.signal(INTEGER, 0);
     let v = b.variable(INTEGER, 0, 0);
     let last = rng.range(996, 1_003) as i32;
@@ -931,6 +960,8 @@ fn delta_marathon(rng: &mut Rng) -> (Model, Vec<u8>) {
     let one = b.integer(1);
     let last = b.integer(last);
     let soon = b.integer(rng.range(1, 5) as i32);
+    // Transport or inertial, which is the same after 0.
+    let kind = rng.choose(&[2, 2, 7]);
     let read_s = b.read_signal(s);
     let not_s = b.unary(6, read_s);
     let read_t = b.read_signal(t);
@@ -949,12 +980,12 @@ fn delta_marathon(rng: &mut Rng) -> (Model, Vec<u8>) {
             b.go(again);
         }
         1 => {
-            b.schedule(s, not_s, zero);
+            b.statement(kind, s, not_s, zero, 0);
             b.wait(1 << s, ABSENT, ABSENT);
             b.go(again);
         }
         2 => {
-            b.schedule(t, next_t, zero);
+            b.statement(kind, t, next_t, zero, 0);
             b.wait(1 << t, ABSENT, soon);
             b.go(again);
         }
@@ -975,7 +1006,7 @@ fn delta_marathon(rng: &mut Rng) -> (Model, Vec<u8>) {
             if forms == 3 {
                 b.wait(0, ABSENT, zero);
             } else {
-                b.schedule(s, not_s, zero);
+                b.statement(kind, s, not_s, zero, 0);
                 b.wait(1 << s, ABSENT, ABSENT);
             }
             b.go(again);
@@ -1033,6 +1064,7 @@ fn time_marathon(rng: &mut Rng) -> (Model, Vec<u8>) {
     let not = b.unary(6, read);
     let read_v = b.read_variable(v);
     let next_v = b.binary(11, read_v, one);
+    let kind = rng.choose(&[2, 2, 7]);
     b.process();
     b.wait(0, ABSENT, first);
     match rng.below(3) {
@@ -1041,13 +1073,13 @@ fn time_marathon(rng: &mut Rng) -> (Model, Vec<u8>) {
             b.go(1);
         }
         1 => {
-            b.schedule(s, not, step);
+            b.statement(kind, s, not, step, 0);
             b.wait(1 << s, ABSENT, ABSENT);
             b.go(1);
         }
         _ => {
             b.assign(v, next_v);
-            b.schedule(s, not, step);
+            b.statement(kind, s, not, step, 0);
             b.wait(1 << s, ABSENT, step);
             b.go(1);
         }
@@ -1083,10 +1115,10 @@ pub struct SessionCase {
 pub fn session_case(seed: u64) -> SessionCase {
     let mut rng = Rng::new(seed);
     let rng = &mut rng;
-    let form = rng.weighted(&[666, 80, 12, 12, 12, 8, 130, 80]);
+    let form = rng.weighted(&[680, 90, 13, 13, 13, 9, 140, 88, 90]);
     if form == 1 {
         let (what, model) = if rng.chance(1, 4) {
-            let (_, what, model) = rng.choose(&features::damages()).damaged(rng);
+            let (_, what, model) = features::damaged(rng);
             (what, model)
         } else {
             let rule = rng.choose(numbers::MODEL);
@@ -1133,6 +1165,12 @@ pub fn session_case(seed: u64) -> SessionCase {
             let most = list_length(rng);
             let orders = self::orders(rng, &m, most);
             ("edges", m, orders)
+        }
+        8 => {
+            let m = pulses::model(rng);
+            let most = list_length(rng).max(20);
+            let orders = self::orders(rng, &m, most);
+            ("pulses", m, orders)
         }
         _ => {
             let wild = rng.chance(2, 5);
@@ -1208,7 +1246,7 @@ pub struct ModelCase {
 pub fn model_case(seed: u64) -> ModelCase {
     let mut rng = Rng::new(seed);
     let rng = &mut rng;
-    match rng.weighted(&[20, 42, 9, 13, 16]) {
+    match rng.weighted(&[20, 40, 8, 12, 20]) {
         0 => {
             let m = model(rng);
             let plan = plan(rng, &m);
@@ -1249,7 +1287,7 @@ pub fn model_case(seed: u64) -> ModelCase {
             }
         }
         _ => {
-            let (rule, what, bytes) = rng.choose(&features::damages()).damaged(rng);
+            let (rule, what, bytes) = features::damaged(rng);
             ModelCase {
                 bytes,
                 expected: Some(rule),

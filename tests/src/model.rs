@@ -349,7 +349,7 @@ fn statement_fields_right(m: &Model, number: usize) -> bool {
     match s.kind {
         0 => s.a == 0 && s.b == 0 && s.c == 0 && s.set == 0,
         1 => (s.a as usize) < m.variables.len() && is_node(s.b) && s.c == 0 && s.set == 0,
-        2 => is_signal(s.a) && is_node(s.b) && is_node(s.c) && s.set == 0,
+        2 | 7 => is_signal(s.a) && is_node(s.b) && is_node(s.c) && s.set == 0,
         3 => inside(s.a) && is_node(s.b) && s.c == 0 && s.set == 0,
         4 => inside(s.a) && s.b == 0 && s.c == 0 && s.set == 0,
         5 => {
@@ -424,7 +424,7 @@ fn types_right(m: &Model) -> bool {
     let of = |node: u16| types[node as usize];
     m.statements.iter().all(|s| match s.kind {
         1 => of(s.b) == m.variables[s.a as usize].ty,
-        2 => of(s.b) == m.signals[s.a as usize].ty && of(s.c) == INTEGER,
+        2 | 7 => of(s.b) == m.signals[s.a as usize].ty && of(s.c) == INTEGER,
         3 => of(s.b) == BOOLEAN,
         5 => (s.b == ABSENT || of(s.b) == BOOLEAN) && (s.c == ABSENT || of(s.c) == INTEGER),
         6 => of(s.c) == INTEGER,
@@ -461,7 +461,7 @@ pub fn expressions(s: &StatementRecord) -> Vec<(Role, u16)> {
     use Role::*;
     match s.kind {
         1 => vec![(VariableValue, s.b)],
-        2 => vec![(SignalValue, s.b), (Delay, s.c)],
+        2 | 7 => vec![(SignalValue, s.b), (Delay, s.c)],
         3 => vec![(Unless, s.b)],
         5 => {
             let mut list = vec![(Until, s.b), (For, s.c)];
@@ -484,6 +484,16 @@ pub fn set_expression(s: &mut StatementRecord, role: Role, node: u16) {
 /// The nodes at the roots of a statement's trees.
 pub fn roots(s: &StatementRecord) -> Vec<u16> {
     expressions(s).into_iter().map(|e| e.1).collect()
+}
+
+/// Is it a signal assignment: transport (2), null (6) or inertial (7)?
+pub fn assigns_signal(s: &StatementRecord) -> bool {
+    matches!(s.kind, 2 | 6 | 7)
+}
+
+/// Is it a signal assignment with a value?
+pub fn assigns_value(s: &StatementRecord) -> bool {
+    matches!(s.kind, 2 | 7)
 }
 
 /// Does the tree read variables of this process alone?
@@ -517,7 +527,7 @@ fn ownership_right(m: &Model) -> bool {
         let process = process_of(m, number);
         let own = match s.kind {
             1 => m.variables[s.a as usize].process as usize == process,
-            2 | 6 => driver_of(m, process, s.a as usize).is_some(),
+            2 | 6 | 7 => driver_of(m, process, s.a as usize).is_some(),
             _ => true,
         };
         own && roots(s).into_iter().all(|root| tree_own(m, root, process))

@@ -657,8 +657,8 @@ mod tests {
         assert_eq!((due(1, 400), due(9_999, 200)), ((0, 0, 0), (0, 0, 0)));
         assert_eq!(due(200_000, FEATURE_MODELS), (400, 500, 2_000));
         assert_eq!(due(100_000, FEATURE_SESSIONS), (200, 500, 1_000));
-        let judged = models(4_000, 5, None).unwrap();
-        assert_eq!(judged.require(at_least(8, 10)), Ok(()));
+        let judged = models(6_000, 5, None).unwrap();
+        assert_eq!(judged.require(at_least(12, 10)), Ok(()));
         assert_eq!(limits(None, None).unwrap().require(), Ok(()));
         let played = sessions(6_000, 5, None).unwrap();
         let least = Least {

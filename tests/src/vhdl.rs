@@ -10,6 +10,7 @@
 //! | signal a delayed by k     | `sA_dK <= transport sA after k ns`, k = 0 too    |
 //! | kind 2                    | `<= transport .. after ..`                      |
 //! | kind 6                    | `<= transport null after ..`                    |
+//! | kind 7                    | `<= .. after ..`                                |
 //! | node kinds 15 to 18       | `*`, `/`, `mod`, `rem`, in parentheses          |
 //! | wait on an empty set      | `wait` or `wait for ..`: b is never asked       |
 //! | one unit of time          | 1 ns                                            |
@@ -32,6 +33,16 @@
 //! waveform in which a null follows another element, `'1' after 1 ns, null after
 //! 2 ns`: that is analysed and then lacks a symbol at elaboration. A translation
 //! has no such waveform, so that no model is left out for its guarded signals.
+//!
+//! Kind 7 is VHDL's assignment without a word for its delay, inertial by default. Tried
+//! in single designs and in random ones, GHDL 2.0 does as document 02, item 6, says: of
+//! transactions before the new one those of a run of its value stay, a null or another
+//! value ends the run, and what is before that goes. It has no limit of eight. No model
+//! has an inertial null, so that none tells whether two nulls are equal. Where one
+//! driver of a signal is given a transaction after 0 and, before the next cycle, one of
+//! its drivers an inertial one after more, GHDL goes through the drivers for one that is
+//! due; it fails by itself (an access check in `grt-signals.adb`) at a driver that has
+//! nothing pending. Such a run is compared up to there (`ghdlrun`).
 //!
 //! Delays, of 0 too, are the process by which IEEE 1076-1987, 14.1, defines
 //! `sA'delayed (k ns)`, R <= transport S after T, and not the attribute itself: with
@@ -216,9 +227,10 @@ impl Text<'_> {
         match kind {
             0 => format!("pc := {next};"),
             1 => format!("v{a} := {}; pc := {next};", self.expr(b)),
-            2 => {
+            2 | 7 => {
+                let transport = if kind == 2 { "transport " } else { "" };
                 let (value, delay) = (self.expr(b), self.delay(c));
-                format!("s{a} <= transport {value} after {delay}; pc := {next};")
+                format!("s{a} <= {transport}{value} after {delay}; pc := {next};")
             }
             3 => format!(
                 "if {} then pc := {next}; else pc := {a}; end if;",
@@ -359,6 +371,27 @@ mod tests {
                 "when 0 => s0 <= transport null after 1 ns; pc := 1;",
                 "when 1 => s1 <= transport null after span (integer'(-1)); pc := 2;",
                 "when 2 => s1 <= transport s0_d3 after 1 ns; pc := 0;",
+            ],
+        );
+    }
+
+    #[test]
+    fn transport_and_inertial() {
+        let mut b = Builder::new();
+        let s = b.signal(LOGIC, 2);
+        let v = b.variable(INTEGER, 0, 3);
+        let (high, one, read) = (b.logic(3), b.integer(1), b.read_variable(v));
+        b.process();
+        b.driver(0, s);
+        b.schedule(s, high, one);
+        b.inertial(s, high, one);
+        b.inertial(s, high, read);
+        has(
+            &translate(&b.m, Form::Checked),
+            &[
+                "when 0 => s0 <= transport std_ulogic'('1') after 1 ns; pc := 1;",
+                "when 1 => s0 <= std_ulogic'('1') after 1 ns; pc := 2;",
+                "when 2 => s0 <= std_ulogic'('1') after span (v0); pc := 0;",
             ],
         );
     }

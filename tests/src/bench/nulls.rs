@@ -257,7 +257,7 @@ fn fields_of_lines() {
             |b| b.m.statements[10].c = 13,
             |b| b.m.statements[10].c = ABSENT,
             |b| b.m.statements[10].set = 4,
-            |b| b.m.statements[10].kind = 7,
+            |b| b.m.statements[10].kind = 8,
         ],
         5,
     );

@@ -8,21 +8,11 @@ fn a_null(rng: &mut Rng, s: &Subject) -> Option<usize> {
     some(rng, &s.m.statements, |s| s.kind == 6)
 }
 
-/// Gives a null a signal that its process does not drive.
-fn undriven(rng: &mut Rng, s: &mut Subject, plain: bool) -> Option<()> {
-    let n = a_null(rng, s)?;
-    let p = process_of(&s.m, n);
-    let free =
-        |&x: &usize| (s.m.signals[x].kind == PLAIN) == plain && driver_of(&s.m, p, x).is_none();
-    s.m.statements[n].a = one_of(rng, (0..s.m.signals.len()).filter(free))? as u16;
-    Some(())
-}
-
 /// Makes a null of an assignment to a plain signal of this type.
 fn on_plain(rng: &mut Rng, s: &mut Subject, ty: u8) -> Option<()> {
     let signals = &s.m.signals;
     let plain = |n: u16| signals[n as usize].kind == PLAIN && signals[n as usize].ty == ty;
-    let n = some(rng, &s.m.statements, |t| t.kind == 2 && plain(t.a))?;
+    let n = some(rng, &s.m.statements, |t| assigns_value(t) && plain(t.a))?;
     s.m.statements[n].kind = 6;
     s.m.statements[n].b = 0;
     Some(())
@@ -38,7 +28,7 @@ const FIELD: &[Way] = &[
     ("an integer bus or register", |rng, s| {
         let n = some(rng, &s.m.signals, |s| s.ty == INTEGER)?;
         s.m.signals[n].kind = rng.choose(&[BUS, REGISTER]);
-        let given = |t: &StatementRecord| t.kind == 2 && t.a as usize == n;
+        let given = |t: &StatementRecord| assigns_value(t) && t.a as usize == n;
         if let Some(t) = some(rng, &s.m.statements, given) {
             // A null on it, now and then.
             if rng.chance(1, 2) {
@@ -76,8 +66,8 @@ const FIELD: &[Way] = &[
     }),
     ("a null's kind raised", |rng, s| {
         let n = a_null(rng, s)?;
-        let any = 7 + rng.below(249) as u8;
-        s.m.statements[n].kind = rng.choose(&[7, 8, 255, any]);
+        let any = 8 + rng.below(248) as u8;
+        s.m.statements[n].kind = rng.choose(&[8, 9, 255, any]);
         Some(())
     }),
 ];
@@ -92,28 +82,15 @@ const TYPE: &[Way] = &[("a null's delay that is no integer", |rng, s| {
 const OWNER: &[Way] = &[
     ("a null's driver removed", |rng, s| {
         let n = a_null(rng, s)?;
-        let p = process_of(&s.m, n);
-        let d = driver_of(&s.m, p, s.m.statements[n].a as usize)?;
-        s.m.drivers.remove(d);
-        Some(())
+        remove_driver(s, n)
     }),
     ("a null without a driver here", |rng, s| {
-        undriven(rng, s, false)
+        let n = a_null(rng, s)?;
+        undriven(rng, s, n, |x| x.kind != PLAIN)
     }),
     ("a null's delay of another process", |rng, s| {
         let n = a_null(rng, s)?;
-        let p = process_of(&s.m, n);
-        let fits = |v: &VariableRecord| v.ty == INTEGER && v.process as usize != p;
-        let v = some(rng, &s.m.variables, fits)? as u16;
-        if s.m.nodes.len() > 398 {
-            return None;
-        }
-        let mut c = node(&mut s.m, 3, v, 0);
-        if rng.chance(1, 2) {
-            c = node(&mut s.m, 10, c, 0);
-        }
-        s.m.statements[n].c = c;
-        Some(())
+        foreign(rng, s, n, Role::NullDelay)
     }),
 ];
 
@@ -135,7 +112,8 @@ pub const NULL: &[Way] = &[
 /// Rules 8 and 20 both.
 const OWNER_AND_NULL: &[Way] = &[
     ("a null on a plain signal not driven here", |rng, s| {
-        undriven(rng, s, true)
+        let n = a_null(rng, s)?;
+        undriven(rng, s, n, |x| x.kind == PLAIN)
     }),
     ("8 and 20 at two places", |rng, s| {
         damage_model(rng, s, NULL)?;

@@ -2,11 +2,10 @@
 //! pick by pick; the delays of 0 that a statement reads are looked at, and each wait's
 //! condition that has some is asked again by other readings.
 
-use super::{advance_asking, decides, in_roles, ready_place, replay, Player, Seen};
+use super::{advance_asking, decides, in_roles, play, ready_place, replay, Player, Seen};
 use crate::cycle::*;
 use crate::model::Role::*;
 use crate::model::*;
-use crate::session::{self, ANSWER, ORDER};
 
 const NONE: &str = "no delay of 0";
 
@@ -332,17 +331,6 @@ impl Play<'_> {
         self.see(ANSWERS, played[0].0 != played[1].0);
         self.see(END, played[0].1 != played[1].1);
     }
-}
-
-/// The answers to the orders and the end configuration.
-fn play(m: &Model, orders: &[u8]) -> (Vec<u8>, Config) {
-    let mut c = Config::first(m);
-    let mut answers = vec![0; 4 * orders.len()];
-    let pairs = orders.chunks_exact(ORDER);
-    for (order, answer) in pairs.zip(answers.chunks_exact_mut(ANSWER)) {
-        session::play(m, &mut c, order, answer);
-    }
-    (answers, c)
 }
 
 #[cfg(test)]

@@ -2,13 +2,11 @@
 //! transactions, by name. A session is played again pick by pick, and its
 //! drivers are looked at before and after.
 
-use super::{replay, Player, Seen};
+use super::{assignments, replay, Player, Seen};
 use crate::cycle::*;
 use crate::model::*;
 use crate::values;
-
-/// A pending transaction.
-type Pending = (u64, Carried);
+use std::collections::BTreeSet;
 
 const PLAIN_ALONE: &str = "plain logic signals alone";
 const ALL_KINDS: &str = "plain, bus and register signals";
@@ -119,13 +117,7 @@ pub fn of_model(m: &Model) -> Seen {
         see(REGISTER_UNDRIVEN, undriven && s.kind == REGISTER);
     }
     for d in &m.drivers {
-        let p = m.processes[d.process as usize];
-        let own = &m.statements[p.first as usize..(p.first + p.count) as usize];
-        let kinds = own
-            .iter()
-            .filter(|s| (s.kind == 2 || s.kind == 6) && s.a == d.signal as u16)
-            .map(|s| s.kind);
-        see(ONLY_NULLS, kinds.min() == Some(6));
+        see(ONLY_NULLS, assignments(m, d) == BTreeSet::from([6]));
     }
     seen
 }
@@ -179,7 +171,7 @@ impl Player for Play<'_> {
         let place = self.c.processes.get(p).map_or(0, |p| p.place as usize);
         let s = m.statements[place];
         let driver = match s.kind {
-            2 | 6 => driver_of(m, p, s.a as usize),
+            2 | 6 | 7 => driver_of(m, p, s.a as usize),
             _ => None,
         };
         let null = |t: &Pending| t.1.is_none();
@@ -194,7 +186,8 @@ impl Player for Play<'_> {
             self.see(NULL_NEGATIVE, fault == NEGATIVE_DELAY);
             self.see(NULL_NINTH, fault == NINTH);
         }
-        self.see(NINTH_AFTER_NULL, fault == NINTH && s.kind == 2 && nulls);
+        let value = assigns_value(&s);
+        self.see(NINTH_AFTER_NULL, fault == NINTH && value && nulls);
         if fault != 0 {
             return;
         }
@@ -203,7 +196,7 @@ impl Player for Play<'_> {
         let nulls_now = wave.iter().any(null);
         let removed = before.iter().copied().filter(|t| t.0 >= at);
         let (off, on): (Vec<Pending>, Vec<Pending>) = removed.partition(null);
-        self.see(NULL_BY_VALUE, s.kind == 2 && !off.is_empty());
+        self.see(NULL_BY_VALUE, value && !off.is_empty());
         self.see(NULL_BY_NULL, s.kind == 6 && !off.is_empty());
         self.see(VALUE_BY_NULL, s.kind == 6 && !on.is_empty());
         self.see(SAME_TIME, s.kind == 6 && before.iter().any(|t| t.0 == at));

@@ -231,15 +231,17 @@ impl Maker<'_> {
         let soon = self.rng.below(3) as i32;
         let soon = self.b.integer(soon);
         let other = operands::pair(self.rng).0;
+        // Transport or inertial.
+        let kind = self.rng.choose(&[2, 2, 7]);
         match role {
             VariableValue => self.b.assign(self.result, node),
             SignalValue => {
                 let delay = if fault { self.late(soon) } else { soon };
-                self.b.schedule(s, node, delay)
+                self.b.statement(kind, s, node, delay, 0)
             }
             Delay => {
                 let value = self.leaf(other);
-                self.b.schedule(s, value, node)
+                self.b.statement(kind, s, value, node, 0)
             }
             NullDelay => self.b.release(LINE, node),
             Unless => {

@@ -25,6 +25,8 @@ struct Maker<'r> {
     driven: BTreeSet<u16>,
     /// Conditions that fail and negative delays occur.
     fails: bool,
+    /// Inertial assignments occur.
+    inertial: bool,
 }
 
 /// A random accepted model.
@@ -38,10 +40,12 @@ pub fn model(rng: &mut Rng) -> Model {
         process: 0,
         driven: BTreeSet::new(),
         fails: false,
+        inertial: false,
     };
     maker.signals(sources as usize);
     // A fault ends the run: few models have one.
     maker.fails = maker.rng.chance(1, 3);
+    maker.inertial = maker.rng.chance(1, 3);
     for n in 0..sources {
         maker.open();
         maker.source(n as usize);
@@ -96,9 +100,14 @@ impl Maker<'_> {
         self.b.integer(k)
     }
 
+    /// A transport or an inertial assignment.
     fn schedule(&mut self, signal: u16, value: u16, delay: u16) {
         self.driven.insert(signal);
-        self.b.schedule(signal, value, delay);
+        let kind = match self.inertial {
+            true => self.rng.choose(&[2, 7]),
+            false => 2,
+        };
+        self.b.statement(kind, signal, value, delay, 0);
     }
 
     /// A process that changes a line and its integer signal, a few times in delta
