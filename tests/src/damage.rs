@@ -460,8 +460,7 @@ const FIELD: &[Way] = &[
     }),
     ("an assigned signal", |rng, s| {
         let n = some(rng, &s.m.statements, assigns_signal)?;
-        s.m.statements[n].a = missing(rng, s.m.signals.len(), 65_535);
-        Some(())
+        no_signal(rng, s, n)
     }),
     ("a statement's b", |rng, s| {
         let uses = |s: &StatementRecord| [1, 2, 3, 5, 7].contains(&s.kind);
@@ -670,11 +669,8 @@ const TYPE: &[Way] = &[
         Some(())
     }),
     ("a delay's type", |rng, s| {
-        let types = node_types(&s.m)?;
         let n = some(rng, &s.m.statements, delays)?;
-        let c = other_type(rng, &types, INTEGER)?;
-        s.m.statements[n].c = c;
-        Some(())
+        other_delay(rng, s, n)
     }),
     ("a condition's type", |rng, s| {
         let types = node_types(&s.m)?;
@@ -726,6 +722,44 @@ fn variables_used(m: &Model) -> Vec<bool> {
         }
     }
     used
+}
+
+/// Makes an assignment's signal one that is not there.
+fn no_signal(rng: &mut Rng, s: &mut Subject, n: usize) -> Option<()> {
+    s.m.statements[n].a = missing(rng, s.m.signals.len(), 65_535);
+    Some(())
+}
+
+/// Makes an assignment's delay a node that is not there.
+fn no_delay(rng: &mut Rng, s: &mut Subject, n: usize) -> Option<()> {
+    s.m.statements[n].c = missing(rng, s.m.nodes.len(), 65_535);
+    Some(())
+}
+
+/// Gives a statement a set.
+fn some_set(rng: &mut Rng, s: &mut Subject, n: usize) -> Option<()> {
+    s.m.statements[n].set = 1 << rng.below(32);
+    Some(())
+}
+
+/// Changes the byte of a statement that no kind names.
+fn unnamed_byte(rng: &mut Rng, s: &mut Subject, n: usize) -> Option<()> {
+    s.patches.push((6, n, 1, 1 + rng.below(255) as u8));
+    Some(())
+}
+
+/// Gives a statement a kind that there is not.
+fn raised_kind(rng: &mut Rng, s: &mut Subject, n: usize) -> Option<()> {
+    let any = 8 + rng.below(248) as u8;
+    s.m.statements[n].kind = rng.choose(&[8, 9, 255, any]);
+    Some(())
+}
+
+/// Gives a statement a delay that is no integer.
+fn other_delay(rng: &mut Rng, s: &mut Subject, n: usize) -> Option<()> {
+    let types = node_types(&s.m)?;
+    s.m.statements[n].c = other_type(rng, &types, INTEGER)?;
+    Some(())
 }
 
 /// Removes an assignment's driver.

@@ -40,8 +40,7 @@ const FIELD: &[Way] = &[
     }),
     ("a null's signal", |rng, s| {
         let n = a_null(rng, s)?;
-        s.m.statements[n].a = missing(rng, s.m.signals.len(), 65_535);
-        Some(())
+        no_signal(rng, s, n)
     }),
     ("a null's b", |rng, s| {
         let n = a_null(rng, s)?;
@@ -51,32 +50,25 @@ const FIELD: &[Way] = &[
     }),
     ("a null's delay that names nothing", |rng, s| {
         let n = a_null(rng, s)?;
-        s.m.statements[n].c = missing(rng, s.m.nodes.len(), 65_535);
-        Some(())
+        no_delay(rng, s, n)
     }),
     ("a null's set", |rng, s| {
         let n = a_null(rng, s)?;
-        s.m.statements[n].set = 1 << rng.below(32);
-        Some(())
+        some_set(rng, s, n)
     }),
     ("a null's unnamed byte", |rng, s| {
         let n = a_null(rng, s)?;
-        s.patches.push((6, n, 1, 1 + rng.below(255) as u8));
-        Some(())
+        unnamed_byte(rng, s, n)
     }),
     ("a null's kind raised", |rng, s| {
         let n = a_null(rng, s)?;
-        let any = 8 + rng.below(248) as u8;
-        s.m.statements[n].kind = rng.choose(&[8, 9, 255, any]);
-        Some(())
+        raised_kind(rng, s, n)
     }),
 ];
 
 const TYPE: &[Way] = &[("a null's delay that is no integer", |rng, s| {
-    let types = node_types(&s.m)?;
     let n = a_null(rng, s)?;
-    s.m.statements[n].c = other_type(rng, &types, INTEGER)?;
-    Some(())
+    other_delay(rng, s, n)
 })];
 
 const OWNER: &[Way] = &[

@@ -10,8 +10,7 @@ fn an_inertial(rng: &mut Rng, s: &Subject) -> Option<usize> {
 const FIELD: &[Way] = &[
     ("an inertial one's signal", |rng, s| {
         let n = an_inertial(rng, s)?;
-        s.m.statements[n].a = missing(rng, s.m.signals.len(), 65_535);
-        Some(())
+        no_signal(rng, s, n)
     }),
     ("an inertial one's value that names nothing", |rng, s| {
         let n = an_inertial(rng, s)?;
@@ -20,24 +19,19 @@ const FIELD: &[Way] = &[
     }),
     ("an inertial one's delay that names nothing", |rng, s| {
         let n = an_inertial(rng, s)?;
-        s.m.statements[n].c = missing(rng, s.m.nodes.len(), 65_535);
-        Some(())
+        no_delay(rng, s, n)
     }),
     ("an inertial one's set", |rng, s| {
         let n = an_inertial(rng, s)?;
-        s.m.statements[n].set = 1 << rng.below(32);
-        Some(())
+        some_set(rng, s, n)
     }),
     ("an inertial one's unnamed byte", |rng, s| {
         let n = an_inertial(rng, s)?;
-        s.patches.push((6, n, 1, 1 + rng.below(255) as u8));
-        Some(())
+        unnamed_byte(rng, s, n)
     }),
     ("an inertial one's kind raised", |rng, s| {
         let n = an_inertial(rng, s)?;
-        let any = 8 + rng.below(248) as u8;
-        s.m.statements[n].kind = rng.choose(&[8, 8, 9, 255, any]);
-        Some(())
+        raised_kind(rng, s, n)
     }),
 ];
 
@@ -50,10 +44,8 @@ const TYPE: &[Way] = &[
         Some(())
     }),
     ("an inertial one's delay that is no integer", |rng, s| {
-        let types = node_types(&s.m)?;
         let n = an_inertial(rng, s)?;
-        s.m.statements[n].c = other_type(rng, &types, INTEGER)?;
-        Some(())
+        other_delay(rng, s, n)
     }),
 ];
 
