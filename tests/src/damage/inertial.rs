@@ -131,6 +131,13 @@ pub fn limits(list: &mut Limits) {
         on_line(m);
         m.statements[4].set = x as u32
     });
+    for value in [1, 255] {
+        // Block 5 has the statements.
+        let mut bytes = changed(|b| on_line(&mut b.m));
+        bytes[BLOCK * 5 + 4 + RECORD * 4 + 1] = value;
+        repair(&mut bytes, 5);
+        list.add(5, format!("an inertial one with byte 1 {value}"), bytes);
+    }
     let drivers = [(0, 8), (1, 8), (2, 8), (3, 0)];
     let name = "an inertial one with so many drivers left";
     list.field(name, &drivers, |m, x| {

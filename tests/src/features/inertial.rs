@@ -53,7 +53,8 @@ pub fn of_model(m: &Model) -> Seen {
     signals.chain(kinds).collect()
 }
 
-/// Where a transaction comes from: the kind of its assignment, and when that was done.
+/// Where a transaction comes from: the kind of its assignment, when that was done, and
+/// when it is due.
 #[derive(Clone, Copy)]
 struct Origin {
     kind: u8,
@@ -68,7 +69,7 @@ struct Assignment {
     /// The new transaction.
     due: u64,
     value: i32,
-    /// What the driver carries, and where that came from and when it did so.
+    /// What the driver carries, and where that came from.
     current: Carried,
     came: Option<Origin>,
     /// The pending ones before: those at the new one's time or later, those removed as
@@ -101,7 +102,7 @@ impl Assignment {
         origins.any(|o| o.kind == kind)
     }
 
-    /// How many were pending before it, and are pending now.
+    /// How many were pending before its time, and are pending now.
     fn before(&self) -> usize {
         self.unmarked.len() + self.marked.len()
     }
@@ -115,8 +116,8 @@ impl Assignment {
         self.unmarked.last()
     }
 
-    /// Does a pulse vanish: the value comes back before an inertial one with the same
-    /// delay, so many units ago, is due?
+    /// Does a pulse vanish: an inertial one with the same delay, given at an earlier time
+    /// and due in so many units, is removed, and the driver's own value follows?
     fn short(&self, fits: impl Fn(u64) -> bool) -> bool {
         let vanishes = |t: &Pending| {
             let origin = self.origin(t).filter(|o| o.kind == 7);
@@ -126,8 +127,8 @@ impl Assignment {
         self.current == Some(self.value) && self.unmarked.iter().any(vanishes)
     }
 
-    /// Does a pulse stay: the driver's other value came by an inertial one with the same
-    /// delay, so many units ago?
+    /// Does a pulse stay: the driver's value came by an inertial one with the same delay,
+    /// so many units ago, and another one follows?
     fn long(&self, fits: impl Fn(u64) -> bool) -> bool {
         let came = self.came.filter(|o| o.kind == 7 && o.due > o.at);
         let pulse = came.filter(|o| o.due - o.at == self.delay());
@@ -215,11 +216,11 @@ const DONE: &[Row] = &[
     ("one a unit after it removed", |a| {
         a.later.first().is_some_and(|t| t.0 == a.due + 1)
     }),
-    ("after 0, what is due now replaced", |a| {
-        a.delay() == 0 && a.later.iter().any(|t| t.0 == a.now)
-    }),
     ("one due now removed as unmarked", |a| {
         a.unmarked.iter().any(|t| t.0 == a.now)
+    }),
+    ("after 0, what is due now replaced", |a| {
+        a.delay() == 0 && a.later.iter().any(|t| t.0 == a.now)
     }),
     ("after 0, later ones removed", |a| {
         a.delay() == 0 && a.later.iter().any(|t| t.0 > a.now)
@@ -269,8 +270,8 @@ pub fn in_sessions() -> Vec<&'static str> {
 const EQUAL_NINTH: &str = "a ninth of equal values, fault 3";
 const NEGATIVE: &str = "an inertial one's delay negative, fault 2";
 const VALUE_FAILS: &str = "an inertial one's value fails";
-const DELAY_FAILS: &str = "an inertial one's delay fails, behind a value";
-const BOTH_FAIL: &str = "an inertial one's value fails before its delay";
+const DELAY_FAILS: &str = "an inertial one's delay fails, not its value";
+const BOTH_FAIL: &str = "an inertial one's value fails, its delay too";
 
 /// The faults among what a played session can show.
 pub const FAULT: &[&str] = &[EQUAL_NINTH, NEGATIVE, VALUE_FAILS, DELAY_FAILS, BOTH_FAIL];
