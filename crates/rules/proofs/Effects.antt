@@ -71,9 +71,9 @@ module _ (M : Model) (fs : Facts M) (p : ℕ) where
           let r = fs .drives p (s .a) (g .driver) in
           record { driver = g .driver; own = r .process; delay = l; value = rw (r .signal) h }
 
-      assigns : (m : Mechanism) (kind : ℕ) → SignalAssignment M p s
+      assignment : (m : Mechanism) (kind : ℕ) → SignalAssignment M p s
           → EffectFits M p kind (withValue (evalOf M e (s .b)) (λ v. withDelay (evalOf M e (s .c)) (λ d. Schedule (driverFor M p (s .a)) d (To v) m)))
-      assigns m kind g =
+      assignment m kind g =
           expression (EffectFits M p kind) _ (s .b) _ (g .value) (λ f h. h)
           (λ v h. delay (EffectFits M p kind) (s .c) _ (g .delay) (λ f h. h) (λ d l. assigned g v d h l))
 
@@ -95,7 +95,7 @@ module _ (M : Model) (fs : Facts M) (p : ℕ) where
           ((λ k. rw k tt)
           and (λ k. let g = f .variableAssignment k in
           rw k (expression (EffectFits M p 1) _ (s .b) _ (g .value) (λ f h. h) (λ v h. record { variable = g .variable; own = g .own; value = h })))
-          and (λ k. rw k (assigns Transport 2 (f .signalAssignment (inl k))))
+          and (λ k. rw k (assignment Transport 2 (f .signalAssignment (inl k))))
           and (λ k. let g = f .branch k in
           rw k (expression (EffectFits M p 3) _ (s .b) _ (g .condition) (λ f h. h)
           (λ v h. by-test (EffectFits M p 3) (eqb v 0) _ _ (λ t. g .target) (λ t. tt))))
@@ -103,7 +103,7 @@ module _ (M : Model) (fs : Facts M) (p : ℕ) where
           and (λ k. rw k (waits (f .wait k)))
           and (λ k. let g = f .nullAssignment k in
           rw k (delay (EffectFits M p 6) (s .c) _ (g .delay) (λ f h. h) (λ d l. released g d l)))
-          and (λ k. rw k (assigns Inertial 7 (f .signalAssignment (inr k))))
+          and (λ k. rw k (assignment Inertial 7 (f .signalAssignment (inr k))))
           and tt)
           (omega arith) (omega (arith, f .kind)) refl
 

@@ -7,7 +7,7 @@ use native.Mathlib.Omega.{arith}
 use lib.ListN.{drop}
 use borrow.Author.Tests.{eqb-true}
 use Rattle.base.specs.Below.{All, listBelow}
-use Rattle.base.proofs.Below.{list-none, list-first}
+use Rattle.base.proofs.Below.{list-first, list-all}
 use Rattle.rules.specs.declared.driven.Driven.{Driven}
 use Rattle.rules.specs.declared.driven.Driven.the-variants.{To, Null}
 use Rattle.rules.specs.Configuration.{Transaction}
@@ -24,20 +24,23 @@ module _ (new : Transaction) where
   abbrev alike : Transaction → Bool
   alike x = equalValue (x .value) (new .value)
 
+  abbrev Alike : Transaction → Type 0
+  Alike x = alike x ≡ true
+
   -- w ends in a run of the new one's value that begins at n: the one before it has another
   abbrev pub RunFrom : ℕ → List Transaction → Type 0
-  RunFrom zero w = All (λ x. alike x ≡ true) w
+  RunFrom zero w = All Alike w
   RunFrom (suc n) [] = ⊥
-  RunFrom (suc zero) (x ∷ w) = (alike x ≡ false) × All (λ x. alike x ≡ true) w
+  RunFrom (suc zero) (x ∷ w) = (alike x ≡ false) × All Alike w
   RunFrom (suc (suc n)) (x ∷ w) = RunFrom (suc n) w
 
   -- a transaction right before the run
-  mark-at-run : (x : Transaction) (w : List Transaction) → All (λ x. alike x ≡ true) w → marked x (w ++ (new ∷ [])) ≡ alike x
+  mark-at-run : (x : Transaction) (w : List Transaction) → All Alike w → marked x (w ++ (new ∷ [])) ≡ alike x
   unfolding marked
   mark-at-run x [] h = refl
   mark-at-run x (y ∷ w) h = rw (mark-at-run y w (h .1), h .0) (equal-alike (x .value) (y .value) (new .value) (h .0))
 
-  run-stays : (w : List Transaction) → All (λ x. alike x ≡ true) w → kept marked (w ++ (new ∷ [])) ≡ w ++ (new ∷ [])
+  run-stays : (w : List Transaction) → All Alike w → kept marked (w ++ (new ∷ [])) ≡ w ++ (new ∷ [])
   unfolding kept marked
   run-stays [] h = refl
   run-stays (x ∷ w) h = rw (mark-at-run x w (h .1), h .0, run-stays w (h .1))
@@ -58,14 +61,10 @@ module _ (new : Transaction) where
   run-left (suc n) [] h = absurd h
   run-left (suc n) (x ∷ w) h = rw (unmarked n x w h) (run-left n w (run-after n x w h))
 
-  all-listed : (f : ℕ → Transaction) (c : ℕ) → ((k : ℕ) → k < c → alike (f k) ≡ true) → All (λ x. alike x ≡ true) (listBelow f c)
-  all-listed f zero h = rw (list-none f) tt
-  all-listed f (suc c) h = rw (list-first f c) (h 0 (omega arith), all-listed (λ j. f (suc j)) c (λ k l. h (suc k) (omega arith)))
-
   -- a run in a list that is told by places
-  pub run-listed : (f : ℕ → Transaction) (c n : ℕ) → n ≤ c → ((k : ℕ) → n ≤ k → k < c → alike (f k) ≡ true) → ((k : ℕ) → suc k ≡ n → alike (f k) ≡ false) → RunFrom n (listBelow f c)
-  run-listed f c zero l h o = all-listed f c (λ k m. h k (omega arith) m)
+  pub run-listed : (f : ℕ → Transaction) (c n : ℕ) → n ≤ c → ((k : ℕ) → n ≤ k → k < c → Alike (f k)) → ((k : ℕ) → suc k ≡ n → alike (f k) ≡ false) → RunFrom n (listBelow f c)
+  run-listed f c zero l h o = list-all Alike f c (λ k m. h k (omega arith) m)
   run-listed f zero (suc n) l h o = absurd (omega arith)
-  run-listed f (suc c) (suc zero) l h o = rw (list-first f c) (o 0 refl, all-listed (λ j. f (suc j)) c (λ k m. h (suc k) (omega arith) (omega arith)))
+  run-listed f (suc c) (suc zero) l h o = rw (list-first f c) (o 0 refl, list-all Alike (λ j. f (suc j)) c (λ k m. h (suc k) (omega arith) (omega arith)))
   run-listed f (suc c) (suc (suc n)) l h o =
       rw (list-first f c) (run-listed (λ j. f (suc j)) c (suc n) (omega arith) (λ k m p. h (suc k) (omega arith) (omega arith)) (λ k e. o (suc k) (omega arith)))

@@ -30,7 +30,7 @@ rising-from s t (x ∷ w) h r = (omega arith, r .1, r .2)
 
 -- what is left of a waveform when some are removed, whatever keeps the others
 module _ (test : Transaction → List Transaction → Bool) where
-  pub kept-rising : (t : ℕ) (w : List Transaction) → Rising t w → Rising t (kept test w)
+  kept-rising : (t : ℕ) (w : List Transaction) → Rising t w → Rising t (kept test w)
   unfolding kept
   kept-rising t [] r = tt
   kept-rising t (x ∷ w) r =
@@ -38,18 +38,18 @@ module _ (test : Transaction → List Transaction → Bool) where
       (λ e. (r .0, r .1, kept-rising (x .time + 1) w (r .2)))
       (λ e. kept-rising t w (rising-from t (x .time + 1) w (omega (arith, r .0)) (r .2)))
 
-  pub kept-values : (s : SignalRecord) (w : List Transaction) → Values s w → Values s (kept test w)
+  kept-values : (s : SignalRecord) (w : List Transaction) → Values s w → Values s (kept test w)
   unfolding kept
   kept-values s [] v = tt
   kept-values s (x ∷ w) v = by-test (Values s) (test x w) _ _ (λ e. (v .0, kept-values s w (v .1))) (λ e. kept-values s w (v .1))
 
-pub before-before : (at : ℕ) (w : List Transaction) → Before at (before at w)
+before-before : (at : ℕ) (w : List Transaction) → Before at (before at w)
 unfolding before kept
 before-before at [] = tt
 before-before at (x ∷ w) = by-test (Before at) (ltb (x .time) at) _ _ (λ e. (ltb-true (x .time) at e, before-before at w)) (λ e. before-before at w)
 
 -- one later than those that are there
-pub append-rising : (t : ℕ) (w : List Transaction) (x : Transaction) → t ≤ x .time → x .time ≤ lastDue → Before (x .time) w → Rising t w → Rising t (w ++ (x ∷ []))
+append-rising : (t : ℕ) (w : List Transaction) (x : Transaction) → t ≤ x .time → x .time ≤ lastDue → Before (x .time) w → Rising t w → Rising t (w ++ (x ∷ []))
 append-rising t [] x h l b r = (h, l, tt)
 append-rising t (y ∷ w) x h l b r = (r .0, r .1, append-rising (y .time + 1) w x (omega (arith, b .0)) l (b .1) (r .2))
 

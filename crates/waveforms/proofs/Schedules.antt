@@ -70,15 +70,15 @@ module _ (d : Driver) (w : Waveform d) (delay n : ℕ) (k : Kept (d .times) (d .
   unfolding pendingOf
   before-is = record { pending = λ t. sym (kept-are t); few = omega (arith, k .within, w .few) }
 
+drop-next : {A : Type 0} (n : ℕ) (l : List A) → drop 1 (drop n l) ≡ drop (suc n) l
+drop-next zero l = refl
+drop-next (suc n) [] = refl
+drop-next (suc n) (x ∷ l) = drop-next n l
+
 -- r has what d has pending, but for the first i
 module _ (d r : Driver) (i : ℕ) (h : (t : ℕ) → pendingOf t r ≡ drop i (pendingOf t d)) where
   pub count-left : r .count ≡ d .count - i
   count-left = sym (pending-length 0 r) ∙ ap length (h 0) ∙ length-drop i (pendingOf 0 d) ∙ rw (pending-length 0 d)
-
-  drop-next : {A : Type 0} (n : ℕ) (l : List A) → drop 1 (drop n l) ≡ drop (suc n) l
-  drop-next zero l = refl
-  drop-next (suc n) [] = refl
-  drop-next (suc n) (x ∷ l) = drop-next n l
 
   pub next-left : (q : Driver) → ((t : ℕ) → pendingOf t q ≡ drop 1 (pendingOf t r)) → (t : ℕ) → pendingOf t q ≡ drop (i + 1) (pendingOf t d)
   next-left q e t = let s : i + 1 ≡ suc i = omega arith in rw s (e t ∙ ap (drop 1) (h t) ∙ drop-next i (pendingOf t d))
