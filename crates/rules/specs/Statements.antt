@@ -65,10 +65,14 @@ kept test (x ∷ after) = test x after ⇒ (x ∷ kept test after) ∣ kept test
 unfoldable pub before : ℕ → List Transaction → List Transaction
 before at = kept (λ x after. ltb (x .time) at)
 
+-- a waveform of one transaction
+abbrev pub only : ℕ → Driven → List Transaction
+only at v = record { time = at; value = v } ∷ []
+
 -- "removes pending transactions at time + c or later, and adds one there": kind 6 "with the same waveform rule as kind 2", v being a
 -- value or null
 unfoldable pub added : List Transaction → ℕ → Driven → List Transaction
-added w at v = before at w ++ (record { time = at; value = v } ∷ [])
+added w at v = before at w ++ only at v
 
 -- "has an equal value (null equals no value)"
 unfoldable pub equalValue : Driven → Driven → Bool

@@ -17,10 +17,10 @@ use Rattle.rules.specs.declared.driven.Driven.{Driven}
 use Rattle.rules.specs.declared.mechanism.Mechanism.{Mechanism}
 use Rattle.rules.specs.declared.mechanism.Mechanism.the-variants.{Transport, Inertial}
 use Rattle.rules.specs.Configuration.{Transaction}
-use Rattle.rules.specs.Statements.{kept, before, added, equalValue, leftBy, scheduled, overflows, driverAfter}
+use Rattle.rules.specs.Statements.{kept, before, only, added, equalValue, leftBy, scheduled, overflows, driverAfter}
 use Rattle.rules.proofs.Marks.{run-left, run-listed}
 use Rattle.waveforms.specs.Pending.{drivenOf, pendingOf}
-use Rattle.waveforms.specs.Waveform.{Waveform, Kept, RunStart, BeforeTime, Without, new, LeftBy, ScheduledTo}
+use Rattle.waveforms.specs.Waveform.{Waveform, Kept, Run, RunStart, BeforeTime, Without, LeftBy, ScheduledTo}
 use Rattle.waveforms.specs.declared.driver.Driver.{Driver}
 use Rattle.waveforms.proofs.Drivers.{transactionAt, pending-length}
 
@@ -86,27 +86,23 @@ module _ (d r : Driver) (i : ℕ) (h : (t : ℕ) → pendingOf t r ≡ drop i (p
   pub without-is : (n : ℕ) → i ≡ n → d .count ≤ 8 → Without n d r
   without-is n e l = record { pending = rw (← e) h; few = omega (arith, count-left) }
 
--- the run of words with the value of v that is last begins at n or before it
-pub record Run (vs : List ℕ) (c : ℕ) (v : Driven) (n : ℕ) : Type 0 where
-  pub within : n ≤ c
-  pub run : (k : ℕ) → n ≤ k → k < c → equalValue (drivenOf (getD vs k 0)) v ≡ true
-
+-- a run of words with the value of v, found from the last one back
 pub run-none : (vs : List ℕ) (c : ℕ) (v : Driven) → Run vs c v c
-run-none vs c v = record { within = omega arith; run = λ k l m. absurd (omega arith) }
+run-none vs c v = record { within = omega arith; equal = λ k l m. absurd (omega arith) }
 
 module _ (vs : List ℕ) (c : ℕ) (v : Driven) (n : ℕ) (h : Run vs c v n) where
   pub run-more : 0 < n → equalValue (drivenOf (getD vs (n - 1) 0)) v ≡ true → Run vs c v (n - 1)
   run-more l e =
       record {
         within = omega (arith, h .within);
-        run = λ k m p. ⊎-elim (λ (q : n - 1 ≡ k). rw q at e) (λ (q : n - 1 < k). h .run k (omega arith) p) (eq-or-lt-of-le m);
+        equal = λ k m p. ⊎-elim (λ (q : n - 1 ≡ k). rw q at e) (λ (q : n - 1 < k). h .equal k (omega arith) p) (eq-or-lt-of-le m);
       }
 
   pub run-stops : 0 < n → equalValue (drivenOf (getD vs (n - 1) 0)) v ≡ false → RunStart vs c v n
-  run-stops l e = record { within = h .within; run = h .run; other = λ k q. let p : n - 1 ≡ k = omega arith in rw p at e }
+  run-stops l e = record { run = h; other = λ k q. let p : n - 1 ≡ k = omega arith in rw p at e }
 
   pub run-whole : n ≤ 0 → RunStart vs c v n
-  run-whole l = record { within = h .within; run = h .run; other = λ k q. absurd (omega arith) }
+  run-whole l = record { run = h; other = λ k q. absurd (omega arith) }
 
 -- a transport delay leaves all, an inertial one of v the run of its value that is last
 pub left-transport : (d : Driver) (v : Driven) → d .count ≤ 8 → LeftBy Transport v d d
@@ -119,13 +115,13 @@ left-inertial d r v n h w =
     record {
       pending = λ t at.
           let x : Transaction = record { time = at; value = v } in
-          rw (w .pending t) (sym (run-left x n (pendingOf t d) (run-listed x (transactionAt t d) (d .count) n (h .within) (h .run) (h .other))));
+          rw (w .pending t) (sym (run-left x n (pendingOf t d) (run-listed x (transactionAt t d) (d .count) n (h .run .within) (h .run .equal) (h .other))));
       few = w .few;
     }
 
 -- a schedule of v: e has what is pending before its time, k what the delay leaves of it
 module _ (d e k : Driver) (delay : ℕ) (v : Driven) (m : Mechanism) (b : BeforeTime delay d e) (h : LeftBy m v e k) where
-  left-are : (t : ℕ) → pendingOf t k ++ new (t + delay) v ≡ scheduled m (pendingOf t d) (t + delay) v
+  left-are : (t : ℕ) → pendingOf t k ++ only (t + delay) v ≡ scheduled m (pendingOf t d) (t + delay) v
   unfolding scheduled added
   left-are t = h .pending t (t + delay) ∙ rw (b .pending t)
 
@@ -145,7 +141,7 @@ module _ (d e k : Driver) (delay : ℕ) (v : Driven) (m : Mechanism) (b : Before
 
   -- x is the word that holds v
   module _ (lt : length (k .times) ≡ 8) (lv : length (k .values) ≡ 8) (l : k .count < 8) (x : ℕ) (held : drivenOf x ≡ v) where
-    with-listed : (t : ℕ) → pendingOf t (with x) ≡ pendingOf t k ++ new (t + delay) v
+    with-listed : (t : ℕ) → pendingOf t (with x) ≡ pendingOf t k ++ only (t + delay) v
     unfolding pendingOf
     with-listed t =
         let n = k .count in

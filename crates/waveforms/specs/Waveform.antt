@@ -1,13 +1,13 @@
 -- What a driver's functions promise of its waveform.
 use mathlib.Core.Path.{_≡_}
 use mathlib.Core.Bool.{true, false}
-use mathlib.Core.List.{List, [], _∷_, _++_}
+use mathlib.Core.List.{List, _++_}
 use Prim.Native.Nat.{ℕ, _+_, suc, _≤_, _<_}
 use lib.ListN.{getD, drop}
 use Rattle.rules.specs.declared.driven.Driven.{Driven}
 use Rattle.rules.specs.declared.mechanism.Mechanism.{Mechanism}
 use Rattle.rules.specs.Configuration.{Transaction, DriverState}
-use Rattle.rules.specs.Statements.{before, equalValue, leftBy, scheduled, overflows, driverAfter}
+use Rattle.rules.specs.Statements.{before, only, equalValue, leftBy, scheduled, overflows, driverAfter}
 use Rattle.waveforms.specs.Pending.{drivenOf, NoneBefore, pendingOf}
 use Rattle.waveforms.specs.declared.driver.Driver.{Driver}
 use Rattle.waveforms.specs.declared.driver.Scheduled.{Scheduled}
@@ -23,10 +23,14 @@ pub record Kept (ts : List ℕ) (c at n : ℕ) : Type 0 where
   pub below : (k : ℕ) → k < n → getD ts k 0 < at
   pub stop : n < c → at ≤ getD ts n 0
 
--- n is the place where a run of words with the value of v begins, the last of the first c
-pub record RunStart (vs : List ℕ) (c : ℕ) (v : Driven) (n : ℕ) : Type 0 where
+-- of the first c words those from n on have the value of v
+pub record Run (vs : List ℕ) (c : ℕ) (v : Driven) (n : ℕ) : Type 0 where
   pub within : n ≤ c
-  pub run : (k : ℕ) → n ≤ k → k < c → equalValue (drivenOf (getD vs k 0)) v ≡ true
+  pub equal : (k : ℕ) → n ≤ k → k < c → equalValue (drivenOf (getD vs k 0)) v ≡ true
+
+-- and the one before them has not
+pub record RunStart (vs : List ℕ) (c : ℕ) (v : Driven) (n : ℕ) : Type 0 where
+  pub run : Run vs c v n
   pub other : (k : ℕ) → suc k ≡ n → equalValue (drivenOf (getD vs k 0)) v ≡ false
 
 -- each of the first c times is n less
@@ -37,23 +41,21 @@ Nearer old c n new = (j : ℕ) → j < c → n + getD new j 0 ≡ getD old j 0
 abbrev pub driving : ℕ → Driven → Driver → DriverState
 driving t x d = record { current = x; pending = pendingOf t d }
 
--- r has what d has pending before delay units
-pub record BeforeTime (delay : ℕ) (d r : Driver) : Type 0 where
-  pub pending : (t : ℕ) → pendingOf t r ≡ before (t + delay) (pendingOf t d)
+-- at any time r has pending what the removal leaves of d's transactions
+pub record Remains (removal : ℕ → List Transaction → List Transaction) (d r : Driver) : Type 0 where
+  pub pending : (t : ℕ) → pendingOf t r ≡ removal t (pendingOf t d)
   pub few : r .count ≤ 8
 
--- r has what d has pending, but for the first n
-pub record Without (n : ℕ) (d r : Driver) : Type 0 where
-  pub pending : (t : ℕ) → pendingOf t r ≡ drop n (pendingOf t d)
-  pub few : r .count ≤ 8
+-- the removal of those in delay units or later, and of the first n
+abbrev pub BeforeTime : ℕ → Driver → Driver → Type 0
+BeforeTime delay = Remains (λ t. before (t + delay))
 
--- a new transaction of v
-abbrev pub new : ℕ → Driven → List Transaction
-new at v = record { time = at; value = v } ∷ []
+abbrev pub Without : ℕ → Driver → Driver → Type 0
+Without n = Remains (λ t. drop n)
 
 -- r has what a delay leaves of d's pending transactions before a new one of v
 pub record LeftBy (m : Mechanism) (v : Driven) (d r : Driver) : Type 0 where
-  pub pending : (t at : ℕ) → pendingOf t r ++ new at v ≡ leftBy m (pendingOf t d ++ new at v)
+  pub pending : (t at : ℕ) → pendingOf t r ++ only at v ≡ leftBy m (pendingOf t d ++ only at v)
   pub few : r .count ≤ 8
 
 -- a schedule of v, a value or null, in some units: whatever the time and the current value are, the driver is what the rules make of it

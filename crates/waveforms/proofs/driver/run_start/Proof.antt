@@ -2,7 +2,8 @@
 use native.Mathlib.Omega.{arith}
 use borrow.Author.Needs.{needs}
 use borrow.Author.Tests.{not-true, not-false}
-use Rattle.waveforms.proofs.Schedules.{Run, run-none, run-more, run-stops, run-whole}
+use Rattle.waveforms.specs.Waveform.{Run}
+use Rattle.waveforms.proofs.Schedules.{run-none, run-more, run-stops, run-whole}
 use Rattle.waveforms.proofs.driver.run_start.Statement.{statement}
 use Rattle.waveforms.proofs.driver.run_start.Tie as tie
 
