@@ -29,8 +29,11 @@ proved: setup tools prove
 	$(PROVED) compare models 200000 1
 	$(PROVED) compare sessions 100000 1
 	$(PROVED) compare limits
+	$(PROVED) compare dumps 20000 1
+	$(PROVED) viewer 50 1
 	KERNEL_LIB_DIR=$(LIB) sh tests/ghdl/run.sh 200 1
 	$(CARGO) run $(PEER) --bin edge target/bin/playbench
+	$(CARGO) run $(PEER) --bin edge dump target/bin/dumpbench
 
 bench: setup
 	rt staticlib exports

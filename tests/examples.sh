@@ -1,15 +1,22 @@
 #!/bin/sh
-# The examples: each text makes its blocks and orders, their listings make the same ones again, the proved playbench and the
-# second kernel's print what is expected, and each node that failed is explained as stored. README.md shows some of these lines.
+# The examples: each text makes its blocks and orders, their listings make the same ones again, the proved playbench and dumpbench
+# and the second kernel's print what is expected, also of the orders for the wave viewer, and each node that failed is explained as
+# stored. README.md shows some of these lines.
 set -eu
 top=$(cd "$(dirname "$0")/.." && pwd)
 blocks=$top/tools/blocks/target/release/blocks
-proved=$top/target/bin/playbench
-cargo build --quiet --release --offline --manifest-path "$top/tests/Cargo.toml" --bin playbench
-second=$top/tests/target/release/playbench
+proved=$top/target/bin
+cargo build --quiet --release --offline --manifest-path "$top/tests/Cargo.toml" --bin playbench --bin dumpbench
+second=$top/tests/target/release
 work=$(mktemp -d)
 trap 'rm -rf "$work"' EXIT
 cd "$work"
+prints() { # PROGRAM EXPECTED: what both kernels' programs print of the model and the orders here
+    for programs in "$proved" "$second"; do
+        "$programs/$1" >printed
+        cmp printed "$2"
+    done
+}
 explain() { # FOLDER: the nodes in its expected output
     awk '$5 != 0 && $5 != 65535 { print $5 }' "$1/expected" | while read -r node; do
         "$blocks" explain "$1/model" "$node"
@@ -28,17 +35,20 @@ for folder in "$top"/examples/*/; do
     "$blocks" orders shown again
     cmp again orders
     for text in "$folder"/*.txt; do
-        [ "$(basename "$text")" = orders.txt ] && continue
+        case $(basename "$text") in orders.txt | waves.txt) continue ;; esac
         "$blocks" make "$text" model
         [ "$(basename "$text")" = model.txt ] && cmp model "$folder/model"
         "$blocks" list model >listed
         "$blocks" make listed again
         cmp again model
-        "$proved" >printed
-        cmp printed "$folder/expected"
-        "$second" >printed
-        cmp printed "$folder/expected"
+        prints playbench "$folder/expected"
+        prints dumpbench "$folder/dump.vcd"
     done
+    if [ -e "$folder/waves.txt" ]; then
+        cp "$folder/model" model
+        "$blocks" orders "$folder/waves.txt" orders
+        prints dumpbench "$folder/waves.vcd"
+    fi
     explain "$folder" >explained
     if [ -s explained ] || [ -e "$folder/explained" ]; then
         cmp explained "$folder/explained"
@@ -46,5 +56,6 @@ for folder in "$top"/examples/*/; do
     echo "example $name: as expected"
 done
 in_readme <"$top/examples/inverter/expected"
+in_readme <"$top/examples/inverter/dump.vcd"
 awk '$5 != 0' "$top/examples/mean_speed/expected" | in_readme
 in_readme <"$top/examples/mean_speed/explained"

@@ -2,6 +2,7 @@
 
 mod arithmetic;
 mod delay_zero;
+mod dumps;
 mod failing_node;
 mod inertial;
 mod nulls;

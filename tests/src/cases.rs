@@ -1,6 +1,8 @@
 //! The paper's bench cases as sessions, and sessions on both sides of the
 //! limits of orders and answers.
 
+mod dumps;
+
 use crate::builder::Builder;
 use crate::cycle::Carried;
 use crate::gen::order;
@@ -8,6 +10,7 @@ use crate::integers::*;
 use crate::model::*;
 pub use crate::session::{ADVANCE, PICK, READ, SETTLE};
 use crate::values::code;
+pub use dumps::{in_turn, integers_in_turn, longest_dump, nine_in_turn, no_signals};
 
 /// A named session.
 pub struct Case {
@@ -1030,6 +1033,7 @@ pub fn sessions() -> Vec<Case> {
     inertial_sessions(&mut add);
     failing_sessions(&mut add);
     delay_zero_sessions(&mut add);
+    dumps::sessions(&mut add);
     for turns in [998, 999, 1_000, 1_001, 1_002] {
         add(
             format!("{turns} delta steps"),

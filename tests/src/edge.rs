@@ -1,21 +1,19 @@
-//! Holds a program that plays the files `model` and `orders` of its folder
+//! Holds a program that plays or dumps the files `model` and `orders` of its folder
 //! against the text that the second kernel prints: sessions of each number, files
 //! of lengths on both sides of the limits and far beyond, the paper's bench cases
 //! and random sessions. A file that cannot be read and a write that fails must be
 //! told on standard error.
-//!
-//! Number 10 cannot occur: the program makes the answer buffer itself.
 
+mod benches;
 mod sessions;
 
 use crate::cases::{in_64_blocks, inverter, inverter_orders};
-use crate::features::Seen;
+use crate::folder::Folder;
 use crate::numbers::{self, Counts};
-use crate::session;
-use sessions::{long_lines, RANDOM, RANDOM_SESSIONS};
+pub use benches::{Bench, DUMP, PLAY};
 pub use sessions::{sessions, Case, Group};
+use sessions::{RANDOM, RANDOM_SESSIONS};
 use std::fs;
-use std::path::PathBuf;
 use std::process::{Command, Stdio};
 
 /// Starts the program; the folder and the streams are still to be set.
@@ -28,49 +26,22 @@ struct Output {
     ended: bool,
 }
 
-/// A folder for the program's files, removed at the end.
-struct Folder(PathBuf);
-
-impl Folder {
-    fn new() -> Result<Folder, String> {
-        let path = std::env::temp_dir().join(format!("edge-{}-{}", std::process::id(), unique()));
-        fs::create_dir_all(&path).map_err(|e| format!("{}: {e}", path.display()))?;
-        Ok(Folder(path))
-    }
-
-    fn put(&self, name: &str, bytes: &[u8]) -> Result<(), String> {
-        fs::write(self.0.join(name), bytes).map_err(|e| format!("{name}: {e}"))
-    }
-
-    fn run(&self, program: Program, out: Stdio) -> Result<Output, String> {
-        let child = program()
-            .current_dir(&self.0)
-            .stdin(Stdio::null())
-            .stdout(out)
-            .stderr(Stdio::piped())
-            .spawn();
-        let output = child.and_then(|c| c.wait_with_output());
-        let output = output.map_err(|e| format!("the program cannot be run: {e}"))?;
-        let text = |bytes: &[u8]| String::from_utf8_lossy(bytes).to_string();
-        Ok(Output {
-            printed: text(&output.stdout),
-            told: text(&output.stderr),
-            ended: output.status.success(),
-        })
-    }
-}
-
-impl Drop for Folder {
-    fn drop(&mut self) {
-        let _ = fs::remove_dir_all(&self.0);
-    }
-}
-
-/// Another number each time, for folders of runs side by side.
-fn unique() -> usize {
-    use std::sync::atomic::{AtomicUsize, Ordering};
-    static NEXT: AtomicUsize = AtomicUsize::new(0);
-    NEXT.fetch_add(1, Ordering::Relaxed)
+/// Runs the program in a folder.
+fn run(program: Program, folder: &Folder, out: Stdio) -> Result<Output, String> {
+    let child = program()
+        .current_dir(&folder.0)
+        .stdin(Stdio::null())
+        .stdout(out)
+        .stderr(Stdio::piped())
+        .spawn();
+    let output = child.and_then(|c| c.wait_with_output());
+    let output = output.map_err(|e| format!("the program cannot be run: {e}"))?;
+    let text = |bytes: &[u8]| String::from_utf8_lossy(bytes).to_string();
+    Ok(Output {
+        printed: text(&output.stdout),
+        told: text(&output.stderr),
+        ended: output.status.success(),
+    })
 }
 
 /// The number of a session by its text: a number alone, or 0.
@@ -85,30 +56,8 @@ fn lines(text: &str) -> impl Iterator<Item = &str> {
     text.split_inclusive('\n')
 }
 
-/// What lines of random sessions show in the columns of value and node, besides 0.
-const NODE: &str = "a pick with a node";
-const NO_NODE: &str = "a pick with node 65535";
-const NEGATIVE: &str = "a read of a negative value";
-const COLUMNS: [&str; 3] = [NODE, NO_NODE, NEGATIVE];
-
-/// What a played session's lines show.
-fn columns_shown(orders: &[u8], text: &str) -> Seen {
-    let mut seen = Seen::new();
-    for (order, line) in orders.chunks_exact(session::ORDER).zip(text.lines()) {
-        let columns: Vec<&str> = line.split(' ').collect();
-        match (order[0], columns[3], columns[4]) {
-            (session::PICK, _, "0") => {}
-            (session::PICK, _, "65535") => _ = seen.insert(NO_NODE),
-            (session::PICK, ..) => _ = seen.insert(NODE),
-            (session::READ, value, _) if value.starts_with('-') => _ = seen.insert(NEGATIVE),
-            _ => {}
-        }
-    }
-    seen
-}
-
 /// Err is what is wrong with a session's output, beside the second kernel's text.
-fn judge_output(case: &Case, expected: &str, output: &Output) -> Result<(), String> {
+fn judge_output(bench: &Bench, case: &Case, expected: &str, output: &Output) -> Result<(), String> {
     if output.printed != expected {
         let quoted = |line: Option<&str>| line.map_or("missing".into(), |l| format!("{l:?}"));
         let (mut ours, mut theirs) = (lines(expected), lines(&output.printed));
@@ -130,20 +79,20 @@ fn judge_output(case: &Case, expected: &str, output: &Output) -> Result<(), Stri
         Some(number) if number != number_of(&output.printed) => {
             Err(format!("the number is not {number}"))
         }
-        Some(0) if lines(&output.printed).count() != case.orders.len() / 4 => {
-            Err("there is not a line for each order".into())
+        Some(0) if !(bench.whole)(&case.orders, &output.printed) => {
+            Err("the text is not whole".into())
         }
         _ => Ok(()),
     }
 }
 
 /// What came out: counts of each group, and what was wrong.
-#[derive(Default)]
 pub struct Findings {
+    bench: &'static Bench,
     /// Sessions by number and lines printed, group by group.
     pub groups: Vec<(&'static str, Counts, usize)>,
-    /// What the lines of random sessions show, by sessions.
-    pub columns: Counts<&'static str>,
+    /// What the texts of random sessions show, by sessions.
+    pub shown: Counts<&'static str>,
     /// Runs with a missing file, with pipes or with a failing write.
     pub others: usize,
     pub wrong: Vec<String>,
@@ -151,7 +100,7 @@ pub struct Findings {
 
 impl Findings {
     /// Err where a number that can occur does not, or the random sessions are all
-    /// played or all refused, or too few of them show a node or a negative value.
+    /// played or all refused, or too few of them show what they should.
     pub fn require(&self) -> Result<(), String> {
         let mut all = Counts::default();
         for (_, counts, _) in &self.groups {
@@ -162,8 +111,9 @@ impl Findings {
         let random = self.groups.iter().find(|g| g.0 == RANDOM_SESSIONS);
         let (_, random, _) = random.ok_or("no random sessions")?;
         random.require("random sessions: number", &[0], RANDOM / 2)?;
-        self.columns
-            .require("random sessions:", &COLUMNS, RANDOM / 50)?;
+        let names = (self.bench.names)();
+        self.shown
+            .require("random sessions:", &names, RANDOM / 50)?;
         match random.sum() - random.of(0) {
             refused if refused < RANDOM / 20 => Err(format!("{refused} random sessions refused")),
             _ => Ok(()),
@@ -186,13 +136,13 @@ impl Findings {
                 .collect();
             println!("{name:20}{row}{lines:8}");
         }
-        println!("number 10 cannot occur: the program makes the answer buffer itself");
+        println!("{}", self.bench.never);
         for (name, counts, _) in self.groups.iter().filter(|g| g.0 == RANDOM_SESSIONS) {
             let (all, played) = (counts.sum(), counts.of(0));
             println!("{name}: {played} played, {} refused", all - played);
         }
-        for name in COLUMNS {
-            println!("random sessions with {name}: {}", self.columns.of(name));
+        for name in (self.bench.names)() {
+            println!("random sessions with {name}: {}", self.shown.of(name));
         }
         println!("missing files, pipes, failing writes: {} runs", self.others);
     }
@@ -200,9 +150,7 @@ impl Findings {
 
 /// The session numbers that a program can print.
 fn occurring() -> Vec<u32> {
-    let mut all = numbers::session();
-    all.retain(|&n| n != numbers::ANSWERS);
-    all
+    [numbers::MODEL, &[numbers::ORDERS]].concat()
 }
 
 /// Runs the program on the sessions.
@@ -213,9 +161,9 @@ fn play_all(program: Program, groups: &[Group], found: &mut Findings) -> Result<
         for case in list {
             folder.put("model", &case.model)?;
             folder.put("orders", &case.orders)?;
-            let output = folder.run(program, Stdio::piped())?;
-            let expected = session::print(&case.model, &case.orders);
-            if let Err(e) = judge_output(case, &expected, &output) {
+            let output = run(program, &folder, Stdio::piped())?;
+            let expected = (found.bench.print)(&case.model, &case.orders);
+            if let Err(e) = judge_output(found.bench, case, &expected, &output) {
                 found.wrong.push(format!("{group}: {}: {e}", case.name));
             }
             let number = number_of(&expected);
@@ -224,8 +172,8 @@ fn play_all(program: Program, groups: &[Group], found: &mut Findings) -> Result<
                 printed += lines(&expected).count();
             }
             if number == 0 && *group == RANDOM_SESSIONS {
-                let shown = columns_shown(&case.orders, &expected);
-                shown.into_iter().for_each(|what| found.columns.add(what));
+                let shown = (found.bench.shown)(case, &expected);
+                shown.into_iter().for_each(|what| found.shown.add(what));
             }
         }
         found.groups.push((group, counts, printed));
@@ -245,7 +193,7 @@ fn unreadable(program: Program, found: &mut Findings) -> Result<(), String> {
             if kind != "no file" {
                 fs::create_dir(folder.0.join(name)).map_err(|e| e.to_string())?;
             }
-            let output = folder.run(program, Stdio::piped())?;
+            let output = run(program, &folder, Stdio::piped())?;
             found.others += 1;
             if !output.told.contains(name) || !output.printed.is_empty() {
                 found.wrong.push(format!(
@@ -265,7 +213,7 @@ fn piecemeal(program: Program, found: &mut Findings) -> Result<(), String> {
     let model = in_64_blocks(&inverter().m);
     for case in [
         Case::new("the inverter", &model, &inverter_orders(), 0),
-        long_lines(),
+        (found.bench.long)(),
     ] {
         let folder = Folder::new()?;
         let mut writers = vec![];
@@ -286,10 +234,10 @@ fn piecemeal(program: Program, found: &mut Findings) -> Result<(), String> {
             }
             writers.push(writer);
         }
-        let output = folder.run(program, Stdio::piped())?;
-        let expected = session::print(&case.model, &case.orders);
+        let output = run(program, &folder, Stdio::piped())?;
+        let expected = (found.bench.print)(&case.model, &case.orders);
         found.others += 1;
-        if let Err(e) = judge_output(&case, &expected, &output) {
+        if let Err(e) = judge_output(found.bench, &case, &expected, &output) {
             found.wrong.push(format!("pipes, {}: {e}", case.name));
         }
         for mut writer in writers {
@@ -306,14 +254,14 @@ fn unwritable(program: Program, found: &mut Findings) -> Result<(), String> {
         Case::new("a refused session", &model[1..], &orders, 1),
         Case::new("a session of one order", &model, &orders[..4], 0),
         Case::new("the inverter", &model, &orders, 0),
-        long_lines(),
+        (found.bench.long)(),
     ] {
         let folder = Folder::new()?;
         folder.put("model", &case.model)?;
         folder.put("orders", &case.orders)?;
         let full = fs::OpenOptions::new().write(true).open("/dev/full");
         let full = full.map_err(|e| format!("/dev/full: {e}"))?;
-        let output = folder.run(program, full.into())?;
+        let output = run(program, &folder, full.into())?;
         found.others += 1;
         if output.told.is_empty() {
             found.wrong.push(format!(
@@ -327,8 +275,18 @@ fn unwritable(program: Program, found: &mut Findings) -> Result<(), String> {
 
 /// Holds a program against the second kernel on the sessions, with files and
 /// writes that fail and with pipes; Err where it cannot be run.
-pub fn examine(program: Program, groups: &[Group]) -> Result<Findings, String> {
-    let mut found = Findings::default();
+pub fn examine(
+    bench: &'static Bench,
+    program: Program,
+    groups: &[Group],
+) -> Result<Findings, String> {
+    let mut found = Findings {
+        bench,
+        groups: vec![],
+        shown: Counts::default(),
+        others: 0,
+        wrong: vec![],
+    };
     play_all(program, groups, &mut found)?;
     unreadable(program, &mut found)?;
     piecemeal(program, &mut found)?;
@@ -342,11 +300,14 @@ mod tests {
 
     #[test]
     fn cases_come_out_as_said() {
-        for (group, list) in sessions() {
-            for case in list {
-                let text = session::print(&case.model, &case.orders);
-                if let Some(number) = case.number {
+        for bench in [&PLAY, &DUMP] {
+            for (group, list) in sessions(bench) {
+                for case in list {
+                    let text = (bench.print)(&case.model, &case.orders);
+                    let Some(number) = case.number else { continue };
                     assert_eq!(number_of(&text), number, "{group}: {}", case.name);
+                    let whole = (bench.whole)(&case.orders, &text);
+                    assert!(number != 0 || whole, "{group}: {}", case.name);
                 }
             }
         }
@@ -354,31 +315,17 @@ mod tests {
 
     #[test]
     fn long_lines_are_long() {
-        let case = long_lines();
-        let text = session::print(&case.model, &case.orders);
+        let case = (PLAY.long)();
+        let text = (PLAY.print)(&case.model, &case.orders);
         assert_eq!(text.lines().count(), 4_096);
         assert!(text.ends_with("0 0 0 -2147483647 0 1000000000000\n"));
         assert!(text.len() > 118_000, "{} bytes", text.len());
     }
 
     #[test]
-    fn columns_of_value_and_node() {
-        let shown = |order: u8, line: &str| columns_shown(&[order, 0, 0, 0], line);
-        for (order, line, what) in [
-            (session::PICK, "0 2 1 4 2 0", NODE),
-            (session::PICK, "0 2 1 2 65535 0", NO_NODE),
-            (session::READ, "0 0 0 -7 0 0", NEGATIVE),
-        ] {
-            assert_eq!(shown(order, line), Seen::from([what]), "{line}");
-        }
-        assert!(shown(session::PICK, "0 0 1 0 0 3").is_empty());
-        assert!(shown(session::READ, "0 0 0 7 0 3").is_empty());
-    }
-
-    #[test]
     fn a_number_stands_alone() {
         assert_eq!(number_of("9\n"), 9);
-        for played in ["", "0 0 4 0 0 0\n", "9", "9\n9\n"] {
+        for played in ["", "0 0 4 0 0 0\n", "$end\n", "9", "9\n9\n"] {
             assert_eq!(number_of(played), 0, "{played}");
         }
     }

@@ -4,6 +4,7 @@
 
 pub mod arithmetic;
 pub mod delay_zero;
+pub mod dumps;
 pub mod failing_node;
 pub mod inertial;
 pub mod nulls;

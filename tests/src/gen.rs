@@ -3,6 +3,7 @@
 mod calculation;
 mod edges;
 mod pulses;
+mod waves;
 
 use crate::builder::Builder;
 use crate::cycle::{Config, READY, STOPPED};
@@ -937,6 +938,21 @@ pub fn orders(rng: &mut Rng, m: &Model, most: usize) -> Vec<u8> {
     list
 }
 
+/// A list of about `most` orders that settles all before each advance, now and then with
+/// another order between.
+fn straight(rng: &mut Rng, m: &Model, most: usize) -> Vec<u8> {
+    let first = Config::first(m);
+    let mut list = Vec::new();
+    for _ in 0..most.div_ceil(2) {
+        list.extend(order(3, 0, 65_535));
+        list.extend(order(2, 0, 0));
+        if rng.chance(1, 20) {
+            list.extend(next_order(rng, &first, SETTLES));
+        }
+    }
+    list
+}
+
 fn list_length(rng: &mut Rng) -> usize {
     match rng.weighted(&[2, 14, 42, 36, 6]) {
         0 => 0,
@@ -1111,11 +1127,25 @@ pub struct SessionCase {
     pub what: &'static str,
 }
 
+/// Weights of the forms of a session: tame or wild models, damaged ones, orders of a
+/// wrong length, an answer buffer of a wrong length, marathons of delta and of time
+/// steps, calculations, edges, pulses, waves.
+type Forms = [usize; 10];
+const SESSIONS: Forms = [680, 90, 13, 13, 13, 9, 140, 88, 90, 0];
+const DUMPS: Forms = [260, 170, 30, 0, 10, 40, 50, 40, 80, 320];
+
 /// The session of a seed.
 pub fn session_case(seed: u64) -> SessionCase {
-    let mut rng = Rng::new(seed);
-    let rng = &mut rng;
-    let form = rng.weighted(&[680, 90, 13, 13, 13, 9, 140, 88, 90]);
+    session_of(&SESSIONS, &mut Rng::new(seed))
+}
+
+/// The run of a seed that is to be dumped.
+pub fn dump_case(seed: u64) -> SessionCase {
+    session_of(&DUMPS, &mut Rng::new(seed))
+}
+
+fn session_of(forms: &Forms, rng: &mut Rng) -> SessionCase {
+    let form = rng.weighted(forms);
     if form == 1 {
         let (what, model) = if rng.chance(1, 4) {
             let (_, what, model) = features::damaged(rng);
@@ -1171,6 +1201,15 @@ pub fn session_case(seed: u64) -> SessionCase {
             let most = list_length(rng).max(20);
             let orders = self::orders(rng, &m, most);
             ("pulses", m, orders)
+        }
+        9 => {
+            let m = waves::model(rng);
+            let most = list_length(rng);
+            let orders = match rng.chance(1, 2) {
+                true => self::orders(rng, &m, most),
+                false => straight(rng, &m, most),
+            };
+            ("waves", m, orders)
         }
         _ => {
             let wild = rng.chance(2, 5);

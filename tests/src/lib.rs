@@ -8,6 +8,7 @@ pub mod damage;
 pub mod dump;
 pub mod edge;
 pub mod features;
+pub mod folder;
 pub mod gen;
 pub mod integers;
 pub mod model;
@@ -19,10 +20,29 @@ pub mod rng;
 pub mod session;
 pub mod tally;
 pub mod values;
+pub mod vcd;
 pub mod vhdl;
 
 #[cfg(test)]
 mod bench;
+
+use std::io::Write;
+
+/// A program that prints a text of the files `model` and `orders` in its folder.
+pub fn print_files(program: &str, print: fn(&[u8], &[u8]) -> String) -> std::process::ExitCode {
+    let file = |name: &str| {
+        let bytes = std::fs::read(name);
+        bytes.map_err(|e| format!("cannot read file `{name}`: {e}"))
+    };
+    let run = || {
+        let (model, orders) = (file("model")?, file("orders")?);
+        let mut out = std::io::stdout().lock();
+        out.write_all(print(&model, &orders).as_bytes())
+            .and_then(|()| out.flush())
+            .map_err(|e| format!("cannot write: {e}"))
+    };
+    end(program, run())
+}
 
 /// The end of a program: an error is told on standard error.
 pub fn end(program: &str, result: Result<(), String>) -> std::process::ExitCode {

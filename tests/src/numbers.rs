@@ -9,6 +9,8 @@ pub const MODEL: &[u32] = &[1, 2, 3, 4, 5, 6, 7, 8, 20];
 /// Refusals of a session whose model is accepted: its orders, its answer buffer.
 pub const ORDERS: u32 = 9;
 pub const ANSWERS: u32 = 10;
+/// Refusal of a dump whose model and orders are accepted: its output buffer.
+pub const OUTPUT: u32 = 21;
 /// Refusals of an order.
 pub const ORDER: &[u32] = &[11, 12, 13, 14, 15, 16, 17, 18, 19];
 /// Faults that stop a process.
@@ -19,6 +21,11 @@ pub const EXPRESSION: &[u32] = &[1, 4];
 /// Refusals of a session.
 pub fn session() -> Vec<u32> {
     [MODEL, &[ORDERS, ANSWERS]].concat()
+}
+
+/// Refusals of a dump.
+pub fn dump() -> Vec<u32> {
+    [MODEL, &[ORDERS, OUTPUT]].concat()
 }
 
 /// How often each number, or each thing by its name, occurred.
@@ -80,8 +87,8 @@ mod tests {
 
     #[test]
     fn every_number_is_listed_once() {
-        let mut all = [session(), ORDER.to_vec()].concat();
-        assert!((1..=20).all(|n| all.contains(&n)));
+        let mut all = [session(), ORDER.to_vec(), vec![OUTPUT]].concat();
+        assert!((1..=21).all(|n| all.contains(&n)));
         let at = |n: u32| session().iter().position(|&m| m == n);
         assert!(at(8) < at(20) && at(20) < at(9) && at(9) < at(10));
         let many = all.len();

@@ -22,6 +22,16 @@ extern "C" {
         words: *mut u64,
         wlen: usize,
     ) -> usize;
+    #[cfg(feature = "session")]
+    fn gontrafiby_dump(
+        model: *const u8,
+        mlen: usize,
+        orders: *const u8,
+        olen: usize,
+        out: *mut u8,
+        outlen: usize,
+        length: *mut u64,
+    ) -> usize;
 }
 
 /// The resolution of some values, and the operators, on words.
@@ -71,4 +81,27 @@ pub fn session(
     let number = play(model, orders, answers, &mut words);
     dump[..DUMP].copy_from_slice(&pack(&words)?);
     Ok(number)
+}
+
+/// A run's number and the length of its dump, which is written to the front of the buffer.
+#[cfg(feature = "session")]
+pub fn dump(model: &[u8], orders: &[u8], out: &mut [u8]) -> (u32, usize) {
+    let mut length = u64::MAX;
+    // Safety: each pointer and length are those of one slice; the last points to one word.
+    let number = unsafe {
+        gontrafiby_dump(
+            model.as_ptr(),
+            model.len(),
+            orders.as_ptr(),
+            orders.len(),
+            out.as_mut_ptr(),
+            out.len(),
+            &mut length,
+        )
+    };
+    let number = u32::try_from(number).expect("a run's number is small");
+    (
+        number,
+        usize::try_from(length).expect("a dump's length is a size"),
+    )
 }

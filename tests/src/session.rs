@@ -12,16 +12,22 @@ pub const ADVANCE: u8 = 2;
 pub const SETTLE: u8 = 3;
 pub const READ: u8 = 4;
 
+/// The model, where neither it nor the orders' length is refused; Err is the number.
+pub fn accepted(model: &[u8], orders: &[u8]) -> Result<Model, u32> {
+    let m = model::load(model)?;
+    match orders.len() % ORDER != 0 || orders.len() > 16_384 {
+        true => Err(9),
+        false => Ok(m),
+    }
+}
+
 /// Plays the orders over the model. A refused session writes no answer and
 /// returns the empty configuration.
 pub fn session(model: &[u8], orders: &[u8], answers: &mut [u8]) -> (u32, Config) {
-    let m = match model::load(model) {
+    let m = match accepted(model, orders) {
         Ok(m) => m,
         Err(number) => return (number, Config::default()),
     };
-    if orders.len() % ORDER != 0 || orders.len() > 16_384 {
-        return (9, Config::default());
-    }
     if answers.len() != 4 * orders.len() {
         return (10, Config::default());
     }

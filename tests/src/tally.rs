@@ -3,6 +3,8 @@
 //! number of the papers is rare fails, and so does one in which something of a
 //! feature is.
 
+mod dumps;
+
 use crate::cases;
 use crate::cycle::Config;
 use crate::damage;
@@ -12,6 +14,8 @@ use crate::gen;
 use crate::model::{judge, load, ABSENT};
 use crate::numbers::{self, Counts};
 use crate::session::{session, ADVANCE, PICK, SETTLE};
+pub use dumps::Dump;
+use dumps::DumpTally;
 use std::collections::{BTreeMap, BTreeSet};
 
 /// Another kernel's judge: the number of a model.
@@ -51,10 +55,17 @@ const FEATURE_MODELS: u64 = 400;
 const FEATURE_SESSIONS: u64 = 200;
 /// 1,000 times among those sessions.
 const CONDITION_SESSIONS: u64 = 100;
+/// Each number and each thing of a dump, 200 times among the 20,000 of `make test`.
+const DUMPS: u64 = 100;
 
-/// What `tally` and `compare` do: `models N SEED`, `sessions N SEED` or
+/// What `tally` and `compare` do: `models N SEED`, `sessions N SEED`, `dumps N SEED` or
 /// `limits`, in this kernel and in the other one where it is given.
-pub fn run(name: &str, judge: Option<Judge>, session: Option<Session>) -> Result<(), String> {
+pub fn run(
+    name: &str,
+    judge: Option<Judge>,
+    session: Option<Session>,
+    dump: Option<Dump>,
+) -> Result<(), String> {
     let arguments: Vec<String> = std::env::args().skip(1).collect();
     let number = |n: usize, name: &str| {
         let text = arguments.get(n).ok_or(format!("{name} is missing"))?;
@@ -79,8 +90,18 @@ pub fn run(name: &str, judge: Option<Judge>, session: Option<Session>) -> Result
             counts.require(least(n, FEATURE_SESSIONS))?;
             format!("{n} sessions from seed {seed} on")
         }
+        Some("dumps") => {
+            let (n, seed) = (number(1, "N")?, number(2, "SEED")?);
+            if judge.is_some() && dump.is_none() {
+                return Err("this build has no dumps to compare".into());
+            }
+            let counts = dumps::dumps(n, seed, dump)?;
+            counts.print();
+            counts.require(least(n, DUMPS).feature)?;
+            format!("the dumps of {n} runs from seed {seed} on")
+        }
         Some("limits") => {
-            let counts = limits(judge, session)?;
+            let counts = limits(judge, session, dump)?;
             counts.print();
             counts.require()?;
             format!(
@@ -90,7 +111,7 @@ pub fn run(name: &str, judge: Option<Judge>, session: Option<Session>) -> Result
         }
         _ => {
             return Err(format!(
-                "use: {name} models N SEED | sessions N SEED | limits"
+                "use: {name} models N SEED | sessions N SEED | dumps N SEED | limits"
             ))
         }
     };
@@ -245,6 +266,8 @@ pub struct LimitTally {
     /// Judged models and played sessions by number.
     pub models: Counts,
     pub sessions: Counts,
+    /// The dumps of these sessions.
+    pub dumps: DumpTally,
 }
 
 impl LimitTally {
@@ -253,7 +276,12 @@ impl LimitTally {
         self.models
             .require("a limit model's refusal", numbers::MODEL, 1)?;
         let own = [numbers::ORDERS, numbers::ANSWERS];
-        self.sessions.require("a limit session's refusal", &own, 1)
+        self.sessions
+            .require("a limit session's refusal", &own, 1)?;
+        let own = [numbers::ORDERS, numbers::OUTPUT];
+        self.dumps
+            .numbers
+            .require("a limit dump's refusal", &own, 1)
     }
 
     pub fn print(&self) {
@@ -261,11 +289,22 @@ impl LimitTally {
         println!("by number {:?}", with_none(&all));
         println!("limit models              {}", row(&self.models, &all, 5));
         println!("bench and limit sessions  {}", row(&self.sessions, &all, 5));
+        let DumpTally {
+            numbers, longest, ..
+        } = &self.dumps;
+        let (whole, short) = (numbers.of(0), numbers.of(numbers::OUTPUT));
+        println!(
+            "their dumps: {whole} whole, {short} refused with 21; the longest {longest} bytes"
+        );
     }
 }
 
-/// Judges the limit models and plays the bench cases.
-pub fn limits(other: Option<Judge>, session: Option<Session>) -> Result<LimitTally, String> {
+/// Judges the limit models, plays the bench cases and dumps them.
+pub fn limits(
+    other: Option<Judge>,
+    session: Option<Session>,
+    dump: Option<Dump>,
+) -> Result<LimitTally, String> {
     let mut t = LimitTally::default();
     for (name, bytes, expected) in damage::limits() {
         let number = judge(&bytes);
@@ -283,9 +322,12 @@ pub fn limits(other: Option<Judge>, session: Option<Session>) -> Result<LimitTal
         t.models.add(number);
     }
     for case in cases::sessions() {
-        let (number, _) = play(&case.model, &case.orders, case.room, 0xA5, session)
-            .map_err(|found| format!("limits: first difference at `{}`: {found}", case.name))?;
+        let different = |found| format!("limits: first difference at `{}`: {found}", case.name);
+        let (number, _) =
+            play(&case.model, &case.orders, case.room, 0xA5, session).map_err(different)?;
         t.sessions.add(number);
+        let (dumps, model, orders) = (&mut t.dumps, &case.model, &case.orders);
+        dumps.run(model, orders, 0, dump).map_err(different)?;
     }
     Ok(t)
 }
@@ -558,6 +600,7 @@ impl SessionTally {
 #[cfg(test)]
 mod tests {
     use super::*;
+    use crate::vcd::write::write;
 
     fn own(m: &[u8], orders: &[u8], answers: &mut [u8], out: &mut [u8]) -> Result<u32, String> {
         let (number, config) = session(m, orders, answers);
@@ -569,7 +612,7 @@ mod tests {
     fn agreement() {
         assert!(models(2_000, 5, Some(&judge)).is_ok());
         assert!(sessions(1_000, 5, Some(&own)).is_ok());
-        assert!(limits(Some(&judge), Some(&own)).is_ok());
+        assert!(limits(Some(&judge), Some(&own), Some(&write)).is_ok());
     }
 
     #[test]
@@ -580,12 +623,12 @@ mod tests {
             message.contains("second kernel 8, proved kernel 0"),
             "{message}"
         );
-        assert!(limits(Some(&wrong), Some(&own)).is_err());
+        assert!(limits(Some(&wrong), Some(&own), None).is_err());
         let wrong = |b: &[u8]| if judge(b) == 20 { 5 } else { judge(b) };
         let message = models(2_000, 5, Some(&wrong)).err().unwrap();
         let found = "second kernel 20, proved kernel 5";
         assert!(message.contains(found), "{message}");
-        assert!(limits(Some(&wrong), Some(&own)).is_err());
+        assert!(limits(Some(&wrong), Some(&own), None).is_err());
     }
 
     #[test]
@@ -595,7 +638,7 @@ mod tests {
             n => Ok(n),
         };
         assert!(sessions(1_000, 5, Some(&number)).is_err());
-        assert!(limits(Some(&judge), Some(&number)).is_err());
+        assert!(limits(Some(&judge), Some(&number), None).is_err());
         let time = told_of(|number, _, answers, _| {
             let played = answers.chunks_exact_mut(16).filter(|_| number == 0);
             played.filter(|x| x[0] == 18).for_each(|x| x[8] ^= 1);
@@ -659,7 +702,7 @@ mod tests {
         assert_eq!(due(100_000, FEATURE_SESSIONS), (200, 500, 1_000));
         let judged = models(6_000, 5, None).unwrap();
         assert_eq!(judged.require(at_least(12, 10)), Ok(()));
-        assert_eq!(limits(None, None).unwrap().require(), Ok(()));
+        assert_eq!(limits(None, None, None).unwrap().require(), Ok(()));
         let played = sessions(6_000, 5, None).unwrap();
         let least = Least {
             condition: 60,

@@ -1,20 +1,26 @@
-//! The second kernel's program passes `edge`; with something wrong around it, it
-//! does not.
+//! The second kernel's programs pass `edge`; with something wrong around one, it does
+//! not.
 
-use second_kernel::edge::{examine, sessions, Findings, Group};
+use second_kernel::edge::{examine, sessions, Bench, Findings, Group, DUMP, PLAY};
 use std::process::Command;
 
-const PROGRAM: &str = env!("CARGO_BIN_EXE_playbench");
+const PLAYBENCH: &str = env!("CARGO_BIN_EXE_playbench");
+const DUMPBENCH: &str = env!("CARGO_BIN_EXE_dumpbench");
 
-/// What is found about a shell script that runs the program as "$0", on the
+/// What is found about a shell script that runs `playbench` as "$0", on the
 /// lengths and every fortieth of the other sessions.
 fn found(script: &str) -> Findings {
-    found_on(script, 40)
+    found_on(&PLAY, PLAYBENCH, script, 40)
 }
 
-/// The same on one of so many of the other sessions.
-fn found_on(script: &str, every: usize) -> Findings {
-    let mut groups: Vec<Group> = sessions();
+/// The same of `dumpbench`.
+fn found_of_dumps(script: &str) -> Findings {
+    found_on(&DUMP, DUMPBENCH, script, 40)
+}
+
+/// The same of either on one of so many of the other sessions.
+fn found_on(bench: &'static Bench, path: &str, script: &str, every: usize) -> Findings {
+    let mut groups: Vec<Group> = sessions(bench);
     for (_, list) in &mut groups[2..] {
         let mut n = 0;
         list.retain(|_| {
@@ -24,10 +30,10 @@ fn found_on(script: &str, every: usize) -> Findings {
     }
     let program = || {
         let mut sh = Command::new("sh");
-        sh.args(["-c", script, PROGRAM]);
+        sh.args(["-c", script, path]);
         sh
     };
-    examine(&program, &groups).expect("the program can be run")
+    examine(bench, &program, &groups).expect("the program can be run")
 }
 
 /// Whether something is wrong with a run whose name has these words.
@@ -36,16 +42,21 @@ fn wrong(found: &Findings, words: &str) -> bool {
 }
 
 #[test]
-fn the_second_kernels_program_passes() {
-    let examined = examine(&|| Command::new(PROGRAM), &sessions());
-    let mut found = examined.expect("the program can be run");
-    assert!(found.wrong.is_empty(), "{:?}", found.wrong);
-    assert_eq!(found.require(), Ok(()));
-    // Without what the columns are to show it would not do.
-    found.columns = Default::default();
-    let message = found.require().unwrap_err();
-    for what in ["with a node", "with node 65535", "of a negative value"] {
-        assert!(message.contains(what), "{message}");
+fn the_second_kernels_programs_pass() {
+    for (bench, path, shown) in [
+        (&PLAY, PLAYBENCH, ["with a node", "of a negative value"]),
+        (&DUMP, DUMPBENCH, ["a time left out", "that is never left"]),
+    ] {
+        let examined = examine(bench, &|| Command::new(path), &sessions(bench));
+        let mut found = examined.expect("the program can be run");
+        assert!(found.wrong.is_empty(), "{:?}", found.wrong);
+        assert_eq!(found.require(), Ok(()));
+        // Without what its texts are to show it would not do.
+        found.shown = Default::default();
+        let message = found.require().unwrap_err();
+        for what in shown {
+            assert!(message.contains(what), "{message}");
+        }
     }
 }
 
@@ -56,13 +67,38 @@ fn too_few_sessions_are_an_error() {
 
 #[test]
 fn rooms_too_small_are_found() {
-    let found = found(
-        "head -c 32768 model >m && mv m model; head -c 16384 orders >o && mv o orders; exec \"$0\"",
-    );
-    assert!(wrong(&found, "64 blocks and 512 bytes more of blocks"));
-    assert!(wrong(&found, "64 blocks and 700 bytes more of zeros"));
-    assert!(wrong(&found, "16388 bytes of orders"));
-    assert!(wrong(&found, "1048576 bytes of orders"));
+    let script =
+        "head -c 32768 model >m && mv m model; head -c 16384 orders >o && mv o orders; exec \"$0\"";
+    for found in [found(script), found_of_dumps(script)] {
+        assert!(wrong(&found, "64 blocks and 512 bytes more of blocks"));
+        assert!(wrong(&found, "64 blocks and 700 bytes more of zeros"));
+        assert!(wrong(&found, "16388 bytes of orders"));
+        assert!(wrong(&found, "1048576 bytes of orders"));
+    }
+    // Room for a megabyte of dump.
+    let found = found_of_dumps("\"$0\" | head -c 1048576");
+    assert!(wrong(&found, "pipes, the longest dump"));
+    assert!(!wrong(&found, "pipes, the inverter"));
+}
+
+#[test]
+fn wrong_dumps_are_found() {
+    for (script, words) in [
+        // A line end, a unit, another refusal, 21 for the longest, a time without a change.
+        ("\"$0\" | sed 's/$/\\r/'", "64 blocks: line 1"),
+        ("\"$0\" | sed 's/1 ns/1 ps/'", "64 blocks: line 1"),
+        ("\"$0\" | sed 's/^9$/21/'", "1 bytes of orders"),
+        (
+            "\"$0\" >d; if [ $(wc -c <d) -gt 99999 ]; then echo 21; else cat d; fi",
+            "pipes, the longest dump",
+        ),
+        ("\"$0\"; echo '#9999999999999'", "64 blocks: line"),
+        ("\"$0\" | sed 's/^z/x/'", "random sessions"),
+        ("\"$0\" | sed 's/^b0 /b /'", "random sessions"),
+    ] {
+        let found = found_of_dumps(script);
+        assert!(wrong(&found, words), "{script}");
+    }
 }
 
 #[test]
@@ -84,7 +120,12 @@ fn a_lost_line_is_found() {
 #[test]
 fn a_lost_node_is_found() {
     // One random session in sixteen has a node in a line.
-    let without_node = found_on(r#""$0" | sed 's/ [0-9]* \([0-9]*\)$/ 0 \1/'"#, 10);
+    let without_node = found_on(
+        &PLAY,
+        PLAYBENCH,
+        r#""$0" | sed 's/ [0-9]* \([0-9]*\)$/ 0 \1/'"#,
+        10,
+    );
     assert!(wrong(&without_node, "bench cases"));
     assert!(wrong(&without_node, "random sessions"));
     assert!(!wrong(&without_node, "the orders' length"));
@@ -97,12 +138,14 @@ fn a_lost_node_is_found() {
 
 #[test]
 fn silence_on_failures_is_found() {
-    let found = found("exec \"$0\" 2>/dev/null");
-    assert!(wrong(&found, "no file `model`"));
-    assert!(wrong(&found, "a folder in place of file `orders`"));
-    assert!(wrong(&found, "a write that fails, a refused session"));
-    assert!(wrong(&found, "a write that fails, the inverter"));
-    assert_eq!(found.wrong.len(), 8);
+    let script = "exec \"$0\" 2>/dev/null";
+    for found in [found(script), found_of_dumps(script)] {
+        assert!(wrong(&found, "no file `model`"));
+        assert!(wrong(&found, "a folder in place of file `orders`"));
+        assert!(wrong(&found, "a write that fails, a refused session"));
+        assert!(wrong(&found, "a write that fails, the inverter"));
+        assert_eq!(found.wrong.len(), 8);
+    }
 }
 
 #[test]

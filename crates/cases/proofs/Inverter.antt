@@ -15,8 +15,9 @@ use Rattle.rules.specs.Configuration.{first}
 use Rattle.session.specs.Lists.{ordersOf, played}
 use Rattle.session.specs.Sessions.{ordersOk, bufferOk, numberOf, Session, accepted, sessionOf}
 use Rattle.session.proofs.SessionLaws.{model-accepted, neither}
-use Rattle.text.specs.Text.{placesOf, decimalOf, signedOf, lineOf, answersIn, sessionText, textOf}
-use Rattle.cases.specs.Inverter.{inverter, signalBlock, processBlock, driverBlock, nodeBlock, statementBlock, inverterBlocks, inverterBytes, inverterOrders, inverterOrderBytes, bytesIn, printed, inverterLines, InverterPlayed}
+use Rattle.numerals.specs.Numerals.{placesIn, numeral, decimalOf}
+use Rattle.text.specs.Text.{signedOf, lineOf, answersIn, sessionText, textOf}
+use Rattle.cases.specs.Inverter.{inverter, signalBlock, processBlock, driverBlock, nodeBlock, statementBlock, inverterBlocks, inverterBytes, inverterOrders, inverterOrderBytes, printed, inverterLines, InverterPlayed}
 use Rattle.cases.proofs.Rules.{the-orders, the-checks, the-reading}
 use Rattle.cases.proofs.Blocks.{accepted-bytes}
 
@@ -29,7 +30,7 @@ pub model-read : modelOf inverterBytes ≡ inverter
 unfolding the-reading the-bytes inverter
 model-read = refl
 
-orders-read : ordersOf inverterOrderBytes ≡ inverterOrders
+pub orders-read : ordersOf inverterOrderBytes ≡ inverterOrders
 unfolding the-orders inverterOrders
 orders-read = refl
 
@@ -57,7 +58,7 @@ session-is =
 
 -- the answers as text
 text-is : sessionText inverterOrders (accepted (played inverter inverterOrders (first inverter))) ≡ printed inverterLines
-unfolding the-orders inverter inverterOrders sessionText answersIn lineOf decimalOf placesOf signedOf flatMap bytesIn printed inverterLines
+unfolding the-orders inverter inverterOrders sessionText answersIn lineOf decimalOf numeral placesIn signedOf flatMap printed inverterLines
 text-is = refl
 
 pub as-printed : InverterPlayed

@@ -6,3 +6,4 @@ pub mod Inverter
 pub mod Guarded
 pub mod Claims
 pub mod Delays
+pub mod Waves

@@ -2,17 +2,17 @@
 use mathlib.Core.Path.{_≡_}
 use mathlib.Core.List.{List, [], _∷_, flatMap, flatten}
 use Prim.Native.Nat.{ℕ}
-use Prim.Native.Char.{code}
-use Prim.Native.String.{String, len, charAt}
+use Prim.Native.String.{String}
 use lib.ListN.{replicate}
-use Rattle.base.specs.Below.{listBelow}
 use Rattle.blocks.specs.Records.{plain, Model, modelOf}
 use Rattle.fields.specs.Fields.{absent}
 use Rattle.trees.specs.Trees.{logic}
 use Rattle.model.specs.Rules.{refusalOf}
 use Rattle.session.specs.Lists.{Order, ordersOf}
 use Rattle.session.specs.Sessions.{sessionOf}
-use Rattle.text.specs.Text.{lineFeed, ended, textOf}
+use Rattle.numerals.specs.Numerals.{lineFeed}
+use Rattle.text.specs.Text.{ended, textOf}
+use Rattle.vcd.specs.Lines.{wordOf}
 use Rattle.cases.specs.Forms.{signal, process, driver, node, statement, block, advanceOrder, settleOrder, readOrder}
 
 -- "Inverter: signals 0 = i, 1 = o, logic, both starting at value 0 (code 2). Process 0: o <= not i after 0; wait on i. Process
@@ -98,13 +98,9 @@ inverterOrderBytes =
     ∷ 4 ∷ 1 ∷ 0 ∷ 0
     ∷ []
 
--- the characters of a text, as bytes
-unfoldable pub bytesIn : String → List ℕ
-bytesIn t = listBelow (λ i. code (charAt t i)) (len t)
-
 -- some lines, as bytes
 unfoldable pub printed : List String → List ℕ
-printed ts = flatMap (λ t. ended (bytesIn t) lineFeed) ts
+printed ts = flatMap (λ t. ended (wordOf t) lineFeed) ts
 
 -- "All it prints", with the node's column of document 02, item 3
 unfoldable pub inverterLines : List String

@@ -9,3 +9,4 @@ pub mod Guarded
 pub mod Claims
 pub mod Delays
 pub mod Table
+pub mod Waves

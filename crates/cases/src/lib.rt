@@ -1,5 +1,5 @@
 // The bench cases of document 01, by the definitions alone: the proved table, what the inverter prints, and the claims over all
-// models and lists of orders, used on the inverter; a bus and a register whose drivers turn off; delays of 0; and inertial
+// models and lists of orders, used on the inverter; its dump; a bus and a register whose drivers turn off; delays of 0; and inertial
 // delays.
 ghost use mathlib.Core.Path.{_≡_};
 ghost use lib.ListN.{length};
@@ -8,6 +8,7 @@ ghost use Rattle.cases.specs.Table.{rows, TableWhole};
 ghost use Rattle.cases.specs.Arithmetic.{DivisionUsed};
 ghost use Rattle.cases.specs.Faults.{FaultsUsed};
 ghost use Rattle.cases.specs.Inverter.{inverterLines, InverterPlayed};
+ghost use Rattle.cases.specs.Waves.{inverterDump, InverterDumped};
 ghost use Rattle.cases.specs.Guarded.{guardedRows, GuardedPlayed};
 ghost use Rattle.cases.specs.Delays.{delayRows, DelaysPlayed, DelaysUsed};
 ghost use Rattle.cases.specs.Inertial.{inertialCases, InertialPlayed};
@@ -31,6 +32,14 @@ pub fn inverter_lines() -> usize
     ensures { λ r. ⌜ InverterLaws ⌝ }
 {
     8
+}
+
+// How many lines the inverter's dump has; that these are dumped, and what is read back of them.
+pub fn dump_lines() -> usize
+    ensures { λ r. ⌜ r ≡ length inverterDump ⌝ }
+    ensures { λ r. ⌜ InverterDumped ⌝ }
+{
+    12
 }
 
 // How many picks the inverter's orders make; that picks in another order are as many and lead to the same end.

@@ -18,7 +18,7 @@ use Rattle.blocks.specs.Records.{Model}
 use Rattle.rules.specs.Configuration.{Transaction, Configuration, driverIn, processIn}
 use Rattle.rules.specs.Steps.{dueIn, transactionDue, deadlineAt, deadlineDue}
 use Rattle.rules.specs.Orders.{timesIn, optional, least, earliest, dueTimes, dueNow}
-use Rattle.rules.proofs.Lists.{all-left, all-right, all-weaker, all-part}
+use Rattle.base.proofs.All.{all-left, all-right, all-weaker, all-part}
 use Rattle.rules.proofs.Earliest.{none-earlier}
 use Rattle.rules.proofs.DueTimes.{Within, driver-within, process-within, each-within, due-within, due-after}
 use Rattle.waveforms.specs.Pending.{never, firstTime, pendingOf, noDriver, NoneBefore}

@@ -22,7 +22,7 @@ use Rattle.rules.specs.declared.driven.Driven.{Driven}
 use Rattle.rules.specs.declared.driven.Driven.the-variants.{To, Null}
 use Rattle.rules.specs.Configuration.{DriverState, driverIn, valuesOf, drivingBy, drivingOf, resolvedOr}
 use Rattle.rules.specs.Invariant.{ValueOf, Carries}
-use Rattle.rules.proofs.Lists.{all-join, all-at}
+use Rattle.base.proofs.All.{all-join, all-at}
 
 module _ (M : Model) (ds : List DriverState) (s : ℕ) where
   -- what holds of the value of each driver of s that is on holds of each driving value

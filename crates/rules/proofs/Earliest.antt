@@ -12,7 +12,7 @@ use Rattle.base.proofs.Below.{split, list-none, list-more}
 use Rattle.blocks.specs.Records.{Model}
 use Rattle.rules.specs.Orders.{least, earliest, timesIn, optional, dueTimes}
 use Rattle.rules.specs.Configuration.{Configuration, driverIn, processIn}
-use Rattle.rules.proofs.Lists.{all-left, all-right, all-append, all-join, all-part}
+use Rattle.base.proofs.All.{all-left, all-right, all-append, all-join, all-part}
 
 -- nothing is earlier than the least
 from-least : (s t : ℕ) (ts : List ℕ) → s ≤ least t ts → (s ≤ t) × All (λ u. s ≤ u) ts

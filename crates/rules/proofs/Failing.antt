@@ -26,7 +26,7 @@ use Rattle.rules.specs.declared.value.Value.{Value}
 use Rattle.rules.specs.declared.value.Value.the-variants.{Of, Fault}
 use Rattle.rules.specs.Evaluation.{Environment, int, failure, one, two, unlessFirst, decidedBy, ranged, negateOf, sumOf, differenceOf, equalOf, lessOf, productOf, divided, valueBy, evalOf}
 use Rattle.rules.specs.Failing.{leavesB, orderBy, nextOrder, evaluationOrder, HasValue, AtFault, FaultNamed}
-use Rattle.rules.proofs.Lists.{all-append}
+use Rattle.base.proofs.All.{all-append}
 use Rattle.rules.proofs.Evaluation.{node-value}
 
 -- what the operation of node n gives: a value, or one of its faults at n

@@ -9,7 +9,7 @@ use lib.Seq.{getD-take, getD-drop}
 use Rattle.base.specs.Below.{listBelow, All}
 use Rattle.base.specs.Bytes.{byteAt, wordAt}
 use Rattle.rules.specs.Orders.{Outcome, faultAndNode}
-use Rattle.rules.proofs.Lists.{all-append}
+use Rattle.base.proofs.All.{all-append}
 use Rattle.session.specs.Lists.{Order, orderOf, ordersOf, answerOf}
 use Rattle.session.specs.Demand3.{Bytes}
 

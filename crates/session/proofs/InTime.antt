@@ -26,7 +26,7 @@ module _ (M : Model) (fs : Facts M) where
   abbrev Keeps : Outcome → Type 0
   Keeps r = Reachable M (r .after)
 
-  performed-reachable : (o : Order) (c : Configuration) → Reachable M c → Keeps (performed M o c)
+  pub performed-reachable : (o : Order) (c : Configuration) → Reachable M c → Keeps (performed M o c)
   unfolding performed
   performed-reachable o c r =
       by-test Keeps (not (isKnown o)) _ _ (λ e. r)

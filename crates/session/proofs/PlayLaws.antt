@@ -5,7 +5,6 @@ use mathlib.Core.Bool.{Bool, true, false}
 use mathlib.Core.Logic.{_⊎_, inl, inr, ⊎-elim}
 use mathlib.Core.List.{List, [], _∷_, _++_, append-assoc, append-nil}
 use Prim.Native.Nat.{ℕ, _+_, _*_, _-_, _/_, _≤_, _<_}
-use native.Mathlib.Nat.{le-of-eq}
 use native.Mathlib.Numerals.{add-one}
 use native.Mathlib.Omega.{arith}
 use borrow.Author.Tests.{ne-eqb}
@@ -31,10 +30,6 @@ use Rattle.cycle.proofs.ViewLaws.{nsignals-is}
 use Rattle.session.specs.Lists.{order, orderOf, ordersOf, isKnown, performed, answerBytes, answerOf, played}
 use Rattle.session.specs.Sessions.{bytesOf}
 
--- a whole copy
-pub copied : (b out last : List ℕ) (n : ℕ) → length b ≡ n → length out ≡ n → last ≡ take n b ++ drop n out → last ≡ b
-copied b out last n e f h = rw (h, take-all n b (le-of-eq e), drop-of-length-le out (le-of-eq f), append-nil)
-
 -- all is written
 pub all-written : (a t : List ℕ) (n : ℕ) → length a ≤ n → take n a ++ [] ≡ t → a ≡ t
 all-written a t n h e = rw (append-nil, take-all n a h) at e
@@ -53,7 +48,7 @@ module _ (os : List ℕ) (i : ℕ) where
 
   module _ (h : i < length os / 4) where
     -- the next order stands in front of those that are left
-    next-order : drop i (ordersOf os) ≡ orderOf (take 4 (drop (4 * i) os)) ∷ drop (i + 1) (ordersOf os)
+    pub next-order : drop i (ordersOf os) ≡ orderOf (take 4 (drop (4 * i) os)) ∷ drop (i + 1) (ordersOf os)
     unfolding ordersOf
     next-order =
         let k : i < length (listBelow (λ n. orderOf (take 4 (drop (4 * n) os))) (length os / 4)) = rw list-length h in

@@ -8,7 +8,7 @@ ghost use Rattle.session.specs.DelayLaws.{DelayLaws};
 ghost use Rattle.session.specs.Demand3.{Determinate};
 ghost use Rattle.session.specs.FaultLaws.{FaultLaws};
 ghost use Rattle.session.specs.ListLaws.{ListLaws};
-ghost use Rattle.session.specs.Sessions.{lengthRules, SessionIs};
+ghost use Rattle.session.specs.Sessions.{ordersOk, lengthRules, SessionIs};
 use crate::play::play;
 use cycle::config::Config;
 use model::load::load;
@@ -19,16 +19,22 @@ pub struct Ended {
     pub config: Config,
 }
 
+// The orders' length is a multiple of 4 up to 16,384.
+pub fn orders_ok(orders: &[u8]) -> bool
+    ensures { λ r. ⌜ r ≡ ordersOk (now (orders .entry)) ⌝ }
+{
+    let n = orders.len();
+    (n % 4 == 0) & (n <= 16384)
+}
+
 // The first of 9 and 10 that applies, or 0.
 fn lengths_refusal(orders: &[u8], answers: &[u8]) -> usize
     ensures { λ r. ⌜ r ≡ firstFailing (lengthRules (now (orders .entry)) (now (answers .entry))) ⌝ }
 {
-    let n = orders.len();
-    let whole = (n % 4 == 0) & (n <= 16384);
-    if !whole {
+    if !orders_ok(orders) {
         return 9;
     }
-    if answers.len() != 4 * n {
+    if answers.len() != 4 * orders.len() {
         return 10;
     }
     0

@@ -43,7 +43,7 @@ fn picks_of(kind: usize, argument: usize, count: usize) -> Picks
 }
 
 // Plays the orders, and writes each answer into its own part of the buffer.
-pub(crate) fn play<'a>(
+pub fn play<'a>(
     c: Config,
     m: &'a [u8],
     index: &'a Index,
@@ -54,6 +54,7 @@ pub(crate) fn play<'a>(
     requires { ⌜ Valid (modelOf (now m)) c ⌝ }
     requires { ⌜ length (now answers) ≡ 16 * (length (now orders) / 4) ⌝ }
     ensures { λ r. ⌜ PlayedTo (modelOf (now (m .entry))) (now (orders .entry)) (viewOf c) (viewOf r) (now (answers .exit)) ⌝ }
+    ensures { λ r. ⌜ Valid (modelOf (now (m .entry))) r ⌝ }
 {
     let n = orders.len() / 4;
     let mut at = c;

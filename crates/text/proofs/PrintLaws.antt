@@ -89,10 +89,10 @@ pub lines-room : {o : List ℕ} {a b : ℕ} (n : ℕ) → AnswerRoom o a → b �
 lines-room n r e h = omega arith
 
 -- longer orders, and a longer model, than a session takes
-long-orders : (o : List ℕ) → 16384 < length o → ordersOk o ≡ false
+pub long-orders : (o : List ℕ) → 16384 < length o → ordersOk o ≡ false
 long-orders o l = either-way (ordersOk o) (λ e. let k = orders-few o [] e in absurd (omega arith)) (λ e. e)
 
-long-model : (m : List ℕ) → 32768 < length m → refusalOf m ≡ 1
+pub long-model : (m : List ℕ) → 32768 < length m → refusalOf m ≡ 1
 unfolding refusalOf rulesOf blockRules
 long-model m l = either-way (lengthOk m) (λ e. let k = length-most m e in absurd (omega arith)) (λ e. sym (fails 1 _ _ refl e))
 

@@ -3,31 +3,16 @@
 -- columns, in the bench case too: byte 4 and bytes 6-7 for a pick, bytes 4 to 7 and 0 for other orders."
 use mathlib.Core.Path.{_≡_}
 use mathlib.Core.List.{List, [], _∷_, _++_}
-use Prim.Native.Nat.{ℕ, suc, _+_, _*_, _-_, _/_, _^_, _≤_}
+use Prim.Native.Nat.{ℕ, _+_, _*_, _-_, _/_, _≤_}
 use lib.Dec.{eqb, ltb}
 use lib.ListN.{length, take, drop, replicate}
 use Rattle.base.specs.Below.{listBelow}
 use Rattle.base.specs.Bytes.{byteAt, wordAt, longAt}
 use Rattle.base.specs.Cases.{_∣_, _⇒_, _is_⇒_}
-use Rattle.base.specs.Course.{firstWith}
 use Rattle.io.specs.Counts.{Counts}
-use Rattle.io.specs.Digits.{digits}
+use Rattle.numerals.specs.Numerals.{decimalOf, space, lineFeed}
 use Rattle.session.specs.Lists.{Order, ordersOf}
 use Rattle.session.specs.Sessions.{Session, sessionOf}
-
--- how many digits a number below 10 ^ 20 has in base ten
-unfoldable pub placesOf : ℕ → ℕ
-placesOf n = suc (firstWith (λ k. ltb n (10 ^ suc k)) 19)
-
--- a number below 10 ^ 20 in base ten
-unfoldable pub decimalOf : ℕ → List ℕ
-decimalOf n = digits 10 (placesOf n) n
-
-abbrev pub space : ℕ
-space = 32
-
-abbrev pub lineFeed : ℕ
-lineFeed = 10
 
 abbrev pub minus : ℕ
 minus = 45

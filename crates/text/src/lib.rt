@@ -4,10 +4,12 @@ ghost use Prim.Native.Nat.{_+_, _*_, _/_, _≤_, _<_};
 ghost use lib.ListN.{length, take, replicate};
 ghost use Rattle.session.specs.Lists.{ordersOf};
 ghost use Rattle.session.specs.Sessions.{sessionOf};
-ghost use Rattle.text.specs.Text.{decimalOf, signedOf, space, ended, timeIn, valueIn, nodeIn, lineOf, numberLineOf, answersIn, linesOf, textOf, lineMost, modelRoom, ordersRoom, textRoom, RoomsSuffice, AnswerRoom, Prints, Written};
+ghost use Rattle.numerals.specs.Numerals.{decimalOf, space};
+ghost use Rattle.text.specs.Text.{signedOf, ended, timeIn, valueIn, nodeIn, lineOf, numberLineOf, answersIn, linesOf, textOf, lineMost, modelRoom, ordersRoom, textRoom, RoomsSuffice, AnswerRoom, Prints, Written};
 use base::byte;
 use base::long;
 use base::word;
+use numerals::decimal;
 use session::session;
 
 // How many bytes the program has room for: of the model, of the orders and of the text.
@@ -23,7 +25,7 @@ fn put_number(n: u64, after: u8, out: &mut [u8], at: usize) -> usize
     ensures { λ r. ⌜ Written (ended (decimalOf n) after) (now (out .entry)) (now (out .exit)) at r ⌝ }
 {
     let mut text = [0u8; 20];
-    let k = io::decimal(n, &mut text);
+    let k = decimal(n, &mut text);
     let end = at + k;
     bytes::copy(&text[..k], &mut out[at..end]);
     out[end] = after;
@@ -115,7 +117,7 @@ fn put_lines(orders: &[u8], answers: &[u8], out: &mut [u8]) -> usize
 }
 
 // Writes the line of a refused session, and answers how many bytes it has.
-fn put_refusal(number: usize, out: &mut [u8]) -> usize
+pub fn put_refusal(number: usize, out: &mut [u8]) -> usize
     requires { ⌜ lineMost ≤ length (now out) ⌝ }
     ensures { λ r. ⌜ r ≤ length (now (out .exit)) ⌝ }
     ensures { λ r. ⌜ take r (now (out .exit)) ≡ numberLineOf number ⌝ }

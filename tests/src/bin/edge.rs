@@ -1,18 +1,20 @@
 //! Holds the program that plays the files `model` and `orders` against the
-//! second kernel's text: `edge PROGRAM`.
+//! second kernel's text: `edge PROGRAM`; `edge dump PROGRAM` the one that dumps them.
 
-use second_kernel::edge::{examine, sessions};
+use second_kernel::edge::{examine, sessions, DUMP, PLAY};
 use second_kernel::end;
 use std::process::Command;
 
 fn run() -> Result<(), String> {
-    let mut arguments = std::env::args_os().skip(1);
-    let (Some(path), None) = (arguments.next(), arguments.next()) else {
-        return Err("use: edge PROGRAM".into());
+    let arguments: Vec<_> = std::env::args_os().skip(1).collect();
+    let (bench, path) = match &arguments[..] {
+        [path] => (&PLAY, path),
+        [dump, path] if dump == "dump" => (&DUMP, path),
+        _ => return Err("use: edge PROGRAM | edge dump PROGRAM".into()),
     };
     // The program runs in other folders.
-    let path = std::fs::canonicalize(&path).map_err(|e| format!("{}: {e}", path.display()))?;
-    let found = examine(&|| Command::new(&path), &sessions())?;
+    let path = std::fs::canonicalize(path).map_err(|e| format!("{}: {e}", path.display()))?;
+    let found = examine(bench, &|| Command::new(&path), &sessions(bench))?;
     found.print();
     for wrong in found.wrong.iter().take(20) {
         println!("WRONG: {wrong}");

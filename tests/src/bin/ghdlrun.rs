@@ -21,6 +21,13 @@
 //! their last settled values, where GHDL failed in more than one model of ten, and with
 //! the feature `session` also where the proved kernel played too few: a run of more than
 //! 4,096 orders is the second kernel's, one lively model in ten at most.
+//!
+//! GHDL also writes a dump of its run (`--vcd`), which is read beside the kernel's own:
+//! where GHDL came to its end, every signal must have the same value in both at each time of
+//! the run. GHDL's unit is 1 fs; it writes std_logic with the nine letters, not as IEEE
+//! 1364 has four states, so these are mapped as document 02, item 7, says before it is
+//! read: U W - to x, L to 0, H to 1. Each of the nine must occur. Integers are 32 bits in
+//! both; what else GHDL's dump has (delayed signals) is left aside.
 
 use second_kernel::builder::Builder;
 use second_kernel::cycle::{Config, Step, DELTA_LIMIT, NINTH, TIME_LIMIT};
@@ -29,8 +36,11 @@ use second_kernel::gen;
 use second_kernel::model::{self, Model, ABSENT, BUS, INTEGER, LOGIC, PLAIN, REGISTER};
 use second_kernel::numbers::Counts;
 use second_kernel::tally;
+use second_kernel::values::LETTERS;
+use second_kernel::vcd::read::{read, Waves};
+use second_kernel::vcd::{self, FOUR_STATES};
 use second_kernel::vhdl::{self, Form};
-use std::collections::BTreeMap;
+use std::collections::{BTreeMap, BTreeSet};
 use std::path::{Path, PathBuf};
 use std::process::{exit, Command};
 use std::sync::atomic::{AtomicUsize, Ordering};
@@ -192,6 +202,16 @@ fn proved_rows(_: &[u8], _: &[[u8; 4]], _: usize) -> Option<Vec<Row>> {
     None
 }
 
+/// The kernel's dump of the orders, read; none where there is no signal, or the list is
+/// longer than a session may be.
+fn dump(model: &[u8], orders: &[[u8; 4]], signals: usize) -> Option<Waves> {
+    if signals == 0 || orders.len() > 4_096 {
+        return None;
+    }
+    let text = vcd::dump(model, &orders.concat()).expect("a run has a dump");
+    Some(read(&text).expect("a dump can be read"))
+}
+
 /// The first row and those that differ from the one before.
 fn changes(rows: Vec<Row>) -> Vec<Row> {
     let mut kept: Vec<Row> = Vec::new();
@@ -235,9 +255,13 @@ const FAILURES: [&str; 6] = [
     "bound check failure",
 ];
 
+/// What a run of GHDL gave: the lines of the monitor, its end and its dump.
+type Output = (Vec<Row>, Outcome, String);
+
 /// Runs GHDL on a case's text up to a time, that time included.
-fn ghdl(text: &str, case: &Case, dir: &Path, name: &str) -> Result<(Vec<Row>, Outcome), String> {
+fn ghdl(text: &str, case: &Case, dir: &Path, name: &str) -> Result<Output, String> {
     let file = dir.join(name);
+    let dump = file.with_extension("vcd");
     std::fs::write(&file, text).map_err(|e| e.to_string())?;
     let out = Command::new("timeout")
         .args(["10", "ghdl", "-c", "--std=93", "-Wno-runtime-error"])
@@ -246,9 +270,11 @@ fn ghdl(text: &str, case: &Case, dir: &Path, name: &str) -> Result<(Vec<Row>, Ou
         .args(["-r", "top"])
         .arg(format!("--stop-time={}ns", case.stop))
         .arg(format!("--stop-delta={}", case.cycles))
+        .arg(format!("--vcd={}", dump.display()))
         .output()
         .map_err(|e| format!("ghdl: {e}"))?;
-    let _ = std::fs::remove_file(&file);
+    let dumped = std::fs::read_to_string(&dump).unwrap_or_default();
+    let _ = (std::fs::remove_file(&file), std::fs::remove_file(&dump));
     let said = String::from_utf8_lossy(&out.stdout).to_string();
     let errors = String::from_utf8_lossy(&out.stderr).to_string();
     let heard = |words: &str| said.contains(words) || errors.contains(words);
@@ -269,12 +295,64 @@ fn ghdl(text: &str, case: &Case, dir: &Path, name: &str) -> Result<(Vec<Row>, Ou
     let rows: Result<_, _> = lines
         .map(|l| parse(l).ok_or(format!("cannot read GHDL's line: {l}")))
         .collect();
-    Ok((rows?, outcome))
+    Ok((rows?, outcome, dumped))
+}
+
+/// What was compared of a case.
+#[derive(Debug, Default, PartialEq, Eq)]
+struct Compared {
+    /// The whole run, and not that before a failure of GHDL's own.
+    whole: bool,
+    /// Values in the two dumps, 0 where they were not compared.
+    values: usize,
+    /// The letters in GHDL's dump.
+    letters: BTreeSet<char>,
+}
+
+/// GHDL's dump in four states, and the letters that it had.
+fn four_states(text: &str) -> (String, BTreeSet<char>) {
+    let (mut letters, mut changes, mut mapped) = (BTreeSet::new(), false, String::new());
+    for line in text.lines() {
+        let letter = line.bytes().next().filter(|_| changes);
+        match letter.and_then(|l| LETTERS.iter().position(|&m| m == l)) {
+            Some(code) => {
+                letters.insert(LETTERS[code] as char);
+                mapped.push(FOUR_STATES[code] as char);
+                mapped += &line[1..];
+            }
+            None => mapped += line,
+        }
+        mapped.push('\n');
+        changes |= line.starts_with("$enddefinitions");
+    }
+    (mapped, letters)
+}
+
+/// Compares the kernel's dump and GHDL's at each time of the run.
+fn compare_dumps(case: &Case, theirs: &str) -> Result<Compared, String> {
+    let mut compared = Compared {
+        whole: true,
+        ..Compared::default()
+    };
+    let Some(ours) = &case.dump else {
+        return Ok(compared);
+    };
+    let (text, letters) = four_states(theirs);
+    let theirs = read(&text).map_err(|e| format!("GHDL's dump: {e}"))?;
+    let names = (0..case.model.signals.len()).map(|n| format!("s{n}"));
+    let factor = ours.unit / theirs.unit;
+    vcd::alike(ours, &theirs, (&case.times, factor), names)
+        .map_err(|e| format!("the kernel's dump and GHDL's: {e}"))?;
+    compared.values = case.times.len() * case.model.signals.len();
+    compared.letters = letters;
+    Ok(compared)
 }
 
 /// Is the whole run alike, or that before a failure of GHDL's own? Err is the first
-/// place where the two lists of changes part.
-fn compare(case: &Case, theirs: &[Row], outcome: Outcome) -> Result<bool, String> {
+/// place where the two lists of changes, or where GHDL came to its end the two dumps,
+/// part.
+fn compare(case: &Case, (theirs, outcome, dump): Output) -> Result<Compared, String> {
+    let theirs = &changes(theirs)[..];
     let whole = outcome != Outcome::Broken;
     // A failure in the first settling comes before GHDL's first line.
     let early = outcome == Outcome::Failure && case.stop == 0 && theirs.is_empty();
@@ -304,7 +382,13 @@ fn compare(case: &Case, theirs: &[Row], outcome: Outcome) -> Result<bool, String
             case.end, case.stop
         ));
     }
-    Ok(whole)
+    if outcome == Outcome::Done {
+        return compare_dumps(case, &dump);
+    }
+    Ok(Compared {
+        whole,
+        ..Compared::default()
+    })
 }
 
 /// A model with its run.
@@ -319,6 +403,9 @@ struct Case {
     cycles: u32,
     breaks: bool,
     changes: Vec<Row>,
+    /// The kernel's dump of the run, and the times at which values are settled.
+    dump: Option<Waves>,
+    times: Vec<u64>,
     /// What the run shows of the features up to the last row.
     shown: Seen,
     end: End,
@@ -336,6 +423,8 @@ impl Case {
             breaks,
         } = run(&model);
         let proved = proved_rows(bytes, &orders, rows[0].1.len());
+        let dump = dump(bytes, &orders, rows[0].1.len());
+        let times = rows[1..].iter().map(|row| row.0).collect();
         let second = changes(rows);
         Case {
             name,
@@ -346,6 +435,8 @@ impl Case {
             proved: proved.is_some(),
             lively: second.len() > 1,
             changes: proved.map_or(second, changes),
+            dump,
+            times,
             shown,
             end,
         }
@@ -449,7 +540,7 @@ fn compare_all(
     cases: &[Case],
     alter: &dyn Fn(String) -> String,
     dir: &Path,
-) -> Vec<Result<bool, String>> {
+) -> Vec<Result<Compared, String>> {
     let texts: Vec<String> = cases
         .iter()
         .map(|c| alter(vhdl::translate(&c.model, Form::Checked)))
@@ -463,7 +554,7 @@ fn compare_all(
                 let n = next.fetch_add(1, Ordering::Relaxed);
                 let Some(case) = cases.get(n) else { return };
                 let result = ghdl(&texts[n], case, dir, &format!("model{n}.vhd"))
-                    .and_then(|(rows, outcome)| compare(case, &changes(rows), outcome));
+                    .and_then(|output| compare(case, output));
                 found.lock().unwrap().insert(n, result);
             });
         }
@@ -526,6 +617,47 @@ fn whole_due(broken: usize, all: usize) -> Result<(), String> {
     }
 }
 
+/// What was compared in dumps.
+#[derive(Default)]
+struct Dumps {
+    models: u64,
+    values: usize,
+    /// Models by the letters in GHDL's dump.
+    letters: Counts<char>,
+}
+
+impl Dumps {
+    fn add(&mut self, compared: &Compared) {
+        self.models += (compared.values > 0) as u64;
+        self.values += compared.values;
+        compared.letters.iter().for_each(|&l| self.letters.add(l));
+    }
+
+    fn print(&self) {
+        let letters = LETTERS.map(|l| format!("{} {}", l as char, self.letters.of(l as char)));
+        println!(
+            "dumps beside GHDL's: {} models, {} settled values; models by letter: {}",
+            self.models,
+            self.values,
+            letters.join(", ")
+        );
+    }
+
+    /// Err where too few were compared, of half of the lively models at least, or a letter is
+    /// missing; in a small run nothing is due.
+    fn due(&self, n: u64) -> Result<(), String> {
+        if n < 100 {
+            return Ok(());
+        }
+        let letters = LETTERS.map(char::from);
+        self.letters.require("models with letter", &letters, 1)?;
+        match self.models < n / 2 {
+            true => Err(format!("{} dumps beside GHDL's, too few", self.models)),
+            false => Ok(()),
+        }
+    }
+}
+
 fn usage() -> ! {
     eprintln!("usage: ghdlrun [N [SEED [FROM TO]]] | ghdlrun show SEED");
     exit(2)
@@ -583,7 +715,8 @@ fn main() {
         println!("{}:\n  {e}", case.name);
     }
     let differ = bad.len();
-    let mut whole = found.iter().map(|found| *found != Ok(false));
+    let broke = |found: &&Result<Compared, String>| found.as_ref().is_ok_and(|c| !c.whole);
+    let mut whole = found.iter().map(|found| !broke(&found));
     let all = cases.len();
     cases.retain(|_| whole.next() == Some(true));
     let broken = all - cases.len();
@@ -608,9 +741,13 @@ fn main() {
         cases.len(),
     );
     let _ = std::fs::remove_dir_all(&dir);
+    let mut dumps = Dumps::default();
+    found.iter().flatten().for_each(|c| dumps.add(c));
+    dumps.print();
     let mut wrong = differ > 0;
     for due in [
         features_due(&shown, n as u64),
+        dumps.due(n as u64),
         proved_due(&cases),
         whole_due(broken, all),
     ] {
@@ -621,5 +758,68 @@ fn main() {
     }
     if wrong {
         exit(1)
+    }
+}
+
+#[cfg(test)]
+mod tests {
+    use super::*;
+
+    #[test]
+    fn nine_letters_become_four_states() {
+        let header = "$date\n  Wed\n$end\n$var reg 1 ! s0 $end\n$enddefinitions $end\n";
+        let text = "#0\nU!\nX!\n0!\n1!\nZ!\nW!\nL!\nH!\n-!\nb101 -\n";
+        let (mapped, letters) = four_states(&format!("{header}{text}"));
+        let states = "#0\nx!\nx!\n0!\n1!\nz!\nx!\n0!\n1!\nx!\nb101 -\n";
+        assert_eq!(mapped, format!("{header}{states}"));
+        assert_eq!(letters, BTreeSet::from(LETTERS.map(char::from)));
+    }
+
+    #[test]
+    fn dumps_that_differ_are_found() {
+        let case = Case::of_seed(1);
+        let text = vcd::dump(
+            &model::encode(&case.model),
+            &run(&case.model).orders.concat(),
+        );
+        let right = text.unwrap();
+        let scaled = |factor: u64| -> String {
+            let line = |l: &str| match l.strip_prefix('#') {
+                Some(time) => format!("#{}\n", factor * time.parse::<u64>().unwrap()),
+                None => format!("{l}\n"),
+            };
+            right
+                .lines()
+                .map(line)
+                .collect::<String>()
+                .replace("1 ns", "1 fs")
+        };
+        let compared = compare_dumps(&case, &scaled(1_000_000)).unwrap();
+        assert_eq!(compared.values, case.times.len() * case.model.signals.len());
+        assert!(compared.values > 0 && compared.whole);
+        let message = compare_dumps(&case, &scaled(2_000_000)).unwrap_err();
+        assert!(
+            message.contains("the kernel's dump and GHDL's: s"),
+            "{message}"
+        );
+    }
+
+    #[test]
+    fn few_dumps_or_letters_are_an_error() {
+        let mut dumps = Dumps::default();
+        assert_eq!(dumps.due(99), Ok(()));
+        assert!(dumps.due(100).unwrap_err().contains("letter U occurred 0"));
+        let compared = Compared {
+            whole: true,
+            values: 1,
+            letters: BTreeSet::from(LETTERS.map(char::from)),
+        };
+        (0..49).for_each(|_| dumps.add(&compared));
+        assert_eq!(
+            dumps.due(100),
+            Err("49 dumps beside GHDL's, too few".into())
+        );
+        dumps.add(&compared);
+        assert_eq!(dumps.due(100), Ok(()));
     }
 }

@@ -1,6 +1,9 @@
 //! What the generated cases come to in this kernel alone:
-//! `tally models N SEED`, `tally sessions N SEED`, `tally limits`.
+//! `tally models N SEED`, `tally sessions N SEED`, `tally dumps N SEED`, `tally limits`.
 
 fn main() -> std::process::ExitCode {
-    second_kernel::end("tally", second_kernel::tally::run("tally", None, None))
+    second_kernel::end(
+        "tally",
+        second_kernel::tally::run("tally", None, None, None),
+    )
 }

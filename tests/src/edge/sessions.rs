@@ -1,10 +1,10 @@
 //! The sessions that a program is held to.
 
+use super::Bench;
 use crate::builder::Builder;
 use crate::cases::{self, in_64_blocks, inverter, inverter_orders, largest, ADVANCE, READ, SETTLE};
 use crate::damage;
 use crate::features;
-use crate::gen;
 use crate::model::*;
 use crate::numbers;
 use crate::rng::Rng;
@@ -147,10 +147,16 @@ pub fn long_lines() -> Case {
     Case::new("4,096 orders, long lines", &b.encode(), &orders, 0)
 }
 
-fn random_sessions() -> Vec<Case> {
+/// The longest dump that can be.
+pub fn longest_dump() -> Case {
+    let (b, orders) = cases::longest_dump();
+    Case::new("the longest dump", &b.encode(), &orders, 0)
+}
+
+fn random_sessions(bench: &Bench) -> Vec<Case> {
     (SEED..SEED + RANDOM)
         .map(|seed| {
-            let case = gen::session_case(seed);
+            let case = (bench.random)(seed);
             Case {
                 name: format!("seed {seed} ({})", case.what),
                 model: case.model,
@@ -167,14 +173,14 @@ pub const RANDOM_SESSIONS: &str = "random sessions";
 /// Sessions of one sort, with its name.
 pub type Group = (&'static str, Vec<Case>);
 
-/// All sessions.
-pub fn sessions() -> Vec<Group> {
+/// All sessions for a program.
+pub fn sessions(bench: &Bench) -> Vec<Group> {
     vec![
         ("a model's length", model_lengths()),
         ("the orders' length", order_lengths()),
         ("damaged models", damaged_models()),
         ("limits of a model", limit_models()),
         ("bench cases", bench_cases()),
-        (RANDOM_SESSIONS, random_sessions()),
+        (RANDOM_SESSIONS, random_sessions(bench)),
     ]
 }

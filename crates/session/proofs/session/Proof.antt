@@ -64,7 +64,7 @@ returns-3 c =
     let made = done .before .before .before in
     let test = made .before .before .before in
     let a = accepted (test .before .before .before) in
-    (played-session _ _ _ _ _ (model-accepted _ _ _ a ∙ sym (test .before .lengths-refusal .ensures) ∙ test .if2 .left) refl (rw (made .first .ensures .is) at (done .play .ensures)), (determinate, (list-laws, (fault-laws, delay-laws))))
+    (played-session _ _ _ _ _ (model-accepted _ _ _ a ∙ sym (test .before .lengths-refusal .ensures) ∙ test .if2 .left) refl (rw (made .first .ensures .is) at (done .play .ensures .0)), (determinate, (list-laws, (fault-laws, delay-laws))))
 
 pub session-spec : {M : Type 1} → statement M
 session-spec =

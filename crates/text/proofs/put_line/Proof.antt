@@ -4,8 +4,10 @@ use native.Mathlib.Omega.{arith}
 use Prim.Native.Nat.{ℕ, _+_, _≤_, _<_}
 use lib.ListN.{length}
 use borrow.Author.Needs.{needs}
-use Rattle.text.specs.Text.{decimalOf, signedOf}
-use Rattle.text.proofs.TextLaws.{digits-most, signed-most, place-behind, behind, line-written}
+use Rattle.numerals.specs.Numerals.{decimalOf}
+use Rattle.text.specs.Text.{signedOf}
+use Rattle.numerals.proofs.NumeralLaws.{decimal-most}
+use Rattle.text.proofs.TextLaws.{signed-most, place-behind, behind, line-written}
 use Rattle.text.proofs.put_line.Statement.{statement}
 use Rattle.text.proofs.put_line.Tie as tie
 
@@ -28,7 +30,7 @@ time-in-requires : tie.Need-time-in-requires
 time-in-requires c κs = search needs
 
 put-number-requires : tie.Need-put-number-requires
-put-number-requires c κs = omega (arith, digits-most (c .before .before .before .before .before .before .byte .result) 2 (omega arith))
+put-number-requires c κs = omega (arith, decimal-most (c .before .before .before .before .before .before .byte .result) 2 (omega arith))
 
 -- the start, and the six numbers
 module _ (c : tie.After-time-in) where
@@ -54,7 +56,7 @@ module _ (c : tie.After-time-in) where
   node = c .before .node-in .result
 
   node-short : length (decimalOf node) ≤ 5
-  node-short = digits-most node 4 (omega (arith, c .before .node-in .ensures .1))
+  node-short = decimal-most node 4 (omega (arith, c .before .node-in .ensures .1))
 
 -- the place behind each text
 module _ (c : tie.After-put-number) where
@@ -62,31 +64,31 @@ module _ (c : tie.After-put-number) where
   read1 = c .before .before
 
   first : c .put-number .result ≤ start read1 .args .at + 4
-  first = omega (arith, place-behind (decimalOf (refusal read1)) 32 (c .put-number .ensures), digits-most (refusal read1) 2 (omega arith))
+  first = omega (arith, place-behind (decimalOf (refusal read1)) 32 (c .put-number .ensures), decimal-most (refusal read1) 2 (omega arith))
 
 put-number-requires-2 : tie.Need-put-number-requires-2
 put-number-requires-2 c κs =
     let put = c .before .before .before in
-    omega (arith, first put, put .put-number .kept .1 .1 .0, digits-most (said (read1 put)) 2 (omega arith))
+    omega (arith, first put, put .put-number .kept .1 .1 .0, decimal-most (said (read1 put)) 2 (omega arith))
 
 module _ (c : tie.After-put-number2) where
   abbrev put1 : tie.After-put-number
   put1 = c .before .before .before .before
 
   second : c .put-number2 .result ≤ start (read1 put1) .args .at + 8
-  second = omega (arith, first put1, place-behind (decimalOf (said (read1 put1))) 32 (c .put-number2 .ensures), digits-most (said (read1 put1)) 2 (omega arith))
+  second = omega (arith, first put1, place-behind (decimalOf (said (read1 put1))) 32 (c .put-number2 .ensures), decimal-most (said (read1 put1)) 2 (omega arith))
 
 put-number-requires-3 : tie.Need-put-number-requires-3
 put-number-requires-3 c κs =
     let put = c .before .before .before in
-    omega (arith, second put, start (read1 (put1 put)) .pre .1, put1 put .put-number .kept .1 .1 .0, put .put-number2 .kept .1 .1 .0, digits-most (picks (read1 (put1 put))) 4 (omega arith))
+    omega (arith, second put, start (read1 (put1 put)) .pre .1, put1 put .put-number .kept .1 .1 .0, put .put-number2 .kept .1 .1 .0, decimal-most (picks (read1 (put1 put))) 4 (omega arith))
 
 module _ (c : tie.After-put-number3) where
   abbrev put2 : tie.After-put-number2
   put2 = c .before .before .before .before
 
   third : c .put-number3 .result ≤ start (read1 (put1 put2)) .args .at + 14
-  third = omega (arith, second put2, place-behind (decimalOf (picks (read1 (put1 put2)))) 32 (c .put-number3 .ensures), digits-most (picks (read1 (put1 put2))) 4 (omega arith))
+  third = omega (arith, second put2, place-behind (decimalOf (picks (read1 (put1 put2)))) 32 (c .put-number3 .ensures), decimal-most (picks (read1 (put1 put2))) 4 (omega arith))
 
 put-signed-requires : tie.Need-put-signed-requires
 put-signed-requires c κs =
@@ -124,7 +126,7 @@ put-number-requires-5 : tie.Need-put-number-requires-5
 put-number-requires-5 c κs =
     let put = c .before .before .before in
     let read = read4 (put4 put) in
-    omega (arith, fifth put, start read .pre .1, kept4 (put4 put), put .put-number4 .kept .1 .1 .0, digits-most (read .time-in .result) 19 (omega arith))
+    omega (arith, fifth put, start read .pre .1, kept4 (put4 put), put .put-number4 .kept .1 .1 .0, decimal-most (read .time-in .result) 19 (omega arith))
 
 same-length : tie.Need-same-length
 same-length c = search needs
@@ -139,7 +141,7 @@ returns c =
     let numbers = behind (behind (put1 two .put-number .ensures) (two .put-number2 .ensures)) (put3 signed .put-number3 .ensures) in
     let w = behind (behind (behind numbers (signed .put-signed .ensures)) (put .put-number4 .ensures)) (last .put-number5 .ensures) in
     let place = place-behind (decimalOf (read .time-in .result)) 10 (last .put-number5 .ensures) in (
-      omega (arith, place, fifth put, digits-most (read .time-in .result) 19 (omega arith)),
+      omega (arith, place, fifth put, decimal-most (read .time-in .result) 19 (omega arith)),
       line-written (start read .args .kind) (start read .args .answer .now)
           (read .before .before .before .before .before .byte .ensures .value)
           (read .before .before .before .before .byte2 .ensures .value)

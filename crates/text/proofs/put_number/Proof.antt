@@ -5,21 +5,17 @@ use Prim.Native.Nat.{ℕ, _+_, _-_}
 use borrow.Rule.Slice.PartMut.{same-len-mid}
 use lib.ListN.{length, take, drop, length-take, length-drop}
 use borrow.Author.Needs.{needs}
-use Rattle.session.proofs.PlayLaws.{copied}
-use Rattle.text.specs.Text.{decimalOf}
-use Rattle.text.proofs.TextLaws.{decimal-is, put}
+use Rattle.base.proofs.Below.{copied}
+use Rattle.numerals.specs.Numerals.{decimalOf}
+use Rattle.text.proofs.TextLaws.{put}
 use Rattle.text.proofs.put_number.Statement.{statement}
 use Rattle.text.proofs.put_number.Tie as tie
 
 decimal-requires : tie.Need-decimal-requires
 decimal-requires c κs = search needs
 
--- what was written is the number's text
-text : (c : tie.After-decimal) → take (c .decimal .result) (c .decimal .last .1 .0) ≡ decimalOf (c .before .before .before .args .n)
-text c = c .decimal .ensures .1 .1 ∙ decimal-is (c .before .before .before .args .n) (c .decimal .result) (c .before .before .before .fits .n .fits) (c .decimal .ensures .1 .0)
-
 places : (c : tie.After-decimal) → length (decimalOf (c .before .before .before .args .n)) ≡ c .decimal .result
-places c = ap length (sym (text c)) ∙ sym (c .decimal .ensures .0 .1)
+places c = ap length (sym (c .decimal .ensures .1)) ∙ sym (c .decimal .ensures .0 .1)
 
 add-end : tie.Need-add-end
 add-end c = omega (arith, places c)
@@ -62,7 +58,7 @@ returns c =
     let made = c .before .before .before .before .before in
     let at = start .args .at in
     let k = made .decimal .result in
-    let whole : take k (made .decimal .last .1 .0) ≡ decimalOf (start .args .n) = text made in
+    let whole : take k (made .decimal .last .1 .0) ≡ decimalOf (start .args .n) = made .decimal .ensures .1 in
     let source : length (take k (made .decimal .last .1 .0)) ≡ k = ap length whole ∙ places made in
     let part : length (take (at + k - at) (drop at (start .args .out .now))) ≡ k = simp (length-take, length-drop) (omega (arith, places made)) in
     put (start .args .out .now) (decimalOf (start .args .n)) (c .before .before .copy .last .1 .0) _ at (at + k) (start .args .after)

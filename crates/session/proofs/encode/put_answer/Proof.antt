@@ -2,7 +2,7 @@
 use mathlib.Core.Path.{_≡_, refl, sym, ap, _∙_}
 use borrow.Author.Needs.{needs}
 use lib.ListN.{length}
-use Rattle.session.proofs.PlayLaws.{copied}
+use Rattle.base.proofs.Below.{copied}
 use Rattle.session.proofs.encode.put_answer.Statement.{statement}
 use Rattle.session.proofs.encode.put_answer.Tie as tie
 

@@ -131,11 +131,13 @@ unfolding played
 returns c =
     let inv = c .before .loop .inv in
     let start = c .before .before .before .before .before in
-    let n = no-orders (start .args .orders .now) (c .before .loop .i) (c .loop-test .left) in
-    record {
-      end = rw n at (inv .end);
-      answers = all-written _ _ (16 * c .before .loop .i) (omega arith) (rw n at (inv .bytes));
-    }
+    let n = no-orders (start .args .orders .now) (c .before .loop .i) (c .loop-test .left) in (
+      record {
+        end = rw n at (inv .end);
+        answers = all-written _ _ (16 * c .before .loop .i) (omega arith) (rw n at (inv .bytes));
+      },
+      inv .valid,
+    )
 
 pub play-spec : {M : Type 1} → statement M
 play-spec =

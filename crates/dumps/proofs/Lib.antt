@@ -1,0 +1,4 @@
+pub mod DumpLaws
+pub mod PrintLaws
+pub mod RunLaws
+pub mod TraceLaws

@@ -1,0 +1,89 @@
+//! The programs that are held to the second kernel: `playbench` and `dumpbench`.
+
+use super::sessions::{long_lines, longest_dump, Case};
+use crate::features::{dumps, Seen};
+use crate::gen::{self, SessionCase};
+use crate::model::load;
+use crate::session;
+use crate::vcd::read::read;
+use crate::vcd::write;
+
+/// What a program prints of its files `model` and `orders`.
+pub struct Bench {
+    /// The second kernel's text.
+    pub print: fn(&[u8], &[u8]) -> String,
+    /// Is the text of a session that is played whole, by its orders?
+    pub whole: fn(&[u8], &str) -> bool,
+    /// The random session of a seed, and one whose text is long.
+    pub random: fn(u64) -> SessionCase,
+    pub long: fn() -> Case,
+    /// What the texts of random sessions must show, and what one shows.
+    pub names: fn() -> Vec<&'static str>,
+    pub shown: fn(&Case, &str) -> Seen,
+    /// Numbers that cannot occur, and why.
+    pub never: &'static str,
+}
+
+pub const PLAY: Bench = Bench {
+    print: session::print,
+    whole: |orders, text| text.lines().count() == orders.len() / session::ORDER,
+    random: gen::session_case,
+    long: long_lines,
+    names: || COLUMNS.to_vec(),
+    shown: |case, text| columns_shown(&case.orders, text),
+    never: "number 10 cannot occur: the program makes the answer buffer itself",
+};
+
+pub const DUMP: Bench = Bench {
+    print: write::print,
+    whole: |_, text| read(text).is_ok(),
+    random: gen::dump_case,
+    long: longest_dump,
+    names: dumps::of_times,
+    shown: |case, _| {
+        let m = load(&case.model).expect("a played model is accepted");
+        dumps::of_run(&m, &case.orders, &write::settled(&m, &case.orders))
+    },
+    never: "numbers 10 and 21 cannot occur: there is no answer buffer, and the program's own holds every dump",
+};
+
+/// What lines of random sessions show in the columns of value and node, besides 0.
+const NODE: &str = "a pick with a node";
+const NO_NODE: &str = "a pick with node 65535";
+const NEGATIVE: &str = "a read of a negative value";
+const COLUMNS: [&str; 3] = [NODE, NO_NODE, NEGATIVE];
+
+/// What a played session's lines show.
+fn columns_shown(orders: &[u8], text: &str) -> Seen {
+    let mut seen = Seen::new();
+    for (order, line) in orders.chunks_exact(session::ORDER).zip(text.lines()) {
+        let columns: Vec<&str> = line.split(' ').collect();
+        match (order[0], columns[3], columns[4]) {
+            (session::PICK, _, "0") => {}
+            (session::PICK, _, "65535") => _ = seen.insert(NO_NODE),
+            (session::PICK, ..) => _ = seen.insert(NODE),
+            (session::READ, value, _) if value.starts_with('-') => _ = seen.insert(NEGATIVE),
+            _ => {}
+        }
+    }
+    seen
+}
+
+#[cfg(test)]
+mod tests {
+    use super::*;
+
+    #[test]
+    fn columns_of_value_and_node() {
+        let shown = |order: u8, line: &str| columns_shown(&[order, 0, 0, 0], line);
+        for (order, line, what) in [
+            (session::PICK, "0 2 1 4 2 0", NODE),
+            (session::PICK, "0 2 1 2 65535 0", NO_NODE),
+            (session::READ, "0 0 0 -7 0 0", NEGATIVE),
+        ] {
+            assert_eq!(shown(order, line), Seen::from([what]), "{line}");
+        }
+        assert!(shown(session::PICK, "0 0 1 0 0 3").is_empty());
+        assert!(shown(session::READ, "0 0 0 7 0 3").is_empty());
+    }
+}
