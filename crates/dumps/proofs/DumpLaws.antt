@@ -22,7 +22,8 @@ use Rattle.cycle.specs.Arrays.{EntriesAre}
 use Rattle.session.specs.Lists.{ordersOf}
 use Rattle.session.specs.Sessions.{ordersOk}
 use Rattle.vcd.specs.Vcd.{rowIn, valueIn, dumpText}
-use Rattle.vcd.specs.Writing.{headerMost, rowMost, Puts, frontOf, rowsOf}
+use Rattle.vcd.specs.Writing.{headerMost, rowMost, frontOf, rowsOf}
+use Rattle.numerals.specs.Puts.{Puts}
 use Rattle.vcd.proofs.ReadBack.{dumps-read-back}
 use Rattle.dumps.specs.Dumps.{dumpOf, runRules, runNumber, dumpNumber, dumpedOf, DumpIs, ReadsBack, TimesOfRuns, RoomHolds}
 use Rattle.dumps.specs.Run.{settledIn, runOf, rowAt, typesOf, signalType, Traced}

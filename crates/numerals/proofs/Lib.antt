@@ -1,3 +1,4 @@
 pub mod Bits
 pub mod NumeralLaws
+pub mod PutLaws
 pub mod Reading

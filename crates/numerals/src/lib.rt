@@ -1,4 +1,6 @@
-// Numbers as text, in base ten and in base two.
+// Numbers as text, in base ten and in base two, and texts put one behind the other.
+pub mod put;
+
 ghost use mathlib.Core.Path.{_≡_};
 ghost use lib.ListN.{length, take};
 ghost use Rattle.io.specs.Counts.{Counts};
@@ -6,7 +8,7 @@ ghost use Rattle.io.specs.Digits.{digits};
 ghost use Rattle.numerals.specs.Numerals.{placesIn, decimalOf};
 
 // Writes a number in base ten, and answers how many digits it has.
-pub fn decimal(n: u64, text: &mut [u8; 20]) -> usize
+pub(crate) fn decimal(n: u64, text: &mut [u8; 20]) -> usize
     ensures { λ r. ⌜ Counts r (now (text .exit)) ⌝ }
     ensures { λ r. ⌜ take r (now (text .exit)) ≡ decimalOf n ⌝ }
 {
@@ -14,7 +16,7 @@ pub fn decimal(n: u64, text: &mut [u8; 20]) -> usize
 }
 
 // How many digits 32 bits have in base two.
-pub fn binary_places(x: u32) -> usize
+pub(crate) fn binary_places(x: u32) -> usize
     ensures { λ r. ⌜ r ≡ placesIn 2 31 x ⌝ }
 {
     let n = x as u64;
@@ -28,7 +30,7 @@ pub fn binary_places(x: u32) -> usize
 }
 
 // Writes the last digits of a number in base two over the whole slice.
-pub fn put_binary(x: u32, out: &mut [u8])
+pub(crate) fn put_binary(x: u32, out: &mut [u8])
     ensures { λ _. ⌜ now (out .exit) ≡ digits 2 (length (now (out .entry))) x ⌝ }
 {
     let mut rest = x;

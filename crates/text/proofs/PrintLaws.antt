@@ -4,17 +4,17 @@ use mathlib.Core.Path.{_≡_, refl, sym, _∙_}
 use mathlib.Core.Bool.{false}
 use mathlib.Core.Logic.{⊎-elim}
 use mathlib.Core.List.{List, [], _∷_, _++_, append-assoc, append-nil}
-use Prim.Native.Nat.{ℕ, _+_, _*_, _-_, _/_, _≤_, _<_}
-use native.Mathlib.Nat.{le-antisymm, add-zero}
+use Prim.Native.Nat.{ℕ, zero, suc, _+_, _*_, _-_, _/_, _≤_, _<_}
+use native.Mathlib.Nat.{add-zero}
 use native.Mathlib.Omega.{arith}
 use borrow.Author.Tests.{eqb-true, eqb-false, eq-eqb, ne-eqb}
 use lib.Dec.{eqb}
 use lib.ListN.{length, take, drop, replicate, length-take, length-replicate}
 use lib.Seq.{take-all, getD-take, getD-drop}
-use Rattle.base.specs.Below.{listBelow}
+use Rattle.base.specs.Below.{joinBelow, listBelow}
 use Rattle.base.specs.Bytes.{byteAt}
 use Rattle.base.specs.Cases.{_∣_, _⇒_}
-use Rattle.base.proofs.Below.{split, list-none, list-more, list-length}
+use Rattle.base.proofs.Below.{split, list-length}
 use Rattle.base.proofs.Rules.{fails}
 use Rattle.base.proofs.Cases.{either-way}
 use Rattle.blocks.specs.Blocks.{lengthOk}
@@ -27,7 +27,7 @@ use Rattle.session.specs.Lists.{Order, orderOf, ordersOf, played}
 use Rattle.session.specs.Sessions.{ordersOk, bufferOk, numberOf, bytesOf, sessionOf}
 use Rattle.session.proofs.SessionLaws.{nine, room, orders-few, model-refused, model-accepted}
 use Rattle.session.proofs.InTime.{not-refused}
-use Rattle.text.specs.Text.{lineMost, lineOf, numberLineOf, linesOf, answersIn, sessionText, textOf, modelRoom, ordersRoom, textRoom, RoomsSuffice, AnswerRoom, Written}
+use Rattle.text.specs.Text.{lineMost, lineOf, numberLineOf, linesOf, answersIn, sessionText, textOf, modelRoom, ordersRoom, textRoom, RoomsSuffice}
 
 -- the lines of the answers to some orders, and of one more
 lines-behind : (os : List Order) (xs : List (List ℕ)) (o : Order) (a : List ℕ) → length os ≡ length xs
@@ -44,49 +44,36 @@ orderAt orders i = orderOf (take 4 (drop (4 * i) orders))
 abbrev pub answerAt : List ℕ → ℕ → List ℕ
 answerAt buffer i = take 16 (drop (16 * i) buffer)
 
--- the lines of the answers below i stand in the first `at` bytes of `out`, which has `size` bytes
-pub record Lines (orders answers : List ℕ) (size : ℕ) (out : List ℕ) (at i : ℕ) : Type 0 where
-  pub few : i ≤ length answers / 16
-  pub short : at ≤ lineMost * i
-  pub same : length out ≡ size
-  pub lines : take at out ≡ linesOf (listBelow (orderAt orders) i) (listBelow (answerAt answers) i)
-
-pub no-lines : (orders answers out : List ℕ) → Lines orders answers (length out) out 0 0
-no-lines orders answers out =
-    record { few = omega arith; short = omega arith; same = refl; lines = rw (list-none (orderAt orders)) }
+-- the line of answer i
+abbrev pub lineAt : List ℕ → List ℕ → ℕ → List ℕ
+lineAt orders answers i = lineOf (byteAt orders (4 * i)) (answerAt answers i)
 
 -- the kind of order i is its first byte
 kind-read : (orders : List ℕ) (i : ℕ) → orderAt orders i .kind ≡ byteAt orders (4 * i)
 unfolding orderOf
 kind-read orders i = rw (getD-take 4 (drop (4 * i) orders) 0 0 (omega arith), getD-drop, add-zero)
 
--- one line more
-pub next-line : {orders answers out new : List ℕ} {size at i r kind : ℕ} → Lines orders answers size out at i → i < length answers / 16
-    → kind ≡ byteAt orders (4 * i) → r ≤ at + lineMost → length new ≡ length out
-    → Written (lineOf kind (take (16 * i + 16 - 16 * i) (drop (16 * i) answers))) out new at r → Lines orders answers size new r (i + 1)
-next-line {orders} {answers} {i = i} l h k m s w =
-    let e : 16 * i + 16 - 16 * i ≡ 16 = omega arith in
-    let n : length (listBelow (orderAt orders) i) ≡ length (listBelow (answerAt answers) i) = list-length (orderAt orders) i ∙ sym (list-length (answerAt answers) i) in
-    record {
-      few = omega arith;
-      short = omega arith;
-      same = s ∙ l .same;
-      lines = w .bytes ∙ rw (e, k, l .lines, list-more, list-more, lines-behind _ _ (orderAt orders i) (answerAt answers i) n, kind-read);
-    }
+lines-joined : (orders answers : List ℕ) (n : ℕ) → joinBelow (lineAt orders answers) n ≡ linesOf (listBelow (orderAt orders) n) (listBelow (answerAt answers) n)
+unfolding joinBelow listBelow
+lines-joined orders answers zero = refl
+lines-joined orders answers (suc n) =
+    let e : length (listBelow (orderAt orders) n) ≡ length (listBelow (answerAt answers) n) = list-length (orderAt orders) n ∙ sym (list-length (answerAt answers) n) in
+    rw (lines-behind _ _ (orderAt orders n) (answerAt answers n) e, lines-joined orders answers n, kind-read)
 
-pub all-lines : {orders answers out : List ℕ} {size at i : ℕ} → Lines orders answers size out at i → length answers ≡ 16 * (length orders / 4)
-    → length answers / 16 ≤ i → take at out ≡ linesOf (ordersOf orders) (answersIn answers)
+pub all-lines : (orders answers : List ℕ) → length answers ≡ 16 * (length orders / 4)
+    → joinBelow (lineAt orders answers) (length answers / 16) ≡ linesOf (ordersOf orders) (answersIn answers)
 unfolding answersIn ordersOf
-all-lines {orders} {answers} {i = i} l n h =
+all-lines orders answers h =
     let e : length orders / 4 ≡ length answers / 16 = omega arith in
-    l .lines ∙ rw (e, le-antisymm (l .few) h)
+    rw e (lines-joined orders answers (length answers / 16))
 
--- the room for the text has room for a line, and for that of each answer
+-- the line that is put of order i and its part of the answers
+pub line-at : (orders answers : List ℕ) (i : ℕ) {kind : ℕ} → kind ≡ byteAt orders (4 * i) → lineOf kind (take (16 * i + 16 - 16 * i) (drop (16 * i) answers)) ≡ lineAt orders answers i
+line-at orders answers i k = let e : 16 * i + 16 - 16 * i ≡ 16 = omega arith in rw (e, k)
+
+-- the room for the text has room for a line
 pub line-room : (n : ℕ) → textRoom ≤ n → lineMost ≤ n
 line-room n h = omega arith
-
-pub lines-room : {o : List ℕ} {a b : ℕ} (n : ℕ) → AnswerRoom o a → b ≡ a → textRoom ≤ n → lineMost * (b / 16) ≤ n
-lines-room n r e h = omega arith
 
 -- longer orders, and a longer model, than a session takes
 pub long-orders : (o : List ℕ) → 16384 < length o → ordersOk o ≡ false

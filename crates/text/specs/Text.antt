@@ -95,8 +95,3 @@ pub record AnswerRoom (orders : List ℕ) (n : ℕ) : Type 0 where
 pub record Prints (model orders out : List ℕ) (r : ℕ) : Type 0 where
   pub within : Counts r out
   pub text : take r out ≡ textOf model orders
-
--- `old` became `new` by a text that was written at `at`, and r is the place behind it
-pub record Written (text old new : List ℕ) (at r : ℕ) : Type 0 where
-  pub place : r ≡ at + length text
-  pub bytes : take r new ≡ take at old ++ text

@@ -5,11 +5,13 @@ ghost use lib.ListN.{length, take, replicate};
 ghost use Rattle.session.specs.Lists.{ordersOf};
 ghost use Rattle.session.specs.Sessions.{sessionOf};
 ghost use Rattle.numerals.specs.Numerals.{decimalOf, space};
-ghost use Rattle.text.specs.Text.{signedOf, ended, timeIn, valueIn, nodeIn, lineOf, numberLineOf, answersIn, linesOf, textOf, lineMost, modelRoom, ordersRoom, textRoom, RoomsSuffice, AnswerRoom, Prints, Written};
+ghost use Rattle.numerals.specs.Puts.{far, Puts};
+ghost use Rattle.text.specs.Text.{signedOf, ended, timeIn, valueIn, nodeIn, lineOf, numberLineOf, answersIn, linesOf, textOf, lineMost, modelRoom, ordersRoom, textRoom, RoomsSuffice, AnswerRoom, Prints};
 use base::byte;
 use base::long;
 use base::word;
-use numerals::decimal;
+use numerals::put::put_byte;
+use numerals::put::put_decimal;
 use session::session;
 
 // How many bytes the program has room for: of the model, of the orders and of the text.
@@ -19,30 +21,28 @@ const ORDERS_ROOM: usize = 16385;
 
 const TEXT_ROOM: usize = 217088;
 
-// Writes a number in base ten, and a character behind it.
+// A number in base ten, and a character behind it.
 fn put_number(n: u64, after: u8, out: &mut [u8], at: usize) -> usize
-    requires { ⌜ at + length (decimalOf n) < length (now out) ⌝ }
-    ensures { λ r. ⌜ Written (ended (decimalOf n) after) (now (out .entry)) (now (out .exit)) at r ⌝ }
+    requires { ⌜ at + 20 ≤ far ⌝ }
+    ensures { λ r. ⌜ r ≤ at + 21 ⌝ }
+    ensures { λ r. ⌜ Puts (ended (decimalOf n) after) (now (out .entry)) (now (out .exit)) at r ⌝ }
 {
-    let mut text = [0u8; 20];
-    let k = decimal(n, &mut text);
-    let end = at + k;
-    bytes::copy(&text[..k], &mut out[at..end]);
-    out[end] = after;
-    end + 1
+    let end = put_decimal(n, out, at);
+    put_byte(after, out, end)
 }
 
-// Writes 32 bits as a signed number, and a space.
+// 32 bits as a signed number, and a space.
 fn put_signed(v: u64, out: &mut [u8], at: usize) -> usize
     requires { ⌜ v < 4294967296 ⌝ }
-    requires { ⌜ at + length (signedOf v) < length (now out) ⌝ }
-    ensures { λ r. ⌜ Written (ended (signedOf v) space) (now (out .entry)) (now (out .exit)) at r ⌝ }
+    requires { ⌜ at + 21 ≤ far ⌝ }
+    ensures { λ r. ⌜ r ≤ at + 22 ⌝ }
+    ensures { λ r. ⌜ Puts (ended (signedOf v) space) (now (out .entry)) (now (out .exit)) at r ⌝ }
 {
     if v < 2147483648 {
         return put_number(v, 32, out, at);
     }
-    out[at] = 45;
-    put_number(4294967296 - v, 32, out, at + 1)
+    let digits = put_byte(45, out, at);
+    put_number(4294967296 - v, 32, out, digits)
 }
 
 // The time of an answer.
@@ -76,12 +76,12 @@ fn node_in(kind: usize, answer: &[u8]) -> u64
     0
 }
 
-// Writes the line of the answer to an order of that kind.
+// The line of the answer to an order of that kind.
 fn put_line(kind: usize, answer: &[u8], out: &mut [u8], at: usize) -> usize
     requires { ⌜ length (now answer) ≡ 16 ⌝ }
-    requires { ⌜ at + lineMost ≤ length (now out) ⌝ }
+    requires { ⌜ at ≤ textRoom ⌝ }
     ensures { λ r. ⌜ r ≤ at + lineMost ⌝ }
-    ensures { λ r. ⌜ Written (lineOf kind (now (answer .entry))) (now (out .entry)) (now (out .exit)) at r ⌝ }
+    ensures { λ r. ⌜ Puts (lineOf kind (now (answer .entry))) (now (out .entry)) (now (out .exit)) at r ⌝ }
 {
     let refusal = byte(answer, 0) as u64;
     let said = byte(answer, 1) as u64;
@@ -97,10 +97,11 @@ fn put_line(kind: usize, answer: &[u8], out: &mut [u8], at: usize) -> usize
     put_number(time, 10, out, e)
 }
 
-// Writes the line of the answer to each order, and answers how many bytes they have.
+// The line of the answer to each order; answers how many bytes they have.
 fn put_lines(orders: &[u8], answers: &[u8], out: &mut [u8]) -> usize
     requires { ⌜ length (now answers) ≡ 16 * (length (now orders) / 4) ⌝ }
-    requires { ⌜ lineMost * (length (now answers) / 16) ≤ length (now out) ⌝ }
+    requires { ⌜ length (now answers) ≤ 65536 ⌝ }
+    requires { ⌜ textRoom ≤ length (now out) ⌝ }
     ensures { λ r. ⌜ r ≤ length (now (out .exit)) ⌝ }
     ensures { λ r. ⌜ take r (now (out .exit)) ≡ linesOf (ordersOf (now (orders .entry))) (answersIn (now (answers .entry))) ⌝ }
 {
@@ -116,7 +117,7 @@ fn put_lines(orders: &[u8], answers: &[u8], out: &mut [u8]) -> usize
     at
 }
 
-// Writes the line of a refused session, and answers how many bytes it has.
+// The line of a refused session; answers how many bytes it has.
 pub fn put_refusal(number: usize, out: &mut [u8]) -> usize
     requires { ⌜ lineMost ≤ length (now out) ⌝ }
     ensures { λ r. ⌜ r ≤ length (now (out .exit)) ⌝ }

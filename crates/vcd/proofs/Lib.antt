@@ -1,7 +1,6 @@
 pub mod Changes
 pub mod Header
 pub mod Numbers
-pub mod PutLaws
 pub mod ReadBack
 pub mod Rows
 pub mod ValueLaws

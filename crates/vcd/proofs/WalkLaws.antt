@@ -12,11 +12,12 @@ use lib.ListN.{length, getD, take, drop}
 use lib.Seq.{getD-take, getD-drop}
 use Rattle.base.specs.Below.{anyBelow, joinBelow, listBelow}
 use Rattle.base.specs.Cases.{_∣_, _⇒_}
-use Rattle.base.proofs.Below.{any-start, any-next, join-none, join-more, list-length, list-at, list-same}
+use Rattle.base.proofs.Below.{any-start, any-next, list-length, list-at, list-same}
+use Rattle.numerals.specs.Puts.{Puts}
+use Rattle.numerals.proofs.PutLaws.{put-none, said}
 use Rattle.vcd.specs.Lines.{Line, sameWord, spaced, textOf}
 use Rattle.vcd.specs.Vcd.{Row, writtenOf, typeIn, valueIn, rowIn, valueLine, timeLine, declared, varLine, shownLines, differs, laterLines, rowLines, opening, closing, headerLines, dumpLines, dumpText}
-use Rattle.vcd.specs.Writing.{Puts, frontOf, rowWith, shownBy, linesBy, rowOf, rowsOf}
-use Rattle.vcd.proofs.PutLaws.{put-none, behind, said}
+use Rattle.vcd.specs.Writing.{frontOf, rowWith, shownBy, linesBy, rowOf, rowsOf}
 
 pub text-append : (a b : List Line) → textOf (a ++ b) ≡ textOf a ++ textOf b
 unfolding textOf
@@ -27,38 +28,16 @@ pub one-line : (l : Line) → spaced l ≡ textOf (l ∷ [])
 unfolding textOf
 one-line l = sym (append-nil (spaced l))
 
--- a list is the joining of its elements
-pub list-joined : {A : Type 0} (f : ℕ → A) (n : ℕ) → joinBelow (λ i. f i ∷ []) n ≡ listBelow f n
+-- lines joined are their texts joined
+pub text-joined : (f : ℕ → List Line) (n : ℕ) → joinBelow (λ i. textOf (f i)) n ≡ textOf (joinBelow f n)
+unfolding joinBelow
+text-joined f zero = unfold textOf in refl
+text-joined f (suc n) = rw (text-append, text-joined f n)
+
+pub text-listed : (f : ℕ → Line) (n : ℕ) → joinBelow (λ i. spaced (f i)) n ≡ textOf (listBelow f n)
 unfolding joinBelow listBelow
-list-joined f zero = refl
-list-joined f (suc n) = rw (list-joined f n)
-
--- the lines f 0 to f (k - 1) are put, each at most `most` bytes
-pub record Putting (f : ℕ → List Line) (n most : ℕ) (old : List ℕ) (at : ℕ) (out : List ℕ) (end k : ℕ) : Type 0 where
-  pub few : k ≤ n
-  pub short : end ≤ at + k * most
-  pub same : length out ≡ length old
-  pub put : Puts (textOf (joinBelow f k)) old out at end
-
-pub putting-none : (f : ℕ → List Line) (n most : ℕ) (old : List ℕ) (at : ℕ) → Putting f n most old at old at 0
-unfolding textOf
-putting-none f n most old at =
-    record { few = omega arith; short = omega arith; same = refl; put = rw join-none (put-none old at) }
-
-pub putting-next : {f : ℕ → List Line} {n most : ℕ} {old : List ℕ} {at : ℕ} {out : List ℕ} {end k : ℕ} → Putting f n most old at out end k → k < n
-    → {new : List ℕ} {r : ℕ} → length new ≡ length out → r ≤ end + most → Puts (textOf (f k)) out new end r → Putting f n most old at new r (k + 1)
-putting-next {f} {n} {most} {k = k} p h e m q =
-    let s : (k + 1) * most ≡ k * most + most = omega arith in
-    record {
-      few = omega arith;
-      short = omega (arith, s, p .short);
-      same = e ∙ p .same;
-      put = rw (join-more, text-append) (behind (p .put) (p .same) q);
-    }
-
-pub putting-all : {f : ℕ → List Line} {n most : ℕ} {old : List ℕ} {at : ℕ} {out : List ℕ} {end k : ℕ} → Putting f n most old at out end k → n ≤ k
-    → (end ≤ at + n * most) × Puts (textOf (joinBelow f n)) old out at end
-putting-all p h = let e = le-antisymm (p .few) h in (rw e at (p .short), rw e at (p .put))
+text-listed f zero = unfold textOf in refl
+text-listed f (suc n) = rw (text-append, text-listed f n, one-line)
 
 -- entry s of the first n of an array
 pub front-at : (d n : ℕ) (xs : List ℕ) (s : ℕ) → s < n → getD (frontOf n xs) s d ≡ getD xs s 0
@@ -99,13 +78,8 @@ pub find-all : {types : List ℕ} {n : ℕ} {before row : List ℕ} {found : Boo
 find-all f h = rw (le-antisymm (f .few) h) at (f .some)
 
 -- the line that declares signal s
-pub var-put : (types : List ℕ) (n s : ℕ) → s < n → {out new : List ℕ} {end r : ℕ} → Puts (spaced (declared (getD types s 0) s)) out new end r
-    → Puts (textOf (varLine (frontOf n types) s ∷ [])) out new end r
-var-put types n s h p = said (rw (front-at 1 n types s h) (one-line (declared (getD types s 0) s))) p
-
-pub vars-put : (types : List ℕ) (n : ℕ) {a : Type 0} {old new : List ℕ} {at r : ℕ} → a × Puts (textOf (joinBelow (λ i. varLine (frontOf n types) i ∷ []) n)) old new at r
-    → a × Puts (textOf (listBelow (varLine (frontOf n types)) n)) old new at r
-vars-put types n p = (p .0, rw (list-joined (varLine (frontOf n types)) n) at (p .1))
+pub var-line-at : (types : List ℕ) (n s : ℕ) → s < n → spaced (declared (getD types s 0) s) ≡ spaced (varLine (frontOf n types) s)
+var-line-at types n s h = rw (front-at 1 n types s h)
 
 -- the lines of signal s: one where it is shown
 abbrev pub shownAt : Bool → List ℕ → ℕ → List ℕ → List ℕ → ℕ → List Line
@@ -125,10 +99,10 @@ module _ (all : Bool) (types : List ℕ) (n : ℕ) (before row : List ℕ) where
     unfolding textOf
     hidden-put t out end = rw (← is-shown, t) (put-none out end)
 
-  pub all-shown : {a : Type 0} {old new : List ℕ} {at r : ℕ} → a × Puts (textOf (joinBelow (shownAt all types n before row) n)) old new at r
-      → a × Puts (textOf (shownLines (frontOf n types) (shownBy all (frontOf n types) (rowWith 0 n before) (rowWith 0 n row)) (rowWith 0 n row))) old new at r
+  pub all-shown : joinBelow (λ s. textOf (shownAt all types n before row s)) n
+      ≡ textOf (shownLines (frontOf n types) (shownBy all (frontOf n types) (rowWith 0 n before) (rowWith 0 n row)) (rowWith 0 n row))
   unfolding shownLines
-  all-shown p = (p .0, rw (list-length (λ i. getD types i 0) n) (p .1))
+  all-shown = text-joined (shownAt all types n before row) n ∙ rw (list-length (λ i. getD types i 0) n)
 
 -- the lines of a row: its time and what is shown, or nothing
 module _ (types : List ℕ) (n : ℕ) (before row : List ℕ) (time : ℕ) where

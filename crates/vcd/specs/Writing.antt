@@ -1,17 +1,12 @@
--- What the functions that write promise, and the arrays that they read.
-use mathlib.Core.Path.{_≡_}
+-- The rows that the arrays hold, what is written of them, and how long each part can be.
 use mathlib.Core.Bool.{Bool, true, _||_}
-use mathlib.Core.List.{List, _∷_, _++_}
-use Prim.Native.Nat.{ℕ, _+_, _*_, _≤_}
-use lib.ListN.{length, getD, take, drop}
+use mathlib.Core.List.{List, _∷_}
+use Prim.Native.Nat.{ℕ, _+_, _*_}
+use lib.ListN.{getD}
 use Rattle.base.specs.Below.{listBelow}
 use Rattle.base.specs.Cases.{_∣_, _⇒_}
 use Rattle.vcd.specs.Lines.{Line}
 use Rattle.vcd.specs.Vcd.{Row, timeLine, shownLines, differs, laterLines}
-
--- places that are counted to: far beyond any buffer, so that no sum of a place and a line's length wraps
-abbrev pub far : ℕ
-far = 4611686018427387904
 
 -- the most bytes of a value's line, of a time's, of a row's, of the line that declares a signal, and of the header of 32 signals
 abbrev pub valueMost : ℕ
@@ -28,13 +23,6 @@ varMost = 24
 
 abbrev pub headerMost : ℕ
 headerMost = 81 + 32 * varMost
-
--- a text was put at `at`, and r is the place behind it: where the buffer holds it, `old` became `new`, and what lies behind stays. Where it
--- does not hold it, the text is only counted.
-pub record Puts (text old new : List ℕ) (at r : ℕ) : Type 0 where
-  pub place : r ≡ at + length text
-  pub bytes : r ≤ length old → take r new ≡ take at old ++ text
-  pub rest : r ≤ length old → drop r new ≡ drop r old
 
 -- the first n entries of an array
 abbrev pub frontOf : ℕ → List ℕ → List ℕ

@@ -1,18 +1,18 @@
 // A value change dump: the lines of a run's rows. A row has 32 entries, the value of signal s at s.
-pub mod put;
-
 ghost use mathlib.Core.Bool.{not};
 ghost use mathlib.Core.Path.{_≡_};
 ghost use Prim.Native.Nat.{_+_, _*_, _-_, _≤_, _<_};
 ghost use lib.ListN.{length};
 ghost use Rattle.base.specs.Below.{anyBelow, joinBelow, listBelow};
+ghost use Rattle.numerals.specs.Puts.{far, Puts};
 ghost use Rattle.vcd.specs.Lines.{sameWord, spaced, textOf};
 ghost use Rattle.vcd.specs.ReadBack.{DumpsReadBack};
 ghost use Rattle.vcd.specs.Vcd.{characterOf, writtenOf, valueLine, timeLine, shownLines, differs, declared, widthOf, varLine, headerLines, rowLines, dumpText};
-ghost use Rattle.vcd.specs.Writing.{far, valueMost, timeMost, rowMost, varMost, headerMost, Puts, frontOf, rowWith, shownBy, linesBy, rowsOf};
-use crate::put::put;
-use crate::put::put_bits;
-use crate::put::put_decimal;
+ghost use Rattle.vcd.specs.Writing.{valueMost, timeMost, rowMost, varMost, headerMost, frontOf, rowWith, shownBy, linesBy, rowsOf};
+use numerals::put::put;
+use numerals::put::put_bits;
+use numerals::put::put_byte;
+use numerals::put::put_decimal;
 
 // The character of a logic value.
 fn character(v: u32) -> u8
@@ -48,7 +48,7 @@ fn put_value(ty: usize, v: u32, n: usize, out: &mut [u8], at: usize) -> usize
         let text = [character(v), code, 10];
         return put(&text, out, at);
     }
-    let a = put(b"b", out, at);
+    let a = put_byte(b'b', out, at);
     let b = put_bits(v, out, a);
     let rest = [32, code, 10];
     put(&rest, out, b)
@@ -60,9 +60,9 @@ fn put_time(t: u64, out: &mut [u8], at: usize) -> usize
     ensures { λ r. ⌜ r ≤ at + timeMost ⌝ }
     ensures { λ r. ⌜ Puts (spaced (timeLine t)) (now (out .entry)) (now (out .exit)) at r ⌝ }
 {
-    let a = put(b"#", out, at);
+    let a = put_byte(b'#', out, at);
     let b = put_decimal(t, out, a);
-    put(b"\n", out, b)
+    put_byte(b'\n', out, b)
 }
 
 // The lines of the signals whose written value differs from that of the row before, or of all.

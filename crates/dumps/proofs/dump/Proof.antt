@@ -18,7 +18,7 @@ use Rattle.session.specs.Sessions.{ordersOk}
 use Rattle.session.proofs.SessionLaws.{orders-few}
 use Rattle.vcd.specs.Vcd.{dumpText}
 use Rattle.vcd.specs.Writing.{frontOf, rowsOf}
-use Rattle.vcd.proofs.PutLaws.{said}
+use Rattle.numerals.proofs.PutLaws.{said}
 use Rattle.dumps.specs.Dumps.{dumpOf, runNumber, RoomHolds}
 use Rattle.dumps.specs.Run.{runOf, Traced}
 use Rattle.dumps.proofs.DumpLaws.{run-refused, run-nine, run-free, before-room, no-room, refused-dump, written-dump, array-text, nine-some, room-holds, times-of-runs, reads-back}

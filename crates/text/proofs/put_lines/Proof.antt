@@ -1,20 +1,22 @@
--- The loop keeps `Lines`: what is written are the lines of the answers passed. The measure is the answers left. Assumes nothing.
+-- The loop puts the line of each answer. The measure is the answers left. Assumes nothing.
+use mathlib.Core.Path.{_∙_}
 use Prim.Native.Nat.{_-_}
 use native.Mathlib.Omega.{arith}
-use lib.ListN.{length}
 use borrow.Author.Needs.{needs}
-use Rattle.text.proofs.PrintLaws.{Lines, no-lines, next-line, all-lines}
+use Rattle.numerals.proofs.PutLaws.{Putting, putting-none, putting-next, putting-all, said}
+use Rattle.text.specs.Text.{lineMost}
+use Rattle.text.proofs.PrintLaws.{lineAt, line-at, all-lines}
 use Rattle.text.proofs.put_lines.Statement.{statement}
 use Rattle.text.proofs.put_lines.Tie as tie
 
 abbrev Inv-loop : tie.InvT-loop
-Inv-loop orders answers out₀ n at₀ i₀ out at i = Lines orders answers (length out₀) out at i
+Inv-loop orders answers out₀ n at₀ i₀ out at i = Putting (lineAt orders answers) n lineMost out₀ 0 out at i
 
 abbrev μ-loop : tie.MeasureT-loop
 μ-loop orders answers out₀ n at₀ i₀ out at i = n - i
 
 loop-holds : tie.Need-loop-holds Inv-loop μ-loop
-loop-holds c = no-lines _ _ _
+loop-holds c = putting-none _ _ _ _ _
 
 mul-byte : tie.Need-mul-byte Inv-loop μ-loop
 mul-byte c = search needs
@@ -51,16 +53,21 @@ loop-again c =
     let put = c .before .before in
     let read = put .before .before .before in
     let turn = read .before in
-    next-line (turn .before .loop .inv) (turn .loop-test .taken) (read .byte .ensures .value) (put .put-line .ensures .0) (put .put-line .kept .1 .1 .0) (put .put-line .ensures .1)
+    let start = turn .before .before .before .before .before in
+    putting-next (turn .before .loop .inv) (turn .loop-test .taken) (put .put-line .kept .1 .1 .0) (put .put-line .ensures .0)
+    (said (line-at (start .args .orders .now) (start .args .answers .now) _ (read .byte .ensures .value)) (put .put-line .ensures .1))
 
 same-length : tie.Need-same-length Inv-loop μ-loop
 same-length c = search needs
 
 returns : tie.Need-returns Inv-loop μ-loop
 returns c =
-    let inv = c .before .loop .inv in
     let start = c .before .before .before .before .before in
-    (omega (arith, start .pre .1, inv .short, inv .few, inv .same), all-lines inv (start .pre .0) (c .loop-test .left))
+    let inv = c .before .loop .inv in
+    let all = putting-all inv (c .loop-test .left) in (
+      omega (arith, all .0, inv .same, start .pre .1 .0, start .pre .1 .1),
+      all .1 .bytes (omega (arith, all .0, start .pre .1 .0, start .pre .1 .1)) ∙ all-lines (start .args .orders .now) (start .args .answers .now) (start .pre .0),
+    )
 
 pub put-lines-spec : {M : Type 1} → statement M
 put-lines-spec =

@@ -1,6 +1,7 @@
 -- What is written is the text by the laws of a session's text: its number, or the lines of the answers. Assumes nothing.
 use mathlib.Core.Path.{_∙_}
-use Rattle.text.proofs.PrintLaws.{line-room, lines-room, played-room, refused-writes, played-writes}
+use native.Mathlib.Omega.{arith}
+use Rattle.text.proofs.PrintLaws.{line-room, played-room, refused-writes, played-writes}
 use Rattle.text.proofs.put_text.Statement.{statement}
 use Rattle.text.proofs.put_text.Tie as tie
 
@@ -31,7 +32,7 @@ put-lines-requires c κs =
     let test = c .before .before in
     let done = test .before .before .before in
     let kept = done .played .kept .1 .1 .0 in
-    (kept ∙ played-room _ _ _ (start done .pre .0 .all) (done .played .ensures .0) (test .if1 .left), lines-room _ (start done .pre .0) kept (start done .pre .1))
+    (kept ∙ played-room _ _ _ (start done .pre .0 .all) (done .played .ensures .0) (test .if1 .left), (omega (arith, kept, start done .pre .0 .most), start done .pre .1))
 
 same-length-3 : tie.Need-same-length-3
 same-length-3 c = c .before .before .before .before .before .before .before .before .played .kept .1 .1 .0

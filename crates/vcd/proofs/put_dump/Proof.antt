@@ -3,7 +3,7 @@ use native.Mathlib.Omega.{arith}
 use borrow.Author.Needs.{needs}
 use Rattle.base.proofs.Below.{list-length}
 use Rattle.vcd.specs.Writing.{frontOf, rowOf, rowsOf}
-use Rattle.vcd.proofs.PutLaws.{behind, said}
+use Rattle.numerals.proofs.PutLaws.{behind, said}
 use Rattle.vcd.proofs.ReadBack.{dumps-read-back}
 use Rattle.vcd.proofs.WalkLaws.{dump-text}
 use Rattle.vcd.proofs.put_dump.Statement.{statement}

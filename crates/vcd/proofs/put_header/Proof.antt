@@ -4,8 +4,8 @@ use native.Mathlib.Omega.{arith}
 use borrow.Author.Needs.{needs}
 use Rattle.vcd.specs.Lines.{textOf}
 use Rattle.vcd.specs.Vcd.{opening, closing}
-use Rattle.vcd.specs.Writing.{Puts}
-use Rattle.vcd.proofs.PutLaws.{behind, said}
+use Rattle.numerals.specs.Puts.{Puts}
+use Rattle.numerals.proofs.PutLaws.{behind, said}
 use Rattle.vcd.proofs.WalkLaws.{header-text}
 use Rattle.vcd.proofs.put_header.Statement.{statement}
 use Rattle.vcd.proofs.put_header.Tie as tie

@@ -1,7 +1,7 @@
 -- The time's line and those of the signals that are shown, or nothing. Assumes nothing.
 use native.Mathlib.Omega.{arith}
 use borrow.Author.Needs.{needs}
-use Rattle.vcd.proofs.PutLaws.{behind, said, put-none}
+use Rattle.numerals.proofs.PutLaws.{behind, said, put-none}
 use Rattle.vcd.proofs.WalkLaws.{row-shown, row-left-out}
 use Rattle.vcd.proofs.put_row.Statement.{statement}
 use Rattle.vcd.proofs.put_row.Tie as tie

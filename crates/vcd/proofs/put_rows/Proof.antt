@@ -4,13 +4,15 @@ use Prim.Native.Nat.{_-_}
 use borrow.Author.Needs.{needs}
 use Rattle.vcd.specs.Vcd.{rowLines}
 use Rattle.vcd.specs.Writing.{rowMost, frontOf, rowsOf}
-use Rattle.vcd.proofs.WalkLaws.{Putting, putting-none, putting-next, putting-all, row-put}
+use Rattle.numerals.proofs.PutLaws.{Putting, putting-none, putting-next, putting-all, said}
+use Rattle.vcd.specs.Lines.{textOf}
+use Rattle.vcd.proofs.WalkLaws.{text-joined, row-put}
 use Rattle.vcd.proofs.put_rows.Statement.{statement}
 use Rattle.vcd.proofs.put_rows.Tie as tie
 
 abbrev Inv-loop : tie.InvT-loop
 Inv-loop types n times values count out₀ at end₀ k₀ out end k =
-    Putting (rowLines (frontOf n types) (rowsOf n times values count)) count rowMost out₀ at out end k
+    Putting (λ i. textOf (rowLines (frontOf n types) (rowsOf n times values count) i)) count rowMost out₀ at out end k
 
 abbrev μ-loop : tie.MeasureT-loop
 μ-loop types n times values count out₀ at end₀ k₀ out end k = count - k
@@ -86,7 +88,11 @@ same-length : tie.Need-same-length Inv-loop μ-loop
 same-length c = c .before .loop .inv .same
 
 returns : tie.Need-returns Inv-loop μ-loop
-returns c = putting-all (c .before .loop .inv) (c .loop-test .left)
+returns c =
+    let start = c .before .before .before .before .before in
+    let rows = rowsOf (start .args .n) (start .args .times .now) (start .args .values .now) (start .args .count) in
+    let all = putting-all (c .before .loop .inv) (c .loop-test .left) in
+    (all .0, said (text-joined (rowLines (frontOf (start .args .n) (start .args .types .now)) rows) (start .args .count)) (all .1))
 
 pub put-rows-spec : {M : Type 1} → statement M
 put-rows-spec =

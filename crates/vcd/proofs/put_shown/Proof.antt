@@ -5,12 +5,14 @@ use Prim.Native.Nat.{_-_}
 use native.Mathlib.Omega.{arith}
 use borrow.Author.Needs.{needs}
 use Rattle.vcd.specs.Writing.{valueMost}
-use Rattle.vcd.proofs.WalkLaws.{Putting, shownAt, putting-none, putting-next, putting-all, shown-put, hidden-put, all-shown}
+use Rattle.numerals.proofs.PutLaws.{Putting, putting-none, putting-next, putting-all, said}
+use Rattle.vcd.specs.Lines.{textOf}
+use Rattle.vcd.proofs.WalkLaws.{shownAt, shown-put, hidden-put, all-shown}
 use Rattle.vcd.proofs.put_shown.Statement.{statement}
 use Rattle.vcd.proofs.put_shown.Tie as tie
 
 abbrev Inv-loop : tie.InvT-loop
-Inv-loop all types n before row out₀ at end₀ s₀ out end s = Putting (shownAt all types n before row) n valueMost out₀ at out end s
+Inv-loop all types n before row out₀ at end₀ s₀ out end s = Putting (λ i. textOf (shownAt all types n before row i)) n valueMost out₀ at out end s
 
 abbrev μ-loop : tie.MeasureT-loop
 μ-loop all types n before row out₀ at end₀ s₀ out end s = n - s
@@ -68,7 +70,8 @@ same-length c = c .before .loop .inv .same
 returns : tie.Need-returns Inv-loop μ-loop
 returns c =
     let start = c .before .before .before .before .before in
-    all-shown (start .args .all) (start .args .types .now) (start .args .n) (start .args .before .now) (start .args .row .now) (putting-all (c .before .loop .inv) (c .loop-test .left))
+    let all = putting-all (c .before .loop .inv) (c .loop-test .left) in
+    (all .0, said (all-shown (start .args .all) (start .args .types .now) (start .args .n) (start .args .before .now) (start .args .row .now)) (all .1))
 
 pub put-shown-spec : {M : Type 1} → statement M
 put-shown-spec =

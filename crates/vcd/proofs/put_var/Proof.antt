@@ -6,7 +6,7 @@ use lib.ListN.{length}
 use borrow.Author.Needs.{needs}
 use Rattle.numerals.specs.Numerals.{decimalOf}
 use Rattle.numerals.proofs.NumeralLaws.{decimal-most}
-use Rattle.vcd.proofs.PutLaws.{behind, said}
+use Rattle.numerals.proofs.PutLaws.{behind, said}
 use Rattle.vcd.proofs.ValueLaws.{var-line, width-most}
 use Rattle.vcd.proofs.put_var.Statement.{statement}
 use Rattle.vcd.proofs.put_var.Tie as tie

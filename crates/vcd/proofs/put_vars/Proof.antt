@@ -1,16 +1,17 @@
 -- The loop puts a line for each signal. Assumes nothing.
-use mathlib.Core.List.{[], _∷_}
 use Prim.Native.Nat.{_-_}
 use native.Mathlib.Omega.{arith}
 use borrow.Author.Needs.{needs}
 use Rattle.vcd.specs.Vcd.{varLine}
 use Rattle.vcd.specs.Writing.{varMost, frontOf}
-use Rattle.vcd.proofs.WalkLaws.{Putting, putting-none, putting-next, putting-all, var-put, vars-put}
+use Rattle.numerals.proofs.PutLaws.{Putting, putting-none, putting-next, putting-all, said}
+use Rattle.vcd.specs.Lines.{spaced}
+use Rattle.vcd.proofs.WalkLaws.{text-listed, var-line-at}
 use Rattle.vcd.proofs.put_vars.Statement.{statement}
 use Rattle.vcd.proofs.put_vars.Tie as tie
 
 abbrev Inv-loop : tie.InvT-loop
-Inv-loop types n out₀ at end₀ s₀ out end s = Putting (λ i. varLine (frontOf n types) i ∷ []) n varMost out₀ at out end s
+Inv-loop types n out₀ at end₀ s₀ out end s = Putting (λ i. spaced (varLine (frontOf n types) i)) n varMost out₀ at out end s
 
 abbrev μ-loop : tie.MeasureT-loop
 μ-loop types n out₀ at end₀ s₀ out end s = n - s
@@ -39,7 +40,7 @@ loop-again c =
     let turn = put .before .before .before in
     let start = turn .before .before .before in
     putting-next (turn .before .loop .inv) (turn .loop-test .taken) (put .put-var .kept .1 .1 .0) (put .put-var .ensures .0)
-    (var-put (start .args .types .now) (start .args .n) _ (turn .loop-test .taken) (put .put-var .ensures .1))
+    (said (var-line-at (start .args .types .now) (start .args .n) _ (turn .loop-test .taken)) (put .put-var .ensures .1))
 
 same-length : tie.Need-same-length Inv-loop μ-loop
 same-length c = c .before .loop .inv .same
@@ -47,7 +48,8 @@ same-length c = c .before .loop .inv .same
 returns : tie.Need-returns Inv-loop μ-loop
 returns c =
     let start = c .before .before .before in
-    vars-put (start .args .types .now) (start .args .n) (putting-all (c .before .loop .inv) (c .loop-test .left))
+    let all = putting-all (c .before .loop .inv) (c .loop-test .left) in
+    (all .0, said (text-listed (varLine (frontOf (start .args .n) (start .args .types .now))) (start .args .n)) (all .1))
 
 pub put-vars-spec : {M : Type 1} → statement M
 put-vars-spec =

@@ -1,8 +1,8 @@
 -- The digits of the number are put. Assumes nothing.
 use borrow.Author.Needs.{needs}
-use Rattle.vcd.proofs.PutLaws.{said}
-use Rattle.vcd.proofs.put.put_decimal.Statement.{statement}
-use Rattle.vcd.proofs.put.put_decimal.Tie as tie
+use Rattle.numerals.proofs.PutLaws.{said}
+use Rattle.numerals.proofs.put.put_decimal.Statement.{statement}
+use Rattle.numerals.proofs.put.put_decimal.Tie as tie
 
 decimal-requires : tie.Need-decimal-requires
 decimal-requires c κs = search needs

@@ -4,9 +4,9 @@ use Prim.Native.Nat.{_+_}
 use lib.ListN.{length}
 use borrow.Author.Needs.{needs}
 use Rattle.base.proofs.Below.{copied}
-use Rattle.vcd.proofs.PutLaws.{held, counted, part-length}
-use Rattle.vcd.proofs.put.put.Statement.{statement}
-use Rattle.vcd.proofs.put.put.Tie as tie
+use Rattle.numerals.proofs.PutLaws.{held, counted, part-length}
+use Rattle.numerals.proofs.put.put.Statement.{statement}
+use Rattle.numerals.proofs.put.put.Tie as tie
 
 add-end : tie.Need-add-end
 add-end c = search needs

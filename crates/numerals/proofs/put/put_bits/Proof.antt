@@ -6,11 +6,11 @@ use native.Mathlib.Omega.{arith}
 use lib.ListN.{length}
 use borrow.Author.Needs.{needs}
 use Rattle.io.specs.Digits.{digits}
 use Rattle.numerals.specs.Numerals.{numeral, binaryOf}
 use Rattle.numerals.proofs.NumeralLaws.{binary-length, binary-short}
-use Rattle.vcd.proofs.PutLaws.{held, counted, part-length}
-use Rattle.vcd.proofs.put.put_bits.Statement.{statement}
-use Rattle.vcd.proofs.put.put_bits.Tie as tie
+use Rattle.numerals.proofs.PutLaws.{held, counted, part-length}
+use Rattle.numerals.proofs.put.put_bits.Statement.{statement}
+use Rattle.numerals.proofs.put.put_bits.Tie as tie
 
 binary-places-requires : tie.Need-binary-places-requires
 binary-places-requires c κs = search needs
