@@ -5,7 +5,7 @@
 LIB := $(CURDIR)/target/staticlib
 CARGO := cargo --quiet
 PEER := --release --offline --manifest-path tests/Cargo.toml
-PROVED := KERNEL_LIB_DIR=$(LIB) $(CARGO) run $(PEER) --features session --bin
+PROVED := KERNEL_LIB_DIR=$(LIB) $(CARGO) run $(PEER) --features dumps --bin
 
 run:
 	@sh tools/run
@@ -24,6 +24,7 @@ peers: setup tools
 # What runs the proved kernel.
 proved: setup tools prove
 	rt staticlib exports
+	rt staticlib dump_exports
 	sh tests/run.sh
 	sh tests/examples.sh
 	$(PROVED) compare models 200000 1
@@ -38,7 +39,7 @@ proved: setup tools prove
 bench: setup
 	rt staticlib exports
 	bench/run
-	$(PROVED) judgebench
+	KERNEL_LIB_DIR=$(LIB) $(CARGO) run $(PEER) --features proved --bin judgebench
 
 tools:
 	$(CARGO) build --release --offline --manifest-path tools/blocks/Cargo.toml

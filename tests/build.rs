@@ -1,13 +1,17 @@
 // With the feature `proved`, links the static library `exports` found in
-// the directory named by KERNEL_LIB_DIR.
+// the directory named by KERNEL_LIB_DIR; with `dumps`, `dump_exports` too.
 fn main() {
     println!("cargo:rerun-if-env-changed=KERNEL_LIB_DIR");
     println!("cargo:rerun-if-changed=build.rs");
-    if std::env::var_os("CARGO_FEATURE_PROVED").is_some() {
-        if let Ok(dir) = std::env::var("KERNEL_LIB_DIR") {
-            println!("cargo:rustc-link-search=native={dir}");
-            println!("cargo:rerun-if-changed={dir}/libexports.a");
+    let dir = std::env::var("KERNEL_LIB_DIR");
+    for (feature, library) in [("PROVED", "exports"), ("DUMPS", "dump_exports")] {
+        if std::env::var_os(format!("CARGO_FEATURE_{feature}")).is_none() {
+            continue;
         }
-        println!("cargo:rustc-link-lib=static=exports");
+        if let Ok(dir) = &dir {
+            println!("cargo:rustc-link-search=native={dir}");
+            println!("cargo:rerun-if-changed={dir}/lib{library}.a");
+        }
+        println!("cargo:rustc-link-lib=static={library}");
     }
 }

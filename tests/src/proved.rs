@@ -1,4 +1,4 @@
-//! The proved kernel's functions, from the static library `exports`.
+//! The proved kernel's functions, from the static libraries `exports` and `dump_exports`.
 
 #[cfg(feature = "session")]
 use crate::dump::{pack, DUMP, WORDS};
@@ -22,7 +22,7 @@ extern "C" {
         words: *mut u64,
         wlen: usize,
     ) -> usize;
-    #[cfg(feature = "session")]
+    #[cfg(feature = "dumps")]
     fn gontrafiby_dump(
         model: *const u8,
         mlen: usize,
@@ -84,7 +84,7 @@ pub fn session(
 }
 
 /// A run's number and the length of its dump, which is written to the front of the buffer.
-#[cfg(feature = "session")]
+#[cfg(feature = "dumps")]
 pub fn dump(model: &[u8], orders: &[u8], out: &mut [u8]) -> (u32, usize) {
     let mut length = u64::MAX;
     // Safety: each pointer and length are those of one slice; the last points to one word.

@@ -13,12 +13,12 @@ use write::Row;
 /// both time steps, 2,049 times of at most 1,174.
 pub const MOST: usize = 849 + 2_049 * 1_174;
 
-/// The dump of a run: with the feature `session` the proved kernel's, else the second
+/// The dump of a run: with the feature `dumps` the proved kernel's, else the second
 /// kernel's. Err tells the number of a refused one.
 pub fn dump(model: &[u8], orders: &[u8]) -> Result<String, String> {
-    #[cfg(feature = "session")]
+    #[cfg(feature = "dumps")]
     let write = crate::proved::dump;
-    #[cfg(not(feature = "session"))]
+    #[cfg(not(feature = "dumps"))]
     let write = write::write;
     let mut out = vec![0; MOST];
     let (number, length) = write(model, orders, &mut out);

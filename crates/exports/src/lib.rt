@@ -1,16 +1,15 @@
 // The kernel under plain names, for programs in other languages: the operators and resolution of the nine values, the judging of a model,
-// a whole session with its number, every byte of the answer buffer and the words of its end configuration, and the dump of a run. Each
-// contract states the whole result by the definitions of the function that it calls.
+// and a whole session with its number, every byte of the answer buffer and the words of its end configuration. Each contract states the
+// whole result by the definitions of the function that it calls.
 pub mod dump;
 
 ghost use mathlib.Core.Path.{_≡_};
-ghost use lib.ListN.{length, set};
+ghost use lib.ListN.{length};
 ghost use Rattle.base.specs.Below.{listBelow};
 ghost use Rattle.values.specs.Resolve.{resolutionOf};
 ghost use Rattle.values.specs.Operators.{notOf, andOf, orOf, xorOf};
 ghost use Rattle.model.specs.Rules.{refusalOf};
 ghost use Rattle.session.specs.Sessions.{sessionOf};
-ghost use Rattle.dumps.specs.Dumps.{dumpedOf};
 ghost use Rattle.exports.specs.Dump.{wordOf};
 use crate::dump::dump;
 
@@ -71,22 +70,5 @@ pub extern "C" fn gontrafiby_session(
 {
     let r = session::session(model, orders, answers);
     dump(r.config, words);
-    r.number
-}
-
-// Writes the dump of a run: its number, with every byte of the buffer as the rules have it, and its length.
-#[no_mangle]
-pub extern "C" fn gontrafiby_dump(
-    model: &[u8],
-    orders: &[u8],
-    out: &mut [u8],
-    length: &mut [u64; 1],
-) -> usize
-    ensures { λ r. ⌜ r ≡ dumpedOf (now (model .entry)) (now (orders .entry)) (now (out .entry)) .number ⌝ }
-    ensures { λ _. ⌜ now (out .exit) ≡ dumpedOf (now (model .entry)) (now (orders .entry)) (now (out .entry)) .buffer ⌝ }
-    ensures { λ _. ⌜ now (length .exit) ≡ set (now (length .entry)) 0 (dumpedOf (now (model .entry)) (now (orders .entry)) (now (out .entry)) .length) ⌝ }
-{
-    let r = dumps::dump(model, orders, out);
-    length[0] = r.length as u64;
     r.number
 }

@@ -1,7 +1,7 @@
 //! Holds this kernel against the proved one:
 //! `compare models N SEED`, `compare sessions N SEED`, `compare dumps N SEED`, `compare limits`.
 //! Case i has the seed SEED + i, so `compare sessions 1 S` repeats seed S.
-//! Sessions and dumps are compared with the feature `session`, which asks for a library that has them.
+//! Sessions are compared with the feature `session`, dumps with the feature `dumps`, which ask for libraries that have them.
 
 use second_kernel::{end, proved, tally};
 
@@ -10,9 +10,9 @@ const SESSION: Option<tally::Session> = Some(&proved::session);
 #[cfg(not(feature = "session"))]
 const SESSION: Option<tally::Session> = None;
 
-#[cfg(feature = "session")]
+#[cfg(feature = "dumps")]
 const DUMP: Option<tally::Dump> = Some(&proved::dump);
-#[cfg(not(feature = "session"))]
+#[cfg(not(feature = "dumps"))]
 const DUMP: Option<tally::Dump> = None;
 
 fn main() -> std::process::ExitCode {

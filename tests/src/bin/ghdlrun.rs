@@ -22,9 +22,9 @@
 //! the feature `session` also where the proved kernel played too few: a run of more than
 //! 4,096 orders is the second kernel's, one lively model in ten at most.
 //!
-//! GHDL also writes a dump of its run (`--vcd`), which is read beside the kernel's own:
-//! where GHDL came to its end, every signal must have the same value in both at each time of
-//! the run. GHDL's unit is 1 fs; it writes std_logic with the nine letters, not as IEEE
+//! GHDL also writes a dump of its run (`--vcd`), which is read beside the kernel's own (the
+//! proved kernel's with the feature `dumps`): where GHDL came to its end, every signal must
+//! have the same value in both at each time of the run. GHDL's unit is 1 fs; it writes std_logic with the nine letters, not as IEEE
 //! 1364 has four states, so these are mapped as document 02, item 7, says before it is
 //! read: U W - to x, L to 0, H to 1. Each of the nine must occur. Integers are 32 bits in
 //! both; what else GHDL's dump has (delayed signals) is left aside.

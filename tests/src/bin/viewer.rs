@@ -1,6 +1,6 @@
 //! Runs dumps through GTKWave's converters, which read them as the viewer does, and
 //! compares what comes back: `viewer [N [SEED]]`, N random runs from SEED on (default 50
-//! from 1) besides fixed ones. With the feature `session` the dumps are the proved
+//! from 1) besides fixed ones. With the feature `dumps` the dumps are the proved
 //! kernel's, else the second kernel's.
 //!
 //! A dump goes to FST and to LXT2 and back; no converter may complain, and every signal

@@ -2,8 +2,8 @@
 use mathlib.Core.Path.{ap}
 use lib.ListN.{set}
 use borrow.Author.Needs.{needs}
-use Rattle.exports.proofs.gontrafiby_dump.Statement.{statement}
-use Rattle.exports.proofs.gontrafiby_dump.Tie as tie
+use Rattle.dump_exports.proofs.gontrafiby_dump.Statement.{statement}
+use Rattle.dump_exports.proofs.gontrafiby_dump.Tie as tie
 
 dump-requires : tie.Need-dump-requires
 dump-requires c κs = search needs
