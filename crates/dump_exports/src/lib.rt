@@ -1,5 +1,5 @@
 // The dump of a run under a plain name, for programs in other languages. A library of its own, besides exports: where sessions and dumps
-// stand in one, the list's loop has two callers and copies configurations more slowly (bench/README.md).
+// stand in one, the list's loop has two callers, and copies more (bench/README.md).
 ghost use mathlib.Core.Path.{_≡_};
 ghost use lib.ListN.{set};
 ghost use Rattle.dumps.specs.Dumps.{dumpedOf};
