@@ -3,15 +3,14 @@ use mathlib.Core.Path.{_≡_}
 use mathlib.Core.List.{List, [], _∷_, _++_, map}
 use Prim.Native.Nat.{ℕ, _+_, _*_, _≤_, _<_}
 use lib.Dec.{eqb, leb}
-use lib.ListN.{length, getD, take, drop}
+use lib.ListN.{length, getD, drop}
 use Rattle.base.specs.Rules.{Rule, _needs_, firstFailing}
 use Rattle.base.specs.Cases.{_∣_, _⇒_}
 use Rattle.blocks.specs.Records.{modelOf, signalAt}
-use Rattle.io.specs.Counts.{Counts}
 use Rattle.model.specs.Rules.{rulesOf, refusalOf}
 use Rattle.rules.specs.Configuration.{currentOf, empty}
 use Rattle.session.specs.Sessions.{ordersOk}
-use Rattle.text.specs.Text.{modelRoom, ordersRoom, numberLineOf}
+use Rattle.text.specs.Text.{numberLineOf}
 use Rattle.vcd.specs.ReadBack.{mappedOf, TimesRise}
 use Rattle.vcd.specs.Reader.{valueAt}
 use Rattle.vcd.specs.Vcd.{identifierOf, dumpText}
@@ -80,12 +79,3 @@ RoomHolds model orders = runNumber model orders ≡ 0 → length (dumpOf model o
 -- what the program prints: "A refused run prints its number alone."
 unfoldable pub printOf : List ℕ → List ℕ → List ℕ
 printOf model orders = eqb (runNumber model orders) 0 ⇒ dumpOf model orders ∣ numberLineOf (runNumber model orders)
-
--- the first r bytes of `out` are what is printed for a model and orders
-pub record Prints (model orders out : List ℕ) (r : ℕ) : Type 0 where
-  pub within : Counts r out
-  pub text : take r out ≡ printOf model orders
-
--- of a file that is longer than the program's room for it, the part that the room holds is printed alike
-abbrev pub FilesFit : Type 0
-FilesFit = (model orders : List ℕ) → printOf (take modelRoom model) (take ordersRoom orders) ≡ printOf model orders

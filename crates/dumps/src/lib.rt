@@ -8,8 +8,9 @@ ghost use Rattle.cycle.specs.Arrays.{EntriesAre};
 ghost use Rattle.cycle.specs.View.{Valid, viewOf};
 ghost use Rattle.expressions.specs.Reading.{Runs};
 ghost use Rattle.session.specs.Lists.{ordersOf};
+ghost use Rattle.text.specs.Text.{RoomsSuffice, Prints};
 ghost use Rattle.vcd.specs.Writing.{rowOf};
-ghost use Rattle.dumps.specs.Dumps.{DumpIs, ReadsBack, TimesOfRuns, dumpRoom, RoomHolds, Prints, FilesFit};
+ghost use Rattle.dumps.specs.Dumps.{DumpIs, ReadsBack, TimesOfRuns, dumpRoom, RoomHolds, printOf};
 ghost use Rattle.dumps.specs.Run.{settledIn, signalType, currentAt, RowPut, Traced};
 use blocks::index::Index;
 use blocks::index::signal_at;
@@ -168,8 +169,8 @@ pub fn dump_room() -> [u8; DUMP_ROOM]
 
 // Writes what the program prints for a model and orders, any bytes, and answers how many bytes that is: the dump, or the number of a refused run.
 pub fn print(model: &[u8], orders: &[u8], out: &mut [u8; DUMP_ROOM]) -> usize
-    ensures { λ r. ⌜ Prints (now (model .entry)) (now (orders .entry)) (now (out .exit)) r ⌝ }
-    ensures { λ r. ⌜ FilesFit ⌝ }
+    ensures { λ r. ⌜ Prints (printOf (now (model .entry)) (now (orders .entry))) (now (out .exit)) r ⌝ }
+    ensures { λ r. ⌜ RoomsSuffice printOf ⌝ }
 {
     let r = dump(model, orders, out);
     let number = r.number;

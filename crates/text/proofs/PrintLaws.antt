@@ -87,11 +87,15 @@ long-model m l = either-way (lengthOk m) (λ e. let k = length-most m e in absur
 abbrev answersText : List ℕ → List ℕ → List ℕ
 answersText m o = linesOf (ordersOf o) (answersIn (bytesOf (played (modelOf m) (ordersOf o) (first (modelOf m)) .answers)))
 
--- the number of a session of more orders than it takes: the model's or 9
-longNumber : List ℕ → ℕ
+-- the number of more orders than a session takes: the model's own or 9
+pub longNumber : List ℕ → ℕ
 longNumber m = eqb (refusalOf m) 0 ⇒ 9 ∣ refusalOf m
 
-long-refused : (m : List ℕ) → longNumber m ≡ 0 → ⊥
+pub long-is : (m : List ℕ) {n : ℕ} → (refusalOf m ≡ 0 → n ≡ 9) → ((refusalOf m ≡ 0 → ⊥) → n ≡ refusalOf m) → n ≡ longNumber m
+unfolding longNumber
+long-is m h g = either-way (eqb (refusalOf m) 0) (λ e. rw e (h (eqb-true _ _ e))) (λ e. rw e (g (eqb-false _ _ e)))
+
+pub long-refused : (m : List ℕ) → longNumber m ≡ 0 → ⊥
 unfolding longNumber
 long-refused m =
     either-way (eqb (refusalOf m) 0)
@@ -109,11 +113,7 @@ module _ (m o : List ℕ) where
   refused-text n e h = by-number _ ∙ rw (e, ne-eqb n 0 h)
 
   long-number : 16384 < length o → (b : List ℕ) → numberOf m o b ≡ longNumber m
-  unfolding longNumber
-  long-number l b =
-      either-way (eqb (refusalOf m) 0)
-      (λ e. rw e (model-accepted m o b (eqb-true _ _ e) ∙ sym (nine o b (long-orders o l))))
-      (λ e. rw e (model-refused m o b (eqb-false _ _ e)))
+  long-number l b = long-is m (λ e. model-accepted m o b e ∙ sym (nine o b (long-orders o l))) (model-refused m o b)
 
   long-orders-text : 16384 < length o → textOf m o ≡ numberLineOf (longNumber m)
   long-orders-text l = refused-text (longNumber m) (long-number l) (long-refused m)
@@ -158,24 +158,29 @@ module _ (m o : List ℕ) where
       unfolding sessionText
       played-writes f h = rw (← text-is, ← e, ← f, eq-eqb _ _ h)
 
--- a file that is longer than its room
-model-room : (m o : List ℕ) → textOf (take modelRoom m) o ≡ textOf m o
-model-room m o =
-    ⊎-elim
-    (λ (l : 32768 < length m).
-    let k : 32768 < length (take modelRoom m) = rw length-take (omega arith) in
-    long-model-text (take modelRoom m) o k ∙ sym (long-model-text m o l))
-    (λ (l : length m ≤ 32768). rw (take-all modelRoom m (omega arith)))
-    (split 32768 (length m))
+-- a file that is longer than its room: where a longer model is printed as 1, and longer orders as the model's own number or 9
+module _ (print : List ℕ → List ℕ → List ℕ) (model-long : (m o : List ℕ) → 32768 < length m → print m o ≡ numberLineOf 1)
+    (orders-long : (m o : List ℕ) → 16384 < length o → print m o ≡ numberLineOf (longNumber m)) where
+  model-room : (m o : List ℕ) → print (take modelRoom m) o ≡ print m o
+  model-room m o =
+      ⊎-elim
+      (λ (l : 32768 < length m).
+      let k : 32768 < length (take modelRoom m) = rw length-take (omega arith) in
+      model-long (take modelRoom m) o k ∙ sym (model-long m o l))
+      (λ (l : length m ≤ 32768). rw (take-all modelRoom m (omega arith)))
+      (split 32768 (length m))
 
-orders-room : (m o : List ℕ) → textOf m (take ordersRoom o) ≡ textOf m o
-orders-room m o =
-    ⊎-elim
-    (λ (l : 16384 < length o).
-    let k : 16384 < length (take ordersRoom o) = rw length-take (omega arith) in
-    long-orders-text m (take ordersRoom o) k ∙ sym (long-orders-text m o l))
-    (λ (l : length o ≤ 16384). rw (take-all ordersRoom o (omega arith)))
-    (split 16384 (length o))
+  orders-room : (m o : List ℕ) → print m (take ordersRoom o) ≡ print m o
+  orders-room m o =
+      ⊎-elim
+      (λ (l : 16384 < length o).
+      let k : 16384 < length (take ordersRoom o) = rw length-take (omega arith) in
+      orders-long m (take ordersRoom o) k ∙ sym (orders-long m o l))
+      (λ (l : length o ≤ 16384). rw (take-all ordersRoom o (omega arith)))
+      (split 16384 (length o))
 
-pub rooms-suffice : RoomsSuffice
-rooms-suffice m o = model-room m (take ordersRoom o) ∙ orders-room m o
+  pub rooms-by : RoomsSuffice print
+  rooms-by m o = model-room m (take ordersRoom o) ∙ orders-room m o
+
+pub rooms-suffice : RoomsSuffice textOf
+rooms-suffice = rooms-by textOf long-model-text long-orders-text

@@ -36,15 +36,19 @@ valueIn kind a = kind is 1 ⇒ byteAt a 4 ∣ longAt a 4
 abbrev pub nodeIn : ℕ → List ℕ → ℕ
 nodeIn kind a = kind is 1 ⇒ wordAt a 6 ∣ 0
 
+-- a line of six columns
+abbrev pub columns : ℕ → ℕ → ℕ → ℕ → ℕ → ℕ → List ℕ
+columns refusal byte picks value node time =
+    ended (decimalOf refusal) space
+    ++ ended (decimalOf byte) space
+    ++ ended (decimalOf picks) space
+    ++ ended (signedOf value) space
+    ++ ended (decimalOf node) space
+    ++ ended (decimalOf time) lineFeed
+
 -- the line of the answer to an order of that kind
 unfoldable pub lineOf : ℕ → List ℕ → List ℕ
-lineOf kind a =
-    ended (decimalOf (byteAt a 0)) space
-    ++ ended (decimalOf (byteAt a 1)) space
-    ++ ended (decimalOf (wordAt a 2)) space
-    ++ ended (signedOf (valueIn kind a)) space
-    ++ ended (decimalOf (nodeIn kind a)) space
-    ++ ended (decimalOf (timeIn a)) lineFeed
+lineOf kind a = columns (byteAt a 0) (byteAt a 1) (wordAt a 2) (valueIn kind a) (nodeIn kind a) (timeIn a)
 
 -- the line of a refused session
 abbrev pub numberLineOf : ℕ → List ℕ
@@ -82,16 +86,17 @@ ordersRoom = 16385
 abbrev pub textRoom : ℕ
 textRoom = 4096 * lineMost
 
--- the rooms are enough: of a file that is longer than its room, the part that the room holds gives the same text
-abbrev pub RoomsSuffice : Type 0
-RoomsSuffice = (model orders : List ℕ) → textOf (take modelRoom model) (take ordersRoom orders) ≡ textOf model orders
+-- the rooms for the files are enough for what a program prints: of a file that is longer than its room, the part that the room holds is
+-- printed alike
+abbrev pub RoomsSuffice : (List ℕ → List ℕ → List ℕ) → Type 0
+RoomsSuffice print = (model orders : List ℕ) → print (take modelRoom model) (take ordersRoom orders) ≡ print model orders
 
 -- n bytes hold the answers to the orders, where a session takes so many
 pub record AnswerRoom (orders : List ℕ) (n : ℕ) : Type 0 where
   pub most : n ≤ 65536
   pub all : length orders ≤ 16384 → n ≡ 4 * length orders
 
--- the first r bytes of `out` are the text printed for a model and orders; what stands behind them is left open
-pub record Prints (model orders out : List ℕ) (r : ℕ) : Type 0 where
+-- the first r bytes of `out` are what is printed; what stands behind them is left open
+pub record Prints (printed out : List ℕ) (r : ℕ) : Type 0 where
   pub within : Counts r out
-  pub text : take r out ≡ textOf model orders
+  pub text : take r out ≡ printed

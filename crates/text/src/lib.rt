@@ -178,8 +178,8 @@ pub fn text_room() -> [u8; TEXT_ROOM]
 
 // Plays the session of a model and orders, any bytes, writes the text that the program prints, and answers how many bytes it has.
 pub fn print(model: &[u8], orders: &[u8], out: &mut [u8; TEXT_ROOM]) -> usize
-    ensures { λ r. ⌜ Prints (now (model .entry)) (now (orders .entry)) (now (out .exit)) r ⌝ }
-    ensures { λ r. ⌜ RoomsSuffice ⌝ }
+    ensures { λ r. ⌜ Prints (textOf (now (model .entry)) (now (orders .entry))) (now (out .exit)) r ⌝ }
+    ensures { λ r. ⌜ RoomsSuffice textOf ⌝ }
 {
     let mut answers = io::large_buffer();
     let n = answer_bytes(orders);

@@ -24,10 +24,11 @@
 //!
 //! GHDL also writes a dump of its run (`--vcd`), which is read beside the kernel's own (the
 //! proved kernel's with the feature `dumps`): where GHDL came to its end, every signal must
-//! have the same value in both at each time of the run. GHDL's unit is 1 fs; it writes std_logic with the nine letters, not as IEEE
-//! 1364 has four states, so these are mapped as document 02, item 7, says before it is
-//! read: U W - to x, L to 0, H to 1. Each of the nine must occur. Integers are 32 bits in
-//! both; what else GHDL's dump has (delayed signals) is left aside.
+//! have the same value in both at each time of the run. GHDL's unit is 1 fs; it writes
+//! std_logic with the nine letters, not as IEEE 1364 has four states, so these are mapped as
+//! document 02, item 7, says before it is read: U W - to x, L to 0, H to 1. Each of the nine
+//! must occur. Integers are 32 bits in both; what else GHDL's dump has (delayed signals) is
+//! left aside.
 
 use second_kernel::builder::Builder;
 use second_kernel::cycle::{Config, Step, DELTA_LIMIT, NINTH, TIME_LIMIT};

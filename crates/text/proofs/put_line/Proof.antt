@@ -6,8 +6,8 @@ use Prim.Native.Nat.{ℕ, _+_, _≤_, _<_}
 use lib.ListN.{length}
 use borrow.Author.Needs.{needs}
 use Rattle.numerals.proofs.PutLaws.{behind, said}
-use Rattle.text.specs.Text.{lineOf, lineMost}
-use Rattle.text.proofs.TextLaws.{six, six-most, six-line}
+use Rattle.text.specs.Text.{columns, lineOf, lineMost}
+use Rattle.text.proofs.TextLaws.{columns-most, columns-line}
 use Rattle.text.proofs.put_line.Statement.{statement}
 use Rattle.text.proofs.put_line.Tie as tie
 
@@ -41,11 +41,11 @@ module _ (c : tie.After-time-in) where
   value-small = c .before .before .value-in .ensures .1
 
   abbrev texts : List ℕ
-  texts = six (c .before .before .before .before .before .byte .result) (c .before .before .before .before .byte2 .result) (c .before .before .before .word .result) (c .before .before .value-in .result) (c .before .node-in .result) (c .time-in .result)
+  texts = columns (c .before .before .before .before .before .byte .result) (c .before .before .before .before .byte2 .result) (c .before .before .before .word .result) (c .before .before .value-in .result) (c .before .node-in .result) (c .time-in .result)
 
   short : length texts ≤ lineMost
   short =
-      six-most _ _ _ _ _ _
+      columns-most _ _ _ _ _ _
       (c .before .before .before .before .before .byte .ensures .small)
       (c .before .before .before .before .byte2 .ensures .small)
       (c .before .before .before .word .ensures .small)
@@ -55,7 +55,7 @@ module _ (c : tie.After-time-in) where
 
   line : texts ≡ lineOf (start .args .kind) (start .args .answer .now)
   line =
-      six-line (start .args .kind) (start .args .answer .now)
+      columns-line (start .args .kind) (start .args .answer .now)
       (c .before .before .before .before .before .byte .ensures .value)
       (c .before .before .before .before .byte2 .ensures .value)
       (c .before .before .before .word .ensures .value)
