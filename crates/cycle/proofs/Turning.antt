@@ -1,24 +1,22 @@
--- One pick, as the loop behind pick and settle makes it of the struct, and what the loop keeps true. Assumes nothing.
-use mathlib.Core.Path.{_≡_, refl, sym, ap, _∙_}
-use mathlib.Core.Bool.{Bool, true, false, _&&_}
-use mathlib.Core.Logic.{⊎-elim}
-use Prim.Native.Nat.{ℕ, suc, _+_, _-_, _≤_, _<_}
+-- One pick, as the loop behind pick, settle and pick of a set makes it of the struct, and what the loop keeps true. Assumes nothing.
+use mathlib.Core.Path.{_≡_, refl, sym, _∙_}
+use mathlib.Core.Bool.{Bool, true, false, not, _&&_, _||_}
+use Prim.Native.Nat.{ℕ, _+_, _-_, _≤_, _<_}
 use native.Mathlib.Decide.{ℕ-discrete}
-use native.Mathlib.Numerals.{add-one}
 use native.Mathlib.Omega.{arith}
-use lib.Dec.{ltb, leb}
+use lib.Dec.{eqb, ltb}
 use lib.ListN.{length, getD, set, length-set}
 use lib.Seq.{getD-set-same, getD-set-other}
-use borrow.Author.Count.{below-more}
-use borrow.Author.Tests.{lt-leb, lt-ltb, eq-eqb, ne-eqb, ltb-true, ltb-false}
-use Rattle.base.proofs.Below.{split, and-left, and-right}
+use borrow.Author.Tests.{eq-eqb, ne-eqb, ltb-true}
+use Rattle.base.proofs.Below.{and-left, and-right}
 use Rattle.blocks.specs.Records.{Model, signalAt, driverAt, statementAt}
 use Rattle.fields.specs.Fields.{ownerOf}
 use Rattle.fields.specs.Facts.{Spans}
 use Rattle.model.specs.Facts.{Facts}
 use Rattle.rules.specs.Configuration.{driverIn, lastTime}
 use Rattle.rules.specs.Statements.{nextPlace, applied, effectBy, effectOf, stepped}
-use Rattle.rules.specs.Orders.{isReady}
+use Rattle.rules.specs.Steps.{inSet}
+use Rattle.rules.specs.Orders.{Settled, isReady}
 use Rattle.rules.specs.Invariant.{DriverValid, EffectFits, StoreFits, ScheduleFits}
 use Rattle.rules.specs.declared.driven.Driven.{Driven}
 use Rattle.rules.specs.declared.value.Failure.{Failure}
@@ -27,9 +25,8 @@ use Rattle.rules.specs.declared.effect.Effect.{Effect}
 use Rattle.rules.specs.declared.mechanism.Mechanism.{Mechanism}
 use Rattle.rules.specs.declared.effect.Effect.the-variants.{Skip, Store, Schedule, Jump, Wait, WaitFor, Stop}
 use Rattle.rules.proofs.Effects.{own-statement, placed, effect-fits}
-use Rattle.rules.proofs.Picks.{standing-stays}
 use Rattle.rules.proofs.StepReachable.{stepped-reachable}
-use Rattle.rules.proofs.Settling.{Passed, turnedFrom, turned-over, turned-passed, turned-next, and-false}
+use Rattle.rules.proofs.Turns.{Turned, over, past, next}
 use Rattle.expressions.specs.Reading.{arrays}
 use Rattle.waveforms.specs.Pending.{never, drivenOf, wordFor, pendingOf, firstTime, noDriver}
 use Rattle.waveforms.proofs.Held.{held}
@@ -217,83 +214,61 @@ module _ {M : Model} {now p : ℕ} {c : Config} {e : Effect} (t : Turn M now p c
 pub goes-on : (n count p end : ℕ) → (ltb n count && ltb p end) ≡ true → (n < count) × (p < end)
 goes-on n count p end h = (ltb-true n count (and-left (ltb n count) (ltb p end) h), ltb-true p end (and-right (ltb n count) (ltb p end) h))
 
--- What the loop keeps true: n picks of at most count are made, none of the processes from first to p - 1 is ready, and what is left to
--- do from the struct c ends as the whole does from c₀.
-pub record Turning (M : Model) (count now first end : ℕ) (c₀ : Config) (p n : ℕ) (c : Config) : Type 0 where
-  pub few : n ≤ count
-  pub low : first ≤ p
+passed : (a b : Bool) → (not a || not b) ≡ true → (a && b) ≡ false
+passed true true h = sym h
+passed true false h = refl
+passed false b h = refl
+
+-- What the loop keeps true: from process p of the struct c, with n picks made, it comes to what the whole comes to from c₀.
+pub record Turning (M : Model) (set stride count now first : ℕ) (c₀ : Config) (p n : ℕ) (c : Config) : Type 0 where
   pub whole : c .nprocesses ≡ c₀ .nprocesses
-  pub within : end ≤ c₀ .nprocesses
   pub most : c₀ .nprocesses ≤ 16
   pub clock : c .time ≡ now
   pub sized : Sized c
   pub valid : Valid M c
-  pub passed : Passed first p (viewOf c)
-  pub same : turnedFrom M first end n (count - n) (viewOf c) ≡ turnedFrom M first end 0 count (viewOf c₀)
+  pub same : (s : Settled) → Turned M set stride count (c₀ .nprocesses) p n (viewOf c) s → Turned M set stride count (c₀ .nprocesses) first 0 (viewOf c₀) s
 
-pub turning-none : (M : Model) → Facts M → (count first end : ℕ) (c : Config) → Sized c → Valid M c → end ≤ c .nprocesses → Turning M count (c .time) first end c first 0 c
-turning-none M fs count first end c s f h =
+pub few-processes : {M : Model} → Facts M → {c : Config} → Valid M c → c .nprocesses ≤ 16
+few-processes {M} fs {c} f = omega (arith, nprocesses-is M c (f .reachable), fs .totals .processes)
+
+pub turning-none : (M : Model) → Facts M → (set stride count first : ℕ) (c : Config) → Sized c → Valid M c → Turning M set stride count (c .time) first c first 0 c
+turning-none M fs set stride count first c s f =
     record {
-      few = omega arith;
-      low = omega arith;
       whole = refl;
-      within = h;
-      most = omega (arith, nprocesses-is M c (f .reachable), fs .totals .processes);
+      most = few-processes fs f;
       clock = refl;
       sized = s;
       valid = f;
-      passed = λ j b. rw (lt-leb first j b);
-      same = ap (λ (k : ℕ). turnedFrom M first end 0 k (viewOf c)) (omega arith);
+      same = λ s t. t;
     }
 
-and-rest : (a b : Bool) → a ≡ true → (a && b) ≡ false → b ≡ false
-and-rest a b h g = rw h at g
-
-module _ {M : Model} {count now first end : ℕ} {c₀ : Config} {p n : ℕ} {c : Config} (t : Turning M count now first end c₀ p n c) where
-  -- a process that is not ready is passed
-  pub turning-past : p < end → (getD (c .standings) p 0 ≡ 0 → ⊥) → Turning M count now first end c₀ (p + 1) n c
-  turning-past h r =
+module _ {M : Model} {set stride count now first : ℕ} {c₀ : Config} {p n : ℕ} {c : Config} (t : Turning M set stride count now first c₀ p n c) where
+  -- a process that is not ready, or not in the set, is passed
+  pub turning-past : n < count → p < c₀ .nprocesses → (not (eqb (getD (c .standings) p 0) 0) || not (inSet set p)) ≡ true
+      → Turning M set stride count now first c₀ (p + 1) n c
+  turning-past few here idle =
       record {
-        few = t .few;
-        low = omega (arith, t .low);
         whole = t .whole;
-        within = t .within;
         most = t .most;
         clock = t .clock;
         sized = t .sized;
         valid = t .valid;
-        passed = below-more _ _ (t .passed) (rw (ready-in c p (omega (arith, t .whole, t .within)), ne-eqb _ 0 r) (and-false (leb first p)));
-        same = t .same;
+        same = λ s d. t .same s (past few here (rw (ready-in c p (omega (arith, t .whole))) (passed (eqb (getD (c .standings) p 0) 0) (inSet set p) idle)) d);
       }
 
-  -- a ready process is picked
-  pub turning-next : n < count → p < end → isReady p (viewOf c) ≡ true → (c' : Config) → Stepped M p c c' → Turning M count now first end c₀ p (n + 1) c'
-  turning-next made h ready c' d =
+  -- a ready process of the set is picked
+  pub turning-next : n < count → p < c₀ .nprocesses → isReady p (viewOf c) ≡ true → inSet set p ≡ true → (c' : Config) → Stepped M p c c'
+      → Turning M set stride count now first c₀ (p + stride) (n + 1) c'
+  turning-next few here ready m c' d =
       record {
-        few = omega arith;
-        low = t .low;
         whole = d .nprocesses ∙ t .whole;
-        within = t .within;
         most = t .most;
         clock = d .time ∙ t .clock;
         sized = d .sized;
         valid = d .to .valid;
-        passed = λ j b. rw (d .to .is, standing-stays M p j (viewOf c) (λ q. omega arith)) (t .passed j b);
-        same = rw (d .to .is) (sym picked ∙ t .same);
+        same = λ s e. t .same s (next few here ready m (rw (d .to .is) at e));
       }
-    where
-      picked : turnedFrom M first end n (count - n) (viewOf c) ≡ turnedFrom M first end (n + 1) (count - (n + 1)) (stepped M p (viewOf c))
-      picked =
-          let q : count - n ≡ suc (count - (n + 1)) = omega arith in
-          rw (q, add-one n) (turned-next M first end n (viewOf c) (count - suc n) p (t .low) h (t .passed) ready)
 
-  -- the loop is over: no more picks may be made, or no process is left
-  pub turning-end : (ltb n count && ltb p end) ≡ false → turnedFrom M first end 0 count (viewOf c₀) ≡ record { picks = n; end = viewOf c }
-  turning-end o =
-      sym (t .same)
-      ∙ ⊎-elim
-      (λ (h : n < count).
-      let g = and-rest (ltb n count) (ltb p end) (lt-ltb n count h) o in
-      turned-passed M first end n (viewOf c) (count - n) (λ j b. t .passed j (omega (arith, ltb-false p end g))))
-      (λ (h : count ≤ n). turned-over M first end n (viewOf c) (count - n) (omega arith))
-      (split n count)
+  -- the loop is over
+  pub turning-end : (ltb n count && ltb p (c₀ .nprocesses)) ≡ false → Turned M set stride count (c₀ .nprocesses) first 0 (viewOf c₀) (record { picks = n; end = viewOf c })
+  turning-end o = t .same _ (over o)

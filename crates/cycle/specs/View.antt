@@ -6,7 +6,7 @@ use Rattle.base.specs.Below.{listBelow}
 use Rattle.blocks.specs.Records.{Model}
 use Rattle.rules.specs.Configuration.{DriverState, ProcessState, Configuration}
 use Rattle.rules.specs.Statements.{stepped}
-use Rattle.rules.specs.Orders.{Outcome, picked, settled, readOf}
+use Rattle.rules.specs.Orders.{Outcome, picked, settled, pickedSet, readOf}
 use Rattle.rules.specs.Invariant.{Reachable}
 use Rattle.waveforms.specs.Pending.{drivenOf, pendingOf, noDriver, firstTime}
 use Rattle.steps.specs.Entries.{deadlineOf, historyOf, earlierOf}
@@ -14,7 +14,7 @@ use Rattle.cycle.specs.declared.config.Config.{Config}
 use Rattle.cycle.specs.declared.orders.Answer.{Answer}
 use Rattle.cycle.specs.declared.orders.Answered.{Answered}
 use Rattle.cycle.specs.declared.picks.Picks.{Picks}
-use Rattle.cycle.specs.declared.picks.Picks.the-variants.{One, Settle}
+use Rattle.cycle.specs.declared.picks.Picks.the-variants.{One, Settle, Set}
 
 unfoldable pub driverView : Config → ℕ → DriverState
 driverView c k = record { current = drivenOf (getD (c .currents) k 0); pending = pendingOf (c .time) (getD (c .drivers) k noDriver) }
@@ -83,3 +83,4 @@ ReadTo s c r = (M : Model) → length (M .signals) ≡ c .nsignals → outcomeOf
 abbrev pub pickedBy : Model → Picks → Configuration → Outcome
 pickedBy M (One p) c = picked M p c
 pickedBy M (Settle n) c = settled M n c
+pickedBy M (Set set) c = pickedSet M set c

@@ -1,8 +1,8 @@
-// What every order hands back, the refusal of an order, pick, settle and read.
+// What every order hands back, the refusal of an order, pick, settle, pick of a set and read.
 ghost use mathlib.Core.Path.{_≡_};
 ghost use Prim.Native.Nat.{_≤_};
 ghost use Rattle.blocks.specs.Records.{modelOf};
-ghost use Rattle.rules.specs.Orders.{refused, picked, settled};
+ghost use Rattle.rules.specs.Orders.{refused, picked, settled, pickedSet};
 ghost use Rattle.expressions.specs.Reading.{Runs};
 ghost use Rattle.cycle.specs.View.{viewOf, Valid, Answers, outcomeOf, refusedAnswer, ReadTo, Keeps};
 use crate::config::Config;
@@ -65,6 +65,15 @@ impl Config {
         ensures { λ r. ⌜ Answers (modelOf (now (m .entry))) r (settled (modelOf (now (m .entry))) count (viewOf self)) ⌝ }
     {
         self.picks(m, index, Picks::Settle(count))
+    }
+
+    // One statement of each process of the set, bit n for process n.
+    pub fn pick_set<'a>(self, m: &'a [u8], index: &'a Index, set: usize) -> Answered
+        requires { ⌜ Runs (now m) (now index) ⌝ }
+        requires { ⌜ Valid (modelOf (now m)) self ⌝ }
+        ensures { λ r. ⌜ Answers (modelOf (now (m .entry))) r (pickedSet (modelOf (now (m .entry))) set (viewOf self)) ⌝ }
+    {
+        self.picks(m, index, Picks::Set(set))
     }
 
     // The current value of signal s.

@@ -1,4 +1,4 @@
-// Pick and settle: statements run in place, one after the other, in one loop.
+// Pick, settle and pick of a set: statements run in place, one after the other, in one loop.
 ghost use mathlib.Core.Path.{_≡_};
 ghost use Prim.Native.Nat.{_≤_};
 ghost use Rattle.base.specs.Cases.{_∣_, _⇒_};
@@ -11,13 +11,17 @@ use crate::orders::Answered;
 use blocks::index::Index;
 use expressions::effect::effect_of;
 use expressions::effect::next_place;
+use members::any_stopped;
+use members::pick_refusal;
+use members::set_refusal;
 use rules::NO_NODE;
 use rules::READY;
 use rules::STOPPED;
 use rules::WAITING;
 use rules::effect::Effect;
 use steps::due::any_standing;
-ghost use Rattle.cycle.specs.Turns.{turnsOf, Tellable, replyOf};
+use steps::sets::has;
+ghost use Rattle.cycle.specs.Turns.{refusalOf, turnsOf, Tellable, Named, replyOf};
 
 // The picks that an order asks for.
 pub enum Picks {
@@ -25,39 +29,63 @@ pub enum Picks {
     One(usize),
     // of the lowest ready process, until none is ready or that many are made
     Settle(usize),
+    // one of each process of the set, bit n for process n
+    Set(usize),
 }
 
-// The loop's part: processes first to end - 1, and at most count picks.
+// Every process.
+pub const ALL: usize = 65535;
+
+// The loop's part: from process first on those of the set, at most count picks; behind a pick it goes on by the stride.
 pub struct Turns {
     pub first: usize,
-    pub end: usize,
     pub count: usize,
+    pub set: usize,
+    pub stride: usize,
 }
 
-// The part of the loop, where there are nprocesses processes: for a process that is not there nothing.
-fn turns_of(which: Picks, nprocesses: usize) -> Turns
-    ensures { λ r. ⌜ r ≡ turnsOf which nprocesses ⌝ }
+// The refusal of the picks, or 0.
+fn refusal_of<'a>(which: Picks, standings: &'a [usize; 16], nprocesses: usize) -> usize
+    requires { ⌜ nprocesses ≤ 16 ⌝ }
+    ensures { λ r. ⌜ r ≡ refusalOf which (now (standings .entry)) nprocesses ⌝ }
 {
     match which {
-        Picks::One(p) => {
-            if p < nprocesses {
-                Turns {
-                    first: p,
-                    end: p + 1,
-                    count: 1,
-                }
-            } else {
-                Turns {
-                    first: 0,
-                    end: 0,
-                    count: 0,
-                }
-            }
-        }
-        Picks::Settle(n) => Turns {
+        Picks::One(p) => pick_refusal(standings, nprocesses, p),
+        Picks::Settle(count) => 0,
+        Picks::Set(set) => set_refusal(standings, nprocesses, set),
+    }
+}
+
+// The part of the loop: nothing where the picks are refused.
+fn turns_of(which: Picks, refusal: usize) -> Turns
+    ensures { λ r. ⌜ r ≡ turnsOf which refusal ⌝ }
+{
+    if refusal != 0 {
+        return Turns {
             first: 0,
-            end: nprocesses,
-            count: n,
+            count: 0,
+            set: 0,
+            stride: 0,
+        };
+    }
+    match which {
+        Picks::One(p) => Turns {
+            first: p,
+            count: 1,
+            set: ALL,
+            stride: 0,
+        },
+        Picks::Settle(count) => Turns {
+            first: 0,
+            count,
+            set: ALL,
+            stride: 0,
+        },
+        Picks::Set(set) => Turns {
+            first: 0,
+            count: 16,
+            set,
+            stride: 1,
         },
     }
 }
@@ -71,6 +99,7 @@ fn bit(b: bool) -> usize
 // The answer, n picks having been made.
 fn reply<'a>(
     which: Picks,
+    refusal: usize,
     standings: &'a [usize; 16],
     faults: &'a [u32; 16],
     nodes: &'a [u32; 16],
@@ -78,27 +107,29 @@ fn reply<'a>(
     n: usize,
 ) -> Answer
     requires { ⌜ nprocesses ≤ 16 ⌝ }
+    requires { ⌜ Named which refusal nprocesses ⌝ }
     requires { ⌜ Tellable (now faults) (now nodes) nprocesses ⌝ }
-    ensures { λ r. ⌜ r ≡ replyOf which (now (standings .entry)) (now (faults .entry)) (now (nodes .entry)) nprocesses n ⌝ }
+    ensures { λ r. ⌜ r ≡ replyOf which refusal (now (standings .entry)) (now (faults .entry)) (now (nodes .entry)) nprocesses n ⌝ }
 {
+    if refusal != 0 {
+        return Answer::refused(refusal);
+    }
     match which {
-        Picks::One(p) => {
-            if p >= nprocesses {
-                return Answer::refused(12);
-            }
-            if n == 0 {
-                return Answer::refused(13);
-            }
-            Answer {
-                refusal: 0,
-                byte: standings[p],
-                picks: n,
-                value: faults[p] + 65536 * nodes[p],
-            }
-        }
+        Picks::One(p) => Answer {
+            refusal: 0,
+            byte: standings[p],
+            picks: n,
+            value: faults[p] + 65536 * nodes[p],
+        },
         Picks::Settle(count) => Answer {
             refusal: 0,
             byte: bit(any_standing(standings, nprocesses, READY)),
+            picks: n,
+            value: 0,
+        },
+        Picks::Set(set) => Answer {
+            refusal: 0,
+            byte: bit(any_stopped(standings, set)),
             picks: n,
             value: 0,
         },
@@ -106,7 +137,7 @@ fn reply<'a>(
 }
 
 impl Config {
-    // One method, in place, for pick and settle: a configuration is large to copy.
+    // One method, in place, for pick, settle and pick of a set: a configuration is large to copy.
     pub fn picks<'a>(mut self, m: &'a [u8], index: &'a Index, which: Picks) -> Answered
         requires { ⌜ Runs (now m) (now index) ⌝ }
         requires { ⌜ Valid (modelOf (now m)) self ⌝ }
@@ -114,19 +145,23 @@ impl Config {
     {
         let now = self.time;
         let nprocesses = self.nprocesses;
-        let turns = turns_of(which, nprocesses);
-        let end = turns.end;
+        let refusal = refusal_of(which, &self.standings, nprocesses);
+        let turns = turns_of(which, refusal);
         let count = turns.count;
-        let mut p = turns.first;
+        let set = turns.set;
+        let stride = turns.stride;
+        let mut at = turns.first;
         let mut n = 0;
-        while (n < count) & (p < end) {
+        while (n < count) & (at < nprocesses) {
+            let p = at;
             let standing = self.standings[p];
-            if standing != READY {
-                p += 1;
+            if (standing != READY) | !has(set, p) {
+                at += 1;
                 continue;
             }
-            let place = self.places[p];
+            at += stride;
             n += 1;
+            let place = self.places[p];
             let effect = effect_of(m, index, &self.variables, &self.signals, place);
             let next = next_place(m, index, p, place);
             match effect {
@@ -170,6 +205,7 @@ impl Config {
         }
         let answer = reply(
             which,
+            refusal,
             &self.standings,
             &self.faults,
             &self.nodes,

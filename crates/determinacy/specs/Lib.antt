@@ -1,2 +1,3 @@
+pub mod Arrangements
 pub mod Kernel
 pub mod Determinacy

@@ -18,12 +18,13 @@ use Rattle.blocks.specs.Records.{Model}
 use Rattle.model.specs.Facts.{Facts}
 use Rattle.rules.specs.Configuration.{Transaction, Configuration, currentOf, driverIn, processIn, empty, lastTime}
 use Rattle.rules.specs.Invariant.{Reachable}
-use Rattle.rules.specs.Orders.{Outcome, Settled, refused, picked, timesIn, optional, earliest, dueTimes, dueNow, advanced, lowestReady, settledFrom, settled, readOf}
+use Rattle.rules.specs.Orders.{Outcome, Settled, refused, picked, timesIn, optional, earliest, dueTimes, dueNow, advanced, lowestReady, settledFrom, settled, setBits, pickedSet, readOf}
 use Rattle.rules.specs.Statements.{applied, stepped}
 use Rattle.rules.specs.Steps.{dueIn, transactionDue, deadlineAt, deadlineDue, deltaStep, shifted, timeStep}
 use Rattle.rules.proofs.DueTimes.{no-transaction, no-deadline, due-after}
 use Rattle.rules.proofs.Earliest.{earliest-is, due-each}
-use Rattle.rules.proofs.Outcomes.{Pick, pick-refused, pick-done, pick-is, Advance, advance-refused, delta-done, time-done, advance-is, Read, read-refused, read-done, read-is}
+use Rattle.rules.proofs.Outcomes.{Pick, pick-refused, pick-done, pick-is, Advance, advance-refused, delta-done, time-done, advance-is, PickSet, set-refused, set-done, pick-set-is, Read, read-refused, read-done, read-is}
+use Rattle.rules.proofs.Sets.{by-members}
 use Rattle.session.specs.Lists.{Order, isKnown, performed}
 use Rattle.session.proofs.InTime.{performed-reachable}
 use Rattle.vcd.specs.ReadBack.{TimesRise}
@@ -81,6 +82,11 @@ module _ (M : Model) (o : Order) (c : Configuration) (r : Reachable M c) where
   pick-time p x (pick-refused n h) = refl
   pick-time p x (pick-done there ready) = stepped-time M p c
 
+  set-time : (set : ℕ) (x : Outcome) → PickSet M c set x → x .after .time ≡ c .time
+  set-time set x (set-refused n h) = refl
+  set-time set x (set-done all) =
+      by-members M set c all (λ n d. d .time ≡ c .time) refl (λ n d m there ready before. stepped-time M n d ∙ before) (λ n d m before. before) setBits (omega arith)
+
   read-time : (s : ℕ) (x : Outcome) → Read M c s x → x .after .time ≡ c .time
   read-time s x (read-refused n h) = refl
   read-time s x (read-done there) = refl
@@ -100,7 +106,9 @@ module _ (M : Model) (o : Order) (c : Configuration) (r : Reachable M c) where
       (λ k. advance-moves k (advanced M c) (advance-is M c))
       (λ k. by-test Moving (eqb (o .kind) 3) _ _
       (λ e. other-moves k (settled M (o .count) c) (unfold settled in settled-time M (o .count) 0 c))
-      (λ e. other-moves k (readOf M (o .argument) c) (read-time (o .argument) _ (read-is M c (o .argument)))))))
+      (λ e. by-test Moving (eqb (o .kind) 5) _ _
+      (λ e. other-moves k (pickedSet M (o .count) c) (set-time (o .count) _ (pick-set-is M c (o .count))))
+      (λ e. other-moves k (readOf M (o .argument) c) (read-time (o .argument) _ (read-is M c (o .argument))))))))
 
 -- a time step alters no current value
 front-same : (m : ℕ) (h : List ℕ) → getD (replicate m (getD h 0 0) ++ h) 0 0 ≡ getD h 0 0

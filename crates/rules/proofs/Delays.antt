@@ -20,8 +20,8 @@ use Rattle.trees.specs.Trees.{typeOf}
 use Rattle.rules.specs.Configuration.{Configuration, processIn, lastTime, deltaLimit}
 use Rattle.rules.specs.Evaluation.{environmentOf, nextValue, evalOf}
 use Rattle.rules.specs.Statements.{effectBy, effectOf, applied, stepped}
-use Rattle.rules.specs.Steps.{signalAfter, signalsAfter, earlierAfter, wokenAt, processAfterDelta, deltaStep, timeStep}
-use Rattle.rules.specs.Orders.{Outcome, isReady, isStopped, pickDone, picked, dueTimes, earliest, dueNow, advanceDone, timeOrder, advanced, lowestReady, Settled, settledFrom, settleDone, settled, readOf}
+use Rattle.rules.specs.Steps.{signalAfter, signalsAfter, earlierAfter, wokenAt, processAfterDelta, deltaStep, timeStep, inSet}
+use Rattle.rules.specs.Orders.{Outcome, isReady, isStopped, pickDone, picked, dueTimes, earliest, dueNow, advanceDone, timeOrder, advanced, lowestReady, Settled, settledFrom, settleDone, settled, setBits, someMember, steppedBelow, setDone, pickedSet, readOf}
 use Rattle.rules.specs.Delays.{NoDelayOfZero, formerEnvironment, withoutEarlier}
 use Rattle.rules.proofs.Evaluation.{read-same}
 
@@ -112,3 +112,21 @@ module _ (M : Model) (free : NoDelayOfZero M) where
   pub settle-bare : (n : ℕ) (c : Configuration) → bare (settled M n c) ≡ bare (settled M n (withoutEarlier c))
   unfolding settled lowestReady isReady
   settle-bare n c = ap (λ (s : Settled). settleDone M s) (settled-bare n 0 c)
+
+  -- of a set, those below n
+  members-bare : (set n : ℕ) (c : Configuration) → withoutEarlier (steppedBelow M set n c) ≡ withoutEarlier (steppedBelow M set n (withoutEarlier c))
+  unfolding steppedBelow
+  members-bare set zero c = refl
+  members-bare set (suc n) c =
+      choices-by withoutEarlier (inSet set n) _ _ _ _
+      (λ b. step-bare (steppedBelow M set n c) n
+      ∙ ap (λ (d : Configuration). withoutEarlier (stepped M n d)) (members-bare set n c)
+      ∙ sym (step-bare (steppedBelow M set n (withoutEarlier c)) n))
+      (λ b. members-bare set n c)
+
+  pub pick-set-bare : (set : ℕ) (c : Configuration) → bare (pickedSet M set c) ≡ bare (pickedSet M set (withoutEarlier c))
+  unfolding pickedSet isReady isStopped
+  pick-set-bare set c =
+      choices-by bare (someMember (leb (length (M .processes))) set) _ _ _ _ (λ b. refl)
+      (λ b. choices-by bare (someMember (λ p. not (isReady p c)) set) _ _ _ _ (λ b. refl)
+      (λ b. ap (λ (d : Configuration). bare (setDone set d)) (members-bare set setBits c)))

@@ -14,10 +14,11 @@ use Rattle.model.specs.Facts.{Facts}
 use Rattle.rules.specs.declared.value.Failure.{Failure}
 use Rattle.rules.specs.Configuration.{ProcessState, Configuration}
 use Rattle.rules.specs.Statements.{stepped}
-use Rattle.rules.specs.Orders.{Outcome, isReady, picked, advanced, lowestReady, Settled, settledFrom, settled, readOf}
+use Rattle.rules.specs.Orders.{Outcome, isReady, picked, advanced, lowestReady, Settled, settledFrom, settled, setBits, pickedSet, readOf}
 use Rattle.rules.specs.Evaluation.{failure, noNode}
 use Rattle.rules.specs.Invariant.{Stopping, ProcessValid, Reachable}
-use Rattle.rules.proofs.Outcomes.{Pick, pick-refused, pick-done, pick-is, Advance, advance-refused, delta-done, time-done, advance-is, Read, read-refused, read-done, read-is}
+use Rattle.rules.proofs.Outcomes.{Pick, pick-refused, pick-done, pick-is, Advance, advance-refused, delta-done, time-done, advance-is, PickSet, set-refused, set-done, pick-set-is, Read, read-refused, read-done, read-is}
+use Rattle.rules.proofs.Sets.{by-members}
 use Rattle.rules.proofs.StepReachable.{stepped-reachable}
 use Rattle.rules.proofs.AdvanceReachable.{delta-reachable, time-reachable}
 
@@ -71,6 +72,14 @@ module _ (M : Model) (fs : Facts M) (c : Configuration) (r : Reachable M c) wher
   pub settled-reachable : (n : ℕ) → Keeps (settled M n c)
   unfolding settled
   settled-reachable n = settled-from M fs n 0 c r
+
+  pick-set-keeps : (set : ℕ) (o : Outcome) → PickSet M c set o → Keeps o
+  pick-set-keeps set o (set-refused n f) = r
+  pick-set-keeps set o (set-done all) =
+      by-members M set c all (λ n d. Reachable M d) r (λ n d m there ready before. stepped-reachable M fs d before n there ready) (λ n d m before. before) setBits (omega arith)
+
+  pub pickedSet-reachable : (set : ℕ) → Keeps (pickedSet M set c)
+  pickedSet-reachable set = pick-set-keeps set (pickedSet M set c) (pick-set-is M c set)
 
   read-keeps : (s : ℕ) (o : Outcome) → Read M c s o → Keeps o
   read-keeps s o (read-refused n f) = r

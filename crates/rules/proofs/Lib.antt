@@ -12,7 +12,8 @@ pub mod Lists
 pub mod Marks
 pub mod Outcomes
 pub mod Picks
-pub mod Settling
+pub mod Sets
 pub mod Signed
 pub mod StepReachable
+pub mod Turns
 pub mod Waves

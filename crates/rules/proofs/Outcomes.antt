@@ -15,7 +15,8 @@ use Rattle.blocks.specs.Records.{Model}
 use Rattle.rules.specs.Configuration.{Configuration, currentOf, lastTime}
 use Rattle.rules.specs.Statements.{stepped}
 use Rattle.rules.specs.Steps.{deltaStep, timeStep}
-use Rattle.rules.specs.Orders.{Outcome, refused, isReady, isStopped, pickDone, picked, dueTimes, earliest, dueNow, advanceDone, timeOrder, advanced, readOf}
+use Rattle.rules.specs.Orders.{Outcome, refused, isReady, isStopped, pickDone, picked, dueTimes, earliest, dueNow, advanceDone, timeOrder, advanced, setBits, someMember, steppedBelow, setDone, pickedSet, readOf}
+use Rattle.rules.proofs.Sets.{Chosen, chosen}
 
 -- the number of an order's refusal: 11 to 19
 pub record Refusal (n : ℕ) : Type 0 where
@@ -71,6 +72,20 @@ module _ (M : Model) (c : Configuration) where
       (λ e. advance-refused 16 (omega arith))
       (λ few. delta-done none-ready due (leb-false _ _ few)))
       (λ due. time-is none-ready due (earliest (dueTimes M c)) refl)))
+
+  -- a pick of a set
+  pub data PickSet (set : ℕ) : Outcome → Type 0 where
+    set-refused : (n : ℕ) → Refusal n → PickSet set (refused n c)
+    set-done : Chosen M set c → PickSet set (setDone set (steppedBelow M set setBits c))
+
+  pub pick-set-is : (set : ℕ) → PickSet set (pickedSet M set c)
+  unfolding pickedSet
+  pick-set-is set =
+      by-test (PickSet set) (someMember (leb (length (M .processes))) set) _ _
+      (λ e. set-refused 12 (omega arith))
+      (λ there. by-test (PickSet set) (someMember (λ p. not (isReady p c)) set) _ _
+      (λ e. set-refused 13 (omega arith))
+      (λ ready. set-done (chosen M set c there ready)))
 
   -- a read of signal s
   pub data Read (s : ℕ) : Outcome → Type 0 where

@@ -1,17 +1,17 @@
--- Pick, advance, settle and read: what each answers and the configuration it hands back.
-use mathlib.Core.Bool.{Bool, not, _||_}
+-- Pick, advance, settle, pick of a set and read: what each answers and the configuration it hands back.
+use mathlib.Core.Bool.{Bool, not, _&&_, _||_}
 use mathlib.Core.List.{List, [], _∷_, _++_}
 use mathlib.Core.Option.{Option, none, some}
 use Prim.Native.Nat.{ℕ, zero, suc, _+_, _*_, min}
 use lib.Dec.{eqb, ltb, leb}
 use lib.ListN.{length}
-use Rattle.base.specs.Below.{anyBelow, joinBelow}
+use Rattle.base.specs.Below.{anyBelow, sumBelow, joinBelow}
 use Rattle.base.specs.Cases.{_∣_, _⇒_}
 use Rattle.base.specs.Course.{firstWith}
 use Rattle.blocks.specs.Records.{Model}
 use Rattle.rules.specs.Configuration.{deltaLimit, lastTime, Transaction, ProcessState, Configuration, driverIn, processIn, currentOf, ready, stopped}
 use Rattle.rules.specs.Statements.{stepped}
-use Rattle.rules.specs.Steps.{transactionDue, deadlineDue, deltaStep, timeStep}
+use Rattle.rules.specs.Steps.{transactionDue, deadlineDue, inSet, deltaStep, timeStep}
 
 -- an order's answer and the configuration it hands back: the refusal or 0, byte 1, the picks made, bytes 4 to 7 as a number
 pub record Outcome : Type 0 where
@@ -128,6 +128,42 @@ settleDone M s =
 
 unfoldable pub settled : Model → ℕ → Configuration → Outcome
 settled M n c = settleDone M (settledFrom M 0 n c)
+
+-- document 02, item 8: "a set of processes in its count field, bit n for process n": the count field has 16 bits
+abbrev pub setBits : ℕ
+setBits = 16
+
+-- some process of the set passes the test
+unfoldable pub someMember : (ℕ → Bool) → ℕ → Bool
+someMember f set = anyBelow (λ p. inSet set p && f p) setBits
+
+-- how many processes of the set are below n
+unfoldable pub membersBelow : ℕ → ℕ → ℕ
+membersBelow set n = sumBelow (λ p. inSet set p ⇒ 1 ∣ 0) n
+
+-- "Each runs one statement": those of the set that are below n have, the lowest first. That their arrangement does not matter is a law
+-- (`session/specs/SetLaws`).
+unfoldable pub steppedBelow : Model → ℕ → ℕ → Configuration → Configuration
+steppedBelow M set zero c = c
+steppedBelow M set (suc n) c = inSet set n ⇒ stepped M n (steppedBelow M set n c) ∣ steppedBelow M set n c
+
+-- "Byte 1 is 1 if a process of the set stopped, else 0; bytes 4 to 7 are zero."
+abbrev pub setDone : ℕ → Configuration → Outcome
+setDone set c =
+    record {
+      refusal = 0;
+      byte = someMember (λ p. isStopped p c) set ⇒ 1 ∣ 0;
+      picks = membersBelow set setBits;
+      value = 0;
+      after = c;
+    }
+
+-- "If any is unknown (12) or not ready (13), unknown first, none moves."
+unfoldable pub pickedSet : Model → ℕ → Configuration → Outcome
+pickedSet M set c =
+    someMember (λ p. leb (length (M .processes)) p) set ⇒ refused 12 c
+    ∣ someMember (λ p. not (isReady p c)) set ⇒ refused 13 c
+    ∣ setDone set (steppedBelow M set setBits c)
 
 -- 19. "Read: no such signal." Else the value read.
 unfoldable pub readOf : Model → ℕ → Configuration → Outcome

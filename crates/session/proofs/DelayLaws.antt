@@ -3,13 +3,13 @@ use mathlib.Core.Path.{_≡_, refl, sym, ap, _∙_}
 use mathlib.Core.Bool.{not}
 use mathlib.Core.List.{List, [], _∷_}
 use lib.Dec.{eqb}
-use Rattle.base.proofs.Cases.{choices-by}
+use Rattle.base.proofs.Cases.{either-way}
 use Rattle.blocks.specs.Records.{Model}
 use Rattle.rules.specs.Configuration.{Configuration}
 use Rattle.rules.specs.Orders.{Outcome}
 use Rattle.rules.specs.Steps.{deltaStep}
 use Rattle.rules.specs.Delays.{NoDelayOfZero, withoutEarlier, SameButEarlier}
-use Rattle.rules.proofs.Delays.{former-value, bare, delta-bare, advance-bare, read-bare, pick-bare, settle-bare}
+use Rattle.rules.proofs.Delays.{former-value, bare, delta-bare, advance-bare, read-bare, pick-bare, settle-bare, pick-set-bare}
 use Rattle.session.specs.Lists.{Order, Played, isKnown, performed, answerOf, answered, played}
 use Rattle.session.specs.DelayLaws.{SamePlay, DelayLaws}
 
@@ -17,11 +17,12 @@ module _ (M : Model) (free : NoDelayOfZero M) where
   order-bare : (o : Order) (c : Configuration) → bare (performed M o c) ≡ bare (performed M o (withoutEarlier c))
   unfolding performed
   order-bare o c =
-      choices-by bare (not (isKnown o)) _ _ _ _ (λ b. refl)
-      (λ b. choices-by bare (eqb (o .kind) 1) _ _ _ _ (λ b. pick-bare M free c (o .argument))
-      (λ b. choices-by bare (eqb (o .kind) 2) _ _ _ _ (λ b. advance-bare M c)
-      (λ b. choices-by bare (eqb (o .kind) 3) _ _ _ _ (λ b. settle-bare M free (o .count) c)
-      (λ b. read-bare M c (o .argument)))))
+      either-way (not (isKnown o)) (λ u. rw u)
+      (λ u. either-way (eqb (o .kind) 1) (λ k. rw (u, k) (pick-bare M free c (o .argument)))
+      (λ no1. either-way (eqb (o .kind) 2) (λ k. rw (u, no1, k) (advance-bare M c))
+      (λ no2. either-way (eqb (o .kind) 3) (λ k. rw (u, no1, no2, k) (settle-bare M free (o .count) c))
+      (λ no3. either-way (eqb (o .kind) 5) (λ k. rw (u, no1, no2, no3, k) (pick-set-bare M free (o .count) c))
+      (λ no5. rw (u, no1, no2, no3, no5) (read-bare M c (o .argument)))))))
 
   -- what a list gives, but for the earlier values at its end
   abbrev barePlayed : Played → Played

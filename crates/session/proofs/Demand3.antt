@@ -71,7 +71,7 @@ module _ (M : Model) (facts : Facts M) where
       )
       (steps-commute M facts c s p q other (x .there) (y .there))
 
-  laws : Laws (kernelOf M)
+  pub laws : Laws (kernelOf M)
   laws =
       record {
         Sound = Reachable M;
@@ -81,6 +81,11 @@ module _ (M : Model) (facts : Facts M) where
         stays-ready = λ p q c s other rp rq. stays-ready p q c other (ready-of p c rp) (ready-of q c rq);
         commutes = λ p q c s other rp rq. commutes p q c s other (ready-of p c rp) (ready-of q c rq);
       }
+
+  -- what can be reached is sound
+  pub sound : (c : Configuration) → Reachable M c → laws .Sound c
+  unfolding laws
+  sound c r = r
 
   pub determinate-of : Determinacy (kernelOf M) (tallyOf M)
   unfolding laws

@@ -7,3 +7,4 @@ pub mod ListLaws
 pub mod PlayLaws
 pub mod Runs
 pub mod SessionLaws
+pub mod SetLaws

@@ -11,7 +11,7 @@ use Rattle.blocks.specs.Records.{Model, modelOf}
 use Rattle.model.specs.Rules.{refusalOf}
 use Rattle.rules.specs.Configuration.{Configuration, first}
 use Rattle.rules.specs.Orders.{Outcome, refused, settled}
-use Rattle.rules.proofs.Outcomes.{Pick, pick-refused, pick-done, pick-is, Advance, advance-refused, delta-done, time-done, advance-is, Read, read-refused, read-done, read-is}
+use Rattle.rules.proofs.Outcomes.{Pick, pick-refused, pick-done, pick-is, Advance, advance-refused, delta-done, time-done, advance-is, PickSet, set-refused, set-done, pick-set-is, Read, read-refused, read-done, read-is}
 use Rattle.session.specs.Lists.{Order, isKnown, performed, answered, ordersOf, played}
 use Rattle.session.specs.Sessions.{ordersOk, bufferOk, numberOf, sessionOf}
 use Rattle.session.specs.ListLaws.{ListLaws}
@@ -35,6 +35,10 @@ module _ (M : Model) (c : Configuration) where
   unfolding settled
   settle-kept n = λ z. absurd (z refl)
 
+  set-kept : (set : ℕ) {r : Outcome} → PickSet M c set r → Kept r
+  set-kept set (set-refused n h) = λ z. refl
+  set-kept set (set-done all) = λ z. absurd (z refl)
+
   read-kept : (s : ℕ) {r : Outcome} → Read M c s r → Kept r
   read-kept s (read-refused n h) = λ z. refl
   read-kept s (read-done there) = λ z. absurd (z refl)
@@ -46,7 +50,8 @@ module _ (M : Model) (c : Configuration) where
       (λ e. by-test Kept (eqb (o .kind) 1) _ _ (λ k. pick-kept (o .argument) (pick-is M c (o .argument)))
       (λ e. by-test Kept (eqb (o .kind) 2) _ _ (λ k. advance-kept (advance-is M c))
       (λ e. by-test Kept (eqb (o .kind) 3) _ _ (λ k. settle-kept (o .count))
-      (λ e. read-kept (o .argument) (read-is M c (o .argument))))))
+      (λ e. by-test Kept (eqb (o .kind) 5) _ _ (λ k. set-kept (o .count) (pick-set-is M c (o .count)))
+      (λ e. read-kept (o .argument) (read-is M c (o .argument)))))))
 
   -- "After a refused order the next is played all the same", from the configuration that the refused one took
   after-refused : (o : Order) (os : List Order) → (performed M o c .refusal ≡ 0 → ⊥)

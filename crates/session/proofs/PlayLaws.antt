@@ -18,13 +18,13 @@ use Rattle.base.specs.Cases.{_∣_, _⇒_}
 use Rattle.base.proofs.Below.{list-length, list-at}
 use Rattle.blocks.specs.Records.{Model}
 use Rattle.rules.specs.Configuration.{Configuration}
-use Rattle.rules.specs.Orders.{refused, picked, advanced, settled, readOf}
+use Rattle.rules.specs.Orders.{refused, picked, advanced, settled, pickedSet, readOf}
 use Rattle.cycle.specs.View.{Valid, Answers, Keeps, ReadTo, viewOf, outcomeOf, pickedBy, refusedAnswer}
 use Rattle.cycle.specs.declared.config.Config.{Config}
 use Rattle.cycle.specs.declared.orders.Answer.{Answer}
 use Rattle.cycle.specs.declared.orders.Answered.{Answered}
 use Rattle.cycle.specs.declared.picks.Picks.{Picks}
-use Rattle.cycle.specs.declared.picks.Picks.the-variants.{One, Settle}
+use Rattle.cycle.specs.declared.picks.Picks.the-variants.{One, Settle, Set}
 use Rattle.cycle.proofs.OrderLaws.{refused-is}
 use Rattle.cycle.proofs.ViewLaws.{nsignals-is}
 use Rattle.session.specs.Lists.{order, orderOf, ordersOf, isKnown, performed, answerBytes, answerOf, played}
@@ -102,17 +102,24 @@ module _ {M : Model} {os : List ℕ} {c₀ : Configuration} {i : ℕ} {at : Conf
     unfolding performed
     settle-order is = rw (← (t .known), k, is)
 
-    picks-order : (w : Picks) → w ≡ (eqb kind 1 ⇒ One argument ∣ Settle count) → (kind ≡ 1) ⊎ (kind ≡ 3)
+    set-order : kind ≡ 5 → performed M (order kind argument count) (viewOf at) ≡ pickedSet M count (viewOf at)
+    unfolding performed
+    set-order is = rw (← (t .known), k, is)
+
+    picks-order : (w : Picks) → w ≡ (eqb kind 1 ⇒ One argument ∣ eqb kind 3 ⇒ Settle count ∣ Set count) → (kind ≡ 1) ⊎ ((kind ≡ 3) ⊎ (kind ≡ 5))
         → performed M (order kind argument count) (viewOf at) ≡ pickedBy M w (viewOf at)
-    picks-order w e = ⊎-elim (λ (is : kind ≡ 1). pick-order is ∙ rw (e, is)) (λ (is : kind ≡ 3). settle-order is ∙ rw (e, is))
+    picks-order w e =
+        ⊎-elim
+        (λ (is : kind ≡ 1). pick-order is ∙ rw (e, is))
+        (λ (is : (kind ≡ 3) ⊎ (kind ≡ 5)). ⊎-elim (λ (is : kind ≡ 3). settle-order is ∙ rw (e, is)) (λ (is : kind ≡ 5). set-order is ∙ rw (e, is)) is)
 
     advance-order : kind ≡ 2 → performed M (order kind argument count) (viewOf at) ≡ advanced M (viewOf at)
     unfolding performed
     advance-order is = rw (← (t .known), k, is)
 
-    read-order : (kind ≡ 1 → ⊥) → (kind ≡ 2 → ⊥) → (kind ≡ 3 → ⊥) → performed M (order kind argument count) (viewOf at) ≡ readOf M argument (viewOf at)
+    read-order : (kind ≡ 1 → ⊥) → (kind ≡ 2 → ⊥) → (kind ≡ 3 → ⊥) → (kind ≡ 5 → ⊥) → performed M (order kind argument count) (viewOf at) ≡ readOf M argument (viewOf at)
     unfolding performed
-    read-order no1 no2 no3 = rw (← (t .known), k, ne-eqb kind 1 no1, ne-eqb kind 2 no2, ne-eqb kind 3 no3)
+    read-order no1 no2 no3 no5 = rw (← (t .known), k, ne-eqb kind 1 no1, ne-eqb kind 2 no2, ne-eqb kind 3 no3, ne-eqb kind 5 no5)
 
   -- what each way of the order's choice says of the answer and the configuration that it leaves
   abbrev Gives : Answer → Config → Type 0
@@ -122,15 +129,15 @@ module _ {M : Model} {os : List ℕ} {c₀ : Configuration} {i : ℕ} {at : Conf
   refused-gives k a e = rw (refused-order k) (record { is = rw e (refused-is at 11); valid = t .playing .valid })
 
   module _ (k : b ≡ true) where
-    pub picks-give : (w : Picks) → w ≡ (eqb kind 1 ⇒ One argument ∣ Settle count) → (kind ≡ 1) ⊎ (kind ≡ 3) → (r : Answered) → Answers M r (pickedBy M w (viewOf at)) → Gives (r .answer) (r .config)
+    pub picks-give : (w : Picks) → w ≡ (eqb kind 1 ⇒ One argument ∣ eqb kind 3 ⇒ Settle count ∣ Set count) → (kind ≡ 1) ⊎ ((kind ≡ 3) ⊎ (kind ≡ 5)) → (r : Answered) → Answers M r (pickedBy M w (viewOf at)) → Gives (r .answer) (r .config)
     picks-give w e is r a = rw (picks-order k w e is) a
 
     pub advance-gives : kind ≡ 2 → (r : Answered) → Answers M r (advanced M (viewOf at)) → Gives (r .answer) (r .config)
     advance-gives is r a = rw (advance-order k is) a
 
-    pub read-gives : ((kind ≡ 1) ⊎ (kind ≡ 3) → ⊥) → (kind ≡ 2 → ⊥) → (r : Answered) → ReadTo argument at r → Keeps at r → Gives (r .answer) (r .config)
+    pub read-gives : ((kind ≡ 1) ⊎ ((kind ≡ 3) ⊎ (kind ≡ 5)) → ⊥) → (kind ≡ 2 → ⊥) → (r : Answered) → ReadTo argument at r → Keeps at r → Gives (r .answer) (r .config)
     read-gives none no2 r a f =
-        rw (read-order k (λ e. none (inl e)) no2 (λ e. none (inr e))) (record { is = a M (sym (nsignals-is M at (t .playing .valid .reachable))); valid = f M (t .playing .valid) })
+        rw (read-order k (λ e. none (inl e)) no2 (λ e. none (inr (inl e))) (λ e. none (inr (inr e)))) (record { is = a M (sym (nsignals-is M at (t .playing .valid .reachable))); valid = f M (t .playing .valid) })
 
   -- it is done: r is what it gave, and its answer is written into its own part of the buffer
   module _ {r : Answered} (a : Answers M r (performed M (order kind argument count) (viewOf at))) where

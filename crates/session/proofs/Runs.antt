@@ -17,8 +17,9 @@ use Rattle.determinacy.proofs.Run.{Run, stay, by-pick, by-advance, join}
 use Rattle.blocks.specs.Records.{Model}
 use Rattle.rules.specs.Configuration.{Configuration}
 use Rattle.rules.specs.Statements.{stepped}
-use Rattle.rules.specs.Orders.{Outcome, refused, isReady, advanced, lowestReady, Settled, settledFrom, settled}
-use Rattle.rules.proofs.Outcomes.{Refusal, Pick, pick-refused, pick-done, pick-is, pick-of-ready, Advance, advance-refused, delta-done, time-done, advance-is, Read, read-refused, read-done, read-is}
+use Rattle.rules.specs.Orders.{Outcome, refused, isReady, advanced, lowestReady, Settled, settledFrom, settled, setBits, membersBelow, steppedBelow}
+use Rattle.rules.proofs.Outcomes.{Refusal, Pick, pick-refused, pick-done, pick-is, pick-of-ready, Advance, advance-refused, delta-done, time-done, advance-is, PickSet, set-refused, set-done, pick-set-is, Read, read-refused, read-done, read-is}
+use Rattle.rules.proofs.Sets.{Chosen, members-none, members-more, members-stay, members-most, by-members}
 use Rattle.session.specs.Lists.{Order, isKnown, answerOf, performed, played}
 use Rattle.session.specs.Demand3.{picksOf, isAdvance, advancesOf, kernelOf}
 use Rattle.session.proofs.Answers.{Small, refusal-byte, picks-word}
@@ -90,6 +91,18 @@ module _ (M : Model) where
       let same : settledFrom M 0 n c .picks ≡ s .more = s .picks ∙ zero-add (s .more) in
       record { run = rw same (s .run); picks = omega arith; refusal = omega arith }
 
+  -- the processes of a set that are below n, the lowest first
+  members-run : (set : ℕ) (c : Configuration) → Chosen M set c → (n : ℕ) → n ≤ setBits → Run (kernelOf M) c 0 (membersBelow set n) (steppedBelow M set n c)
+  members-run set c all =
+      by-members M set c all (λ n d. Run (kernelOf M) c 0 (membersBelow set n) d) (rw (members-none set) stay)
+      (λ n d m there ready before. rw (members-more set n m) (join (kernelOf M) before (pick-run n d there ready stay)))
+      (λ n d m before. rw (members-stay set n m) before)
+
+  set-does : (set : ℕ) (c : Configuration) {r : Outcome} → PickSet M c set r → Does c 0 r
+  set-does set c (set-refused n h) = refusal-does c n h
+  set-does set c (set-done all) =
+      record { run = members-run set c all setBits (omega arith); picks = omega (arith, members-most set setBits); refusal = omega arith }
+
   advance-does : (c : Configuration) (r : Outcome) → r ≡ advanced M c → Advance M c r → Does c (eqb (r .refusal) 0 ⇒ 1 ∣ 0) r
   advance-does c r e (advance-refused n h) = rw (ne-eqb n 0 (λ z. omega arith)) (refusal-does c n h)
   advance-does c r e (delta-done quiet due few) = record { run = advance-run c r e refl refl; picks = omega arith; refusal = omega arith }
@@ -120,7 +133,8 @@ module _ (M : Model) where
         (λ e. by-test Counted (eqb (o .kind) 1) _ _ (λ k. no-advance (rw (eqb-true (o .kind) 1 k)) (pick-does (o .argument) c (pick-is M c (o .argument))))
         (λ e. by-test Counted (eqb (o .kind) 2) _ _ one-advance
         (λ k. by-test Counted (eqb (o .kind) 3) _ _ (λ e. no-advance k (settle-does (o .count) c small))
-        (λ e. no-advance k (read-does (o .argument) c (read-is M c (o .argument)))))))
+        (λ e. by-test Counted (eqb (o .kind) 5) _ _ (λ e. no-advance k (set-does (o .count) c (pick-set-is M c (o .count))))
+        (λ e. no-advance k (read-does (o .argument) c (read-is M c (o .argument))))))))
 
   -- a list of orders, one after the other
   pub played-run : (os : List Order) → Small os → (c : Configuration)

@@ -4,3 +4,4 @@ pub mod FaultLaws
 pub mod ListLaws
 pub mod Lists
 pub mod Sessions
+pub mod SetLaws

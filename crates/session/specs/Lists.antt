@@ -9,7 +9,7 @@ use Rattle.base.specs.Bytes.{byteAt, wordAt}
 use Rattle.base.specs.Cases.{_∣_, _⇒_, _is_⇒_}
 use Rattle.blocks.specs.Records.{Model}
 use Rattle.rules.specs.Configuration.{Configuration, first}
-use Rattle.rules.specs.Orders.{Outcome, refused, picked, advanced, settled, readOf}
+use Rattle.rules.specs.Orders.{Outcome, refused, picked, advanced, settled, pickedSet, readOf}
 
 -- "An order is 4 bytes: kind, argument, 16-bit count."
 pub record Order : Type 0 where
@@ -27,23 +27,26 @@ orderOf r = record { kind = byteAt r 0; argument = byteAt r 1; count = wordAt r 
 unfoldable pub ordersOf : List ℕ → List Order
 ordersOf bytes = listBelow (λ i. orderOf (take 4 (drop (4 * i) bytes))) (length bytes / 4)
 
--- the kind is known, and "Unused bytes are zero": a pick and a read use the argument, a settle the count, an advance neither
+-- the kind is known, and "Unused bytes are zero": a pick and a read use the argument, a settle and a pick of a set the count, an
+-- advance neither
 unfoldable pub isKnown : Order → Bool
 isKnown o =
     o .kind is 1 ⇒ eqb (o .count) 0
     ∣ o .kind is 2 ⇒ eqb (o .argument) 0 && eqb (o .count) 0
     ∣ o .kind is 3 ⇒ eqb (o .argument) 0
     ∣ o .kind is 4 ⇒ eqb (o .count) 0
+    ∣ o .kind is 5 ⇒ eqb (o .argument) 0
     ∣ false
 
--- 11. "Unknown kind or unused byte set." Else "1 pick the process named; 2 advance; 3 settle [..]; 4 read the signal named": of
--- the known kinds 4 is the one left.
+-- 11. "Unknown kind or unused byte set." Else "1 pick the process named; 2 advance; 3 settle [..]; 4 read the signal named", and 5
+-- pick of the set in the count field (document 02, item 8): of the known kinds 4 is the one left.
 unfoldable pub performed : Model → Order → Configuration → Outcome
 performed M o c =
     not (isKnown o) ⇒ refused 11 c
     ∣ o .kind is 1 ⇒ picked M (o .argument) c
     ∣ o .kind is 2 ⇒ advanced M c
     ∣ o .kind is 3 ⇒ settled M (o .count) c
+    ∣ o .kind is 5 ⇒ pickedSet M (o .count) c
     ∣ readOf M (o .argument) c
 
 -- byte i of a number, little endian

@@ -9,6 +9,7 @@ ghost use Rattle.session.specs.Demand3.{Determinate};
 ghost use Rattle.session.specs.FaultLaws.{FaultLaws};
 ghost use Rattle.session.specs.ListLaws.{ListLaws};
 ghost use Rattle.session.specs.Sessions.{ordersOk, lengthRules, SessionIs};
+ghost use Rattle.session.specs.SetLaws.{SetLaws};
 use crate::play::play;
 use cycle::config::Config;
 use model::load::load;
@@ -48,6 +49,7 @@ pub fn session(model: &[u8], orders: &[u8], answers: &mut [u8]) -> Ended
     ensures { λ r. ⌜ ListLaws ⌝ }
     ensures { λ r. ⌜ FaultLaws ⌝ }
     ensures { λ r. ⌜ DelayLaws ⌝ }
+    ensures { λ r. ⌜ SetLaws ⌝ }
 {
     let loaded = load(model);
     let refusal = loaded.refusal;

@@ -1,13 +1,12 @@
 // A list of orders, played one after the other.
 ghost use mathlib.Core.Path.{_≡_};
 ghost use Prim.Native.Nat.{_*_, _/_};
-ghost use lib.Dec.{eqb};
 ghost use lib.ListN.{length};
-ghost use Rattle.base.specs.Cases.{_∣_, _⇒_};
+ghost use Rattle.base.specs.Cases.{_∣_, _is_⇒_};
 ghost use Rattle.blocks.specs.Records.{modelOf};
 ghost use Rattle.expressions.specs.Reading.{Runs};
 ghost use Rattle.cycle.specs.View.{Valid, viewOf};
-ghost use Rattle.cycle.specs.declared.picks.Picks.the-variants.{One, Settle};
+ghost use Rattle.cycle.specs.declared.picks.Picks.the-variants.{One, Settle, Set};
 ghost use Rattle.session.specs.Lists.{isKnown, order};
 ghost use Rattle.session.specs.Sessions.{PlayedTo};
 use crate::encode::put_answer;
@@ -25,20 +24,20 @@ fn known(kind: usize, argument: usize, count: usize) -> bool
     match kind {
         1 => count == 0,
         2 => (argument == 0) & (count == 0),
-        3 => argument == 0,
+        3 | 5 => argument == 0,
         4 => count == 0,
         _ => false,
     }
 }
 
-// The picks that a pick or a settle asks for.
+// The picks that a pick, a settle or a pick of a set asks for.
 fn picks_of(kind: usize, argument: usize, count: usize) -> Picks
-    ensures { λ r. ⌜ r ≡ (eqb kind 1 ⇒ One argument ∣ Settle count) ⌝ }
+    ensures { λ r. ⌜ r ≡ (kind is 1 ⇒ One argument ∣ kind is 3 ⇒ Settle count ∣ Set count) ⌝ }
 {
-    if kind == 1 {
-        Picks::One(argument)
-    } else {
-        Picks::Settle(count)
+    match kind {
+        1 => Picks::One(argument),
+        3 => Picks::Settle(count),
+        _ => Picks::Set(count),
     }
 }
 
@@ -68,7 +67,7 @@ pub fn play<'a>(
         let mut answer = Answer::refused(11);
         if known(kind, argument, count) {
             match kind {
-                1 | 3 => {
+                1 | 3 | 5 => {
                     let r = at.picks(m, index, picks_of(kind, argument, count));
                     at = r.config;
                     answer = r.answer;

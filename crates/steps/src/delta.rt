@@ -85,7 +85,7 @@ pub fn resolve<'a>(
     let mut changed: u32 = 0;
     let mut s = 0;
     while s < nsignals {
-        if has(active, s) {
+        if has(active as usize, s) {
             let old = signals[32 * s];
             let other = undriven(m, index, s, old);
             let v = resolved(m, index, currents, ndrivers, s, other);

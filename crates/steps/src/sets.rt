@@ -1,4 +1,4 @@
-// Sets of signals: bit n for signal n.
+// Sets of signals or of processes: bit n for signal or process n.
 ghost use mathlib.Core.Path.{_≡_};
 ghost use mathlib.Core.Bool.{_&&_, _||_};
 ghost use Prim.Native.Nat.{_<_};
@@ -7,8 +7,8 @@ ghost use Rattle.base.specs.Below.{anyBelow};
 ghost use Rattle.rules.specs.Steps.{inSet};
 ghost use Rattle.steps.specs.Delta.{SetOf};
 
-// Whether signal n is in the set.
-pub(crate) fn has(set: u32, n: usize) -> bool
+// Whether signal or process n is in the set.
+pub fn has(set: usize, n: usize) -> bool
     requires { ⌜ n < 32 ⌝ }
     ensures { λ r. ⌜ r ≡ inSet set n ⌝ }
 {

@@ -1,6 +1,6 @@
--- By the order's picks. Assumes nothing.
+-- By the refusal, then by the order's picks. Assumes nothing.
 use borrow.Author.Needs.{needs}
-use borrow.Author.Tests.{lt-ltb, le-ltb}
+use borrow.Author.Tests.{eq-eqb, ne-eqb}
 use Rattle.cycle.proofs.picks.turns_of.Statement.{statement}
 use Rattle.cycle.proofs.picks.turns_of.Tie as tie
 
@@ -8,15 +8,17 @@ pub turns-of-spec : {M : Type 1} → statement M
 turns-of-spec =
     tie.close
     (tie.spec
+    -- returns
+    (λ c. rw (ne-eqb _ _ (c .if1 .taken)))
     -- enum-known-which
-    (λ c. search needs)
-    -- add-t8
     (λ c. search needs)
     -- enum-known-which-2
     (λ c. search needs)
-    -- returns
-    (λ c. rw (c .before .before .which .given .1, lt-ltb _ _ (c .if1 .taken)))
+    -- enum-known-which-3
+    (λ c. search needs)
     -- returns-2
-    (λ c. rw (c .before .before .which .given .1, le-ltb _ _ (c .if1 .left)))
+    (λ c. rw (eq-eqb _ _ (c .before .before .before .if1 .left), c .before .which .given .1))
     -- returns-3
-    (λ c. rw (c .before .which2 .given .1)))
+    (λ c. rw (eq-eqb _ _ (c .before .before .before .if1 .left), c .before .which2 .given .1))
+    -- returns-4
+    (λ c. rw (eq-eqb _ _ (c .before .before .before .if1 .left), c .before .which3 .given .1)))

@@ -1,5 +1,5 @@
 -- By the kind. Assumes nothing.
-use borrow.Author.Tests.{eq-eqb, ne-eqb}
+use borrow.Author.Tests.{ne-eqb}
 use Rattle.session.proofs.play.picks_of.Statement.{statement}
 use Rattle.session.proofs.play.picks_of.Tie as tie
 
@@ -8,6 +8,8 @@ picks-of-spec =
     tie.close
     (tie.spec
     -- returns
-    (λ c. rw (eq-eqb _ _ (c .if1 .taken)))
+    (λ c. rw (c .match .keys1))
     -- returns-2
-    (λ c. rw (ne-eqb _ _ (c .if1 .left))))
+    (λ c. rw (c .match .keys2))
+    -- returns-3
+    (λ c. rw (ne-eqb _ 1 (c .match .rest .0 .1), ne-eqb _ 3 (c .match .rest .1))))

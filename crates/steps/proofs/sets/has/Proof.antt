@@ -10,8 +10,6 @@ unfolding inSet
 has-spec =
     tie.close
     (tie.spec
-    -- cast-result
-    (λ c. search needs)
     -- shr-result
     (λ c. search needs)
     -- returns

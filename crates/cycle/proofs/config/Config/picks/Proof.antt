@@ -1,27 +1,32 @@
 -- The loop keeps `Turning`, and each arm makes a `Turn`; `picks-done` tells what the loop left. The measure is what is left of the
 -- picks and of the processes. Assumes nothing.
-use mathlib.Core.Path.{refl}
-use Prim.Native.Nat.{_+_, _-_, _<_}
+use mathlib.Core.Path.{_≡_, refl, sym, _∙_}
+use mathlib.Core.Bool.{true, not}
+use Prim.Native.Nat.{ℕ, _+_, _-_, _≤_, _<_}
 use native.Mathlib.Omega.{arith}
+use lib.Dec.{eqb}
 use lib.ListN.{length, getD}
 use borrow.Author.Needs.{needs}
+use borrow.Author.Tests.{eqb-true, not-false}
+use Rattle.base.proofs.Below.{or-left, or-right}
 use Rattle.blocks.specs.Records.{modelOf}
 use Rattle.fields.specs.Facts.{Spans}
 use Rattle.rules.proofs.Lists.{length-mapped}
+use Rattle.rules.specs.Steps.{inSet}
 use Rattle.expressions.specs.Reading.{Runs}
 use Rattle.cycle.specs.declared.config.Config.{Config}
 use Rattle.cycle.specs.declared.picks.Turns.{Turns}
 use Rattle.cycle.proofs.Changes.{Sized}
-use Rattle.cycle.proofs.OrderLaws.{turns-within, picks-answer, tellable}
-use Rattle.cycle.proofs.Turning.{Turning, Turn, Stepped, statement-there, is-ready, turning-next, goes-on, turning-none, turning-past, turning-end, early, in-16, process-in-model, place-spans, in-variables, wait-small, skip-turn, store-turn, jump-turn, wait-turn, wait-for-turn, stop-turn, in-drivers, waveform, word-held, full-turn, schedule-turn}
+use Rattle.cycle.proofs.OrderLaws.{short-stride, named, picks-answer, tellable}
+use Rattle.cycle.proofs.Turning.{Turning, Turn, Stepped, few-processes, statement-there, is-ready, turning-next, goes-on, turning-none, turning-past, turning-end, early, in-16, process-in-model, place-spans, in-variables, wait-small, skip-turn, store-turn, jump-turn, wait-turn, wait-for-turn, stop-turn, in-drivers, waveform, word-held, full-turn, schedule-turn}
 use Rattle.cycle.proofs.config.Config.picks.Statement.{statement}
 use Rattle.cycle.proofs.config.Config.picks.Tie as tie
 
 abbrev Inv-loop : tie.InvT-loop
-Inv-loop m index which self₀ now nprocesses end count p₀ n₀ self p n = Turning (modelOf m) count now p₀ end self₀ p n self
+Inv-loop m index which self₀ now nprocesses refusal count set stride at₀ n₀ self at n = Turning (modelOf m) set stride count now at₀ self₀ at n self
 
 abbrev μ-loop : tie.MeasureT-loop
-μ-loop m index which self₀ now nprocesses end count p₀ n₀ self p n = (count - n) + (end - p)
+μ-loop m index which self₀ now nprocesses refusal count set stride at₀ n₀ self at n = (count - n) + (nprocesses - at)
 
 -- what holds where the loop goes on
 module _ (c : tie.At-loop Inv-loop μ-loop) where
@@ -32,22 +37,43 @@ module _ (c : tie.At-loop Inv-loop μ-loop) where
   part = looked .turns-of .result
 
   abbrev start : tie.Start Inv-loop μ-loop
-  start = looked .before .before
+  start = looked .before .before .before .before .before
 
 module _ (c : tie.In-loop Inv-loop μ-loop) where
-  ahead : (c .before .loop .n < part (c .before) .count) × (c .before .loop .p < part (c .before) .end)
+  ahead : (c .before .loop .n < part (c .before) .count) × (c .before .loop .at < start (c .before) .args .t1 .nprocesses)
   ahead = goes-on _ _ _ _ (c .loop-test .taken)
 
-  small : c .before .loop .p < 16
-  small = let inv = c .before .loop .inv in omega (arith, ahead .1, inv .within, inv .most)
+  small : c .before .loop .at < 16
+  small = let inv = c .before .loop .inv in omega (arith, ahead .1, inv .most)
 
-  inside : c .before .loop .p < c .before .loop .self .nprocesses
-  inside = omega (arith, ahead .1, c .before .loop .inv .whole, c .before .loop .inv .within)
+  inside : c .before .loop .at < c .before .loop .self .nprocesses
+  inside = omega (arith, ahead .1, c .before .loop .inv .whole)
+
+  -- the loop goes on by at most one process
+  stride : part (c .before) .stride ≤ 1
+  stride = let look = looked (c .before) in short-stride (start (c .before) .args .which) (look .before .refusal-of .result) (part (c .before)) (look .turns-of .ensures)
+
+-- a process is picked: it is ready and in the set
+module _ (c : tie.Else1 Inv-loop μ-loop) where
+  abbrev before : tie.At-loop Inv-loop μ-loop
+  before = c .before .before .before .before
+
+  abbrev standing : ℕ
+  standing = getD (before .loop .self .standings) (before .loop .at) 0
+
+  ready : standing ≡ 0
+  ready = eqb-true _ _ (not-false _ (or-left (not (eqb standing 0)) (not (c .before .has .result)) (c .if1 .left)))
+
+  member : inSet (part before .set) (before .loop .at) ≡ true
+  member = sym (c .before .has .ensures) ∙ not-false _ (or-right (not (eqb standing 0)) (not (c .before .has .result)) (c .if1 .left))
 
 -- what holds in every arm: after the call of `effect_of`
 module _ (c : tie.After-effect-of Inv-loop μ-loop) where
+  abbrev picked : tie.Else1 Inv-loop μ-loop
+  picked = c .before .before .before .before .before
+
   abbrev test : tie.In-loop Inv-loop μ-loop
-  test = c .before .before .before .before .before .before .before
+  test = picked .before .before .before
 
   abbrev at : tie.At-loop Inv-loop μ-loop
   at = test .before
@@ -55,7 +81,7 @@ module _ (c : tie.After-effect-of Inv-loop μ-loop) where
   abbrev args : tie.Start Inv-loop μ-loop
   args = start at
 
-  turn : Turn (modelOf (args .args .m .now)) (args .args .t1 .time) (at .loop .p) (at .loop .self) (c .effect-of .result)
+  turn : Turn (modelOf (args .args .m .now)) (args .args .t1 .time) (at .loop .at) (at .loop .self) (c .effect-of .result)
   turn =
       record {
         facts = args .pre .0 .facts;
@@ -63,19 +89,19 @@ module _ (c : tie.After-effect-of Inv-loop μ-loop) where
         sized = at .loop .inv .sized;
         valid = at .loop .inv .valid;
         here = inside test;
-        idle = c .before .before .before .before .before .if1 .left;
+        idle = ready picked;
         effect = c .effect-of .ensures;
       }
 
   -- the pick is made: the loop goes on with the struct that an arm left
-  next : (r : Config) → Stepped (modelOf (args .args .m .now)) (at .loop .p) (at .loop .self) r
-      → Turning (modelOf (args .args .m .now)) (part at .count) (args .args .t1 .time) (part at .first) (part at .end) (args .args .t1) (at .loop .p) (at .loop .n + 1) r
-  next r d = turning-next (at .loop .inv) (ahead test .0) (ahead test .1) (is-ready turn) r d
+  next : (r : Config) → Stepped (modelOf (args .args .m .now)) (at .loop .at) (at .loop .self) r
+      → Turning (modelOf (args .args .m .now)) (part at .set) (part at .stride) (part at .count) (args .args .t1 .time) (part at .first) (args .args .t1) (at .loop .at + part at .stride) (at .loop .n + 1) r
+  next r d = turning-next (at .loop .inv) (ahead test .0) (ahead test .1) (is-ready turn) (member picked) r d
 
-  asked : Runs (args .args .m .now) (args .args .index .now) × ((at .loop .p < length (modelOf (args .args .m .now) .processes)) × Spans (modelOf (args .args .m .now)) (at .loop .p) (getD (at .loop .self .places) (at .loop .p) 0))
+  asked : Runs (args .args .m .now) (args .args .index .now) × ((at .loop .at < length (modelOf (args .args .m .now) .processes)) × Spans (modelOf (args .args .m .now)) (at .loop .at) (getD (at .loop .self .places) (at .loop .at) 0))
   asked = (args .pre .0, (process-in-model turn, place-spans turn))
 
-  falls : (part at .count - (at .loop .n + 1)) + (part at .end - at .loop .p) < (part at .count - at .loop .n) + (part at .end - at .loop .p)
+  falls : (part at .count - (at .loop .n + 1)) + (args .args .t1 .nprocesses - (at .loop .at + part at .stride)) < (part at .count - at .loop .n) + (args .args .t1 .nprocesses - at .loop .at)
   falls = omega (arith, ahead test .0)
 
 sized : (c : tie.Start Inv-loop μ-loop) → Sized (c .args .t1)
@@ -91,14 +117,17 @@ sized c =
       variables = search needs;
     }
 
+refusal-of-requires : tie.Need-refusal-of-requires Inv-loop μ-loop
+refusal-of-requires c κs = few-processes (c .before .before .before .pre .0 .facts) (c .before .before .before .pre .1)
+
 turns-of-requires : tie.Need-turns-of-requires Inv-loop μ-loop
 turns-of-requires c κs = search needs
 
 loop-holds : tie.Need-loop-holds Inv-loop μ-loop
 loop-holds c =
-    let start = c .before .before in
+    let start = c .before .before .before .before .before in
     let part = c .turns-of .result in
-    turning-none _ (start .pre .0 .facts) (part .count) (part .first) (part .end) _ (sized start) (start .pre .1) (turns-within (start .args .which) _ part (c .turns-of .ensures))
+    turning-none _ (start .pre .0 .facts) (part .set) (part .stride) (part .count) (part .first) _ (sized start) (start .pre .1)
 
 mul-standing : tie.Need-mul-standing Inv-loop μ-loop
 mul-standing c = omega (arith, small c)
@@ -106,27 +135,33 @@ mul-standing c = omega (arith, small c)
 element-copy-out-standing : tie.Need-element-copy-out-standing Inv-loop μ-loop
 element-copy-out-standing c = small c
 
-add-p : tie.Need-add-p Inv-loop μ-loop
-add-p c = omega (arith, small (c .before .before))
+has-requires : tie.Need-has-requires Inv-loop μ-loop
+has-requires c κs = omega (arith, small (c .before))
+
+add-at : tie.Need-add-at Inv-loop μ-loop
+add-at c = omega (arith, small (c .before .before .before))
 
 loop-less : tie.Need-loop-less Inv-loop μ-loop
-loop-less c = omega (arith, ahead (c .before .before) .1)
+loop-less c = omega (arith, ahead (c .before .before .before) .1)
 
 loop-again : tie.Need-loop-again Inv-loop μ-loop
-loop-again c = turning-past (c .before .before .before .loop .inv) (ahead (c .before .before) .1) (c .if1 .taken)
+loop-again c = let test = c .before .before .before in turning-past (test .before .loop .inv) (ahead test .0) (ahead test .1) (rw (← c .before .has .ensures) (c .if1 .taken))
 
-mul-place : tie.Need-mul-place Inv-loop μ-loop
-mul-place c = omega (arith, small (c .before .before))
-
-element-copy-out-place : tie.Need-element-copy-out-place Inv-loop μ-loop
-element-copy-out-place c = small (c .before .before)
+add-at-2 : tie.Need-add-at-2 Inv-loop μ-loop
+add-at-2 c = let test = c .before .before .before in omega (arith, small test, stride test)
 
 add-n : tie.Need-add-n Inv-loop μ-loop
 add-n c = omega (arith, ahead (c .before .before .before) .0)
 
+mul-place : tie.Need-mul-place Inv-loop μ-loop
+mul-place c = omega (arith, small (c .before .before .before))
+
+element-copy-out-place : tie.Need-element-copy-out-place Inv-loop μ-loop
+element-copy-out-place c = small (c .before .before .before)
+
 effect-of-requires : tie.Need-effect-of-requires Inv-loop μ-loop
 effect-of-requires c κs =
-    let t = c .before .before .before .before .before .before in
+    let t = c .before .before .before .before .before .before .before in
     let st = start (t .before) in
     (st .pre .0, statement-there _ (st .pre .0 .facts) _ (t .before .loop .inv .valid) _ (inside t))
 
@@ -322,7 +357,8 @@ reply-requires : tie.Need-reply-requires Inv-loop μ-loop
 reply-requires c κs =
     let at = c .before .before .before .before .before in
     let st = start at in
-    (search needs, tellable (st .pre .0 .facts) (at .loop .inv .valid) _ (at .loop .inv .whole))
+    let look = looked at .before in
+    (search needs, (named (st .args .which) _ _ _ (look .refusal-of .ensures), tellable (st .pre .0 .facts) (at .loop .inv .valid) _ (at .loop .inv .whole)))
 
 returns : tie.Need-returns Inv-loop μ-loop
 returns c =
@@ -330,8 +366,10 @@ returns c =
     let inv = at .loop .inv in
     picks-answer (start at .args .which)
     (record {
+      facts = start at .pre .0 .facts;
       before = start at .pre .1;
       valid = inv .valid;
+      asked = looked at .before .refusal-of .ensures;
       turns = part at;
       part = looked at .turns-of .ensures;
       rest = turning-end inv (c .before .before .before .before .before .loop-test .left);
@@ -344,16 +382,19 @@ picks-spec =
     (tie.spec
     Inv-loop
     μ-loop
+    refusal-of-requires
     turns-of-requires
     loop-holds
     mul-standing
     element-copy-out-standing
-    add-p
+    has-requires
+    add-at
     loop-less
     loop-again
+    add-at-2
+    add-n
     mul-place
     element-copy-out-place
-    add-n
     effect-of-requires
     next-place-requires
     enum-told
