@@ -18,12 +18,12 @@ use Rattle.rules.specs.Evaluation.{ranged, negateOf, sumOf, differenceOf, equal
 use Rattle.rules.specs.Failing.{orderBy, nextOrder, evaluationOrder}
 use Rattle.rules.specs.Statements.{withDelay, effectBy, effectOf, kept, before, added, equalValue, marked, leftBy, scheduled, overflows, nextPlace, driverAfter, applied, stepped}
 use Rattle.rules.specs.Steps.{transactionDue, taken, deadlineDue, active, undriven, signalAfter, signalsAfter, earlierAfter, inSet, changedIn, wokenIf, wokenAt, processAfterDelta, deltaStep, shifted, timeStep}
-use Rattle.rules.specs.Orders.{isReady, isStopped, picked, dueTimes, dueNow, advanced, lowestReady, settledFrom, settled, readOf}
+use Rattle.rules.specs.Orders.{isReady, isStopped, picked, dueTimes, dueNow, advanced, lowestReady, settledFrom, settled, someMember, membersBelow, steppedBelow, pickedSet, readOf}
 use Rattle.session.specs.Lists.{orderOf, ordersOf, isKnown, performed, answerOf, played}
 
 -- a list of orders is read and played
 unfoldable pub the-orders : ℕ
-unfolding anyBelow joinBelow listBelow upTo course firstWith
+unfolding anyBelow sumBelow joinBelow listBelow upTo course firstWith
     codeOf low high notOf standard inRow pairIn pairOf resolutionBy resolutionOf
     typeBy nextType typeOf driverFor
     drivingOf firstDrivers firstSignal first
@@ -31,7 +31,7 @@ unfolding anyBelow joinBelow listBelow upTo course firstWith
     withDelay effectBy effectOf kept before added equalValue marked leftBy scheduled overflows nextPlace driverAfter applied stepped
     transactionDue taken deadlineDue active undriven signalAfter signalsAfter earlierAfter inSet changedIn wokenIf wokenAt processAfterDelta deltaStep
     shifted timeStep
-    isReady isStopped picked dueTimes dueNow advanced lowestReady settledFrom settled readOf
+    isReady isStopped picked dueTimes dueNow advanced lowestReady settledFrom settled someMember membersBelow steppedBelow pickedSet readOf
     orderOf ordersOf isKnown performed answerOf played
 the-orders = 0
 

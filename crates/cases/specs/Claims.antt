@@ -5,6 +5,7 @@ use mathlib.Core.Bool.{true}
 use mathlib.Core.Logic.{_≢_}
 use mathlib.Core.List.{List, [], _∷_}
 use Prim.Native.Nat.{ℕ, _-_, _≤_}
+use Rattle.determinacy.specs.Arrangements.{Arranges}
 use Rattle.determinacy.specs.Kernel.{Kernel, NormalForm}
 use Rattle.determinacy.specs.Determinacy.{Tally, Exactly, Alike, Behind}
 use Rattle.blocks.specs.Records.{modelOf}
@@ -13,10 +14,11 @@ use Rattle.model.specs.Rules.{refusalOf}
 use Rattle.rules.specs.declared.driven.Driven.the-variants.{Null}
 use Rattle.rules.specs.Configuration.{Configuration, first}
 use Rattle.rules.specs.Orders.{Outcome, refused}
-use Rattle.session.specs.Lists.{performed, answered, played}
+use Rattle.session.specs.Lists.{performed, answered, played, after}
 use Rattle.session.specs.Sessions.{sessionOf}
 use Rattle.session.specs.Demand3.{Bytes, kernelOf, tallyOf, Determinate}
 use Rattle.session.specs.ListLaws.{ListLaws}
+use Rattle.session.specs.SetLaws.{member, setOrder, singlePicks, SameEnd, SetLaws}
 use Rattle.cases.specs.Forms.{pickOrder, advanceOrder, settleOrder, orderBytes, asBytes}
 use Rattle.cases.specs.Inverter.{inverter, inverterBytes, inverterOrders, inverterOrderBytes}
 use Rattle.cases.specs.Guarded.{shared, sharedBytes, disconnected, swapped, carried}
@@ -39,6 +41,18 @@ picking =
     (pickOrder 1 ∷ pickOrder 0 ∷ pickOrder 1 ∷ pickOrder 0
     ∷ advanceOrder ∷ advanceOrder ∷ advanceOrder
     ∷ pickOrder 0 ∷ pickOrder 0
+    ∷ advanceOrder
+    ∷ []))
+    refl
+
+-- picks of sets, a single pick and a settle: processes 0 and 1 in step, then process 0 alone
+abbrev pub inStep : Bytes
+inStep =
+    asBytes
+    (orderBytes
+    (setOrder 3 ∷ setOrder 3
+    ∷ advanceOrder ∷ advanceOrder ∷ advanceOrder
+    ∷ setOrder 1 ∷ pickOrder 0 ∷ setOrder 0 ∷ settleOrder 10
     ∷ advanceOrder
     ∷ []))
     refl
@@ -80,11 +94,15 @@ pub record InverterDetermined : Type 0 where
   pub demand3 : Determinate
   pub settling-ends : Ends inverterBytes settling 6 4
   pub picking-ends : Ends inverterBytes picking 6 4
+  pub in-step-ends : Ends inverterBytes inStep 6 4
   pub woken-ends : Ends inverterBytes woken 6 3
   pub waking-comes : Comes inverterBytes waking 4 3
   -- the order and choice of picks changes neither their number nor the end
   pub same-picks : tally settling .picks ≡ tally picking .picks by alike demand3 accepted settling picking settling-ends picking-ends .same-picks
   pub same-end : tally settling .end ≡ tally picking .end by alike demand3 accepted settling picking settling-ends picking-ends .same-end
+  -- each process of a set counts as a pick
+  pub same-in-step : tally settling .picks ≡ tally inStep .picks by alike demand3 accepted settling inStep settling-ends in-step-ends .same-picks
+  pub end-in-step : tally settling .end ≡ tally inStep .end by alike demand3 accepted settling inStep settling-ends in-step-ends .same-end
   -- without its last settle the list is behind by the two picks of process 0, and these lead to the same end
   pub at-most : tally waking .picks ≤ tally woken .picks by behind demand3 accepted woken waking woken-ends waking-comes .at-most
   pub missing : Exactly kernel (tally woken .picks - tally waking .picks) (tally waking .end) (tally woken .end)
@@ -149,3 +167,27 @@ pub record InverterLaws : Type 0 where
       by laws .after-refused inverter advanceOrder inverterOrders (first inverter) not-done
   pub no-orders : sessionOf inverterBytes [] [] ≡ record { number = 0; end = first (modelOf inverterBytes); buffer = [] }
       by laws .no-orders inverterBytes accepted
+
+-- process 1 before process 0
+abbrev pub lastFirst : List ℕ
+lastFirst = 1 ∷ 0 ∷ []
+
+-- process 0 is ready and process 1 waits
+abbrev pub waiting : Configuration
+waiting = after inverter (pickOrder 1 ∷ pickOrder 1 ∷ [])
+
+-- Laws of picks of sets, and their refusals
+pub record InverterSets : Type 0 where
+  pub accepted : refusalOf inverterBytes ≡ 0
+  pub laws : SetLaws
+  pub arranges : Arranges (member 3) lastFirst
+  pub done : performed (modelOf inverterBytes) (setOrder 3) (after (modelOf inverterBytes) []) .refusal ≡ 0
+  pub same : SameEnd (modelOf inverterBytes) (after (modelOf inverterBytes) []) (singlePicks lastFirst) (setOrder 3 ∷ [])
+      by laws .arranged inverterBytes accepted [] 3 lastFirst arranges done
+  pub picks : performed inverter (setOrder 3) (first inverter) .picks ≡ 2
+  pub empty-set : performed inverter (setOrder 0) waiting ≡ record { refusal = 0; byte = 0; picks = 0; value = 0; after = waiting }
+      by laws .empty-set inverter waiting
+  -- the sets of 0, of 0 and 1, and of 0, 1 and 2, which is not there
+  pub one : performed inverter (setOrder 1) waiting .refusal ≡ 0
+  pub unready : performed inverter (setOrder 3) waiting ≡ refused 13 waiting
+  pub unknown : performed inverter (setOrder 7) waiting ≡ refused 12 waiting

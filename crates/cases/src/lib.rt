@@ -12,7 +12,7 @@ ghost use Rattle.cases.specs.Waves.{inverterDump, InverterDumped};
 ghost use Rattle.cases.specs.Guarded.{guardedRows, GuardedPlayed};
 ghost use Rattle.cases.specs.Delays.{delayRows, DelaysPlayed, DelaysUsed};
 ghost use Rattle.cases.specs.Inertial.{inertialCases, InertialPlayed};
-ghost use Rattle.cases.specs.Claims.{settling, tally, InverterDetermined, SharedDetermined, FilteredDetermined, InverterLaws};
+ghost use Rattle.cases.specs.Claims.{settling, tally, InverterDetermined, SharedDetermined, FilteredDetermined, InverterLaws, InverterSets};
 
 // How many rows the proved table has; that they hold, that none is missing, and the laws of division and of faults used once.
 pub fn bench_rows() -> usize
@@ -42,10 +42,11 @@ pub fn dump_lines() -> usize
     12
 }
 
-// How many picks the inverter's orders make; that picks in another order are as many and lead to the same end.
+// How many picks the inverter's orders make; that picks in another order, and picks of sets, are as many and lead to the same end.
 pub fn inverter_picks() -> usize
     ensures { λ r. ⌜ r ≡ tally settling .picks ⌝ }
     ensures { λ r. ⌜ InverterDetermined ⌝ }
+    ensures { λ r. ⌜ InverterSets ⌝ }
 {
     6
 }
