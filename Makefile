@@ -29,6 +29,7 @@ proved: setup tools prove
 	sh tests/examples.sh
 	$(PROVED) compare models 200000 1
 	$(PROVED) compare sessions 100000 1
+	$(PROVED) compare schedules 10000 1
 	$(PROVED) compare limits
 	$(PROVED) compare dumps 20000 1
 	$(PROVED) viewer 50 1

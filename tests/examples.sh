@@ -1,7 +1,7 @@
 #!/bin/sh
 # The examples: each text makes its blocks and orders, their listings make the same ones again, the proved playbench and dumpbench
-# and the second kernel's print what is expected, also of the orders for the wave viewer, and each node that failed is explained as
-# stored. README.md shows some of these lines.
+# and the second kernel's print what is expected, also of the orders for the wave viewer, single picks come to the end of the sets,
+# and each node that failed is explained as stored. README.md shows some of these lines.
 set -eu
 top=$(cd "$(dirname "$0")/.." && pwd)
 blocks=$top/tools/blocks/target/release/blocks
@@ -16,6 +16,12 @@ prints() { # PROGRAM EXPECTED: what both kernels' programs print of the model an
         "$programs/$1" >printed
         cmp printed "$2"
     done
+}
+answered() { # ORDERS ANSWERS: each order as text, its answer behind a tab
+    "$blocks" show "$1" | paste - "$2"
+}
+told() { # ANSWERS: those to the orders here other than picks, and the sum of all picks
+    answered orders "$1" | awk -F '\t' '{ split($2, answer, " "); picks += answer[3] } !/^pick/ { print } END { print picks }'
 }
 explain() { # FOLDER: the nodes in its expected output
     awk '$5 != 0 && $5 != 65535 { print $5 }' "$1/expected" | while read -r node; do
@@ -35,7 +41,7 @@ for folder in "$top"/examples/*/; do
     "$blocks" orders shown again
     cmp again orders
     for text in "$folder"/*.txt; do
-        case $(basename "$text") in orders.txt | waves.txt) continue ;; esac
+        case $(basename "$text") in orders.txt | singles.txt | waves.txt) continue ;; esac
         "$blocks" make "$text" model
         [ "$(basename "$text")" = model.txt ] && cmp model "$folder/model"
         "$blocks" list model >listed
@@ -44,6 +50,15 @@ for folder in "$top"/examples/*/; do
         prints playbench "$folder/expected"
         prints dumpbench "$folder/dump.vcd"
     done
+    if [ -e "$folder/singles.txt" ]; then
+        told "$folder/expected" >of_sets
+        cp "$folder/model" model
+        "$blocks" orders "$folder/singles.txt" orders
+        prints playbench "$folder/singles.expected"
+        prints dumpbench "$folder/dump.vcd"
+        told "$folder/singles.expected" >of_singles
+        cmp of_singles of_sets
+    fi
     if [ -e "$folder/waves.txt" ]; then
         cp "$folder/model" model
         "$blocks" orders "$folder/waves.txt" orders
@@ -59,3 +74,6 @@ in_readme <"$top/examples/inverter/expected"
 in_readme <"$top/examples/inverter/dump.vcd"
 awk '$5 != 0' "$top/examples/mean_speed/expected" | in_readme
 in_readme <"$top/examples/mean_speed/explained"
+sets=$top/examples/trip_counters
+answered "$sets/orders" "$sets/expected" | awk -F '\t' '/^pick/ && $2 ~ / (0|25)$/ { print $2 }' | in_readme
+awk '$5 != 0' "$sets/singles.expected" | in_readme

@@ -6,6 +6,7 @@ mod dumps;
 mod failing_node;
 mod inertial;
 mod nulls;
+mod pick_set;
 
 use crate::builder::Builder;
 use crate::cases::*;
@@ -246,7 +247,7 @@ fn order_refusals() {
         &inverter(),
         &[
             (0, 0, 0),
-            (5, 0, 0),
+            (6, 0, 0),
             (PICK, 0, 1),
             (PICK, 200, 256),
             (ADVANCE, 1, 0),

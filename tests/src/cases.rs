@@ -2,15 +2,17 @@
 //! limits of orders and answers.
 
 mod dumps;
+mod pick_set;
 
 use crate::builder::Builder;
 use crate::cycle::Carried;
 use crate::gen::order;
 use crate::integers::*;
 use crate::model::*;
-pub use crate::session::{ADVANCE, PICK, READ, SETTLE};
+pub use crate::session::{ADVANCE, PICK, PICK_SET, READ, SETTLE};
 use crate::values::code;
 pub use dumps::{in_turn, integers_in_turn, longest_dump, nine_in_turn, no_signals};
+pub use pick_set::{mixed_team, team, Turn};
 
 /// A named session.
 pub struct Case {
@@ -1034,6 +1036,7 @@ pub fn sessions() -> Vec<Case> {
     failing_sessions(&mut add);
     delay_zero_sessions(&mut add);
     dumps::sessions(&mut add);
+    pick_set::sessions(&mut add);
     for turns in [998, 999, 1_000, 1_001, 1_002] {
         add(
             format!("{turns} delta steps"),

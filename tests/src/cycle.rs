@@ -1,4 +1,4 @@
-//! Configuration, pick, advance, settle and read.
+//! Configuration, pick, advance, settle, read and pick of a set.
 
 use crate::integers;
 use crate::model::{driver_of, Model, StatementRecord, ABSENT, BOOLEAN, BUS, INTEGER, REGISTER};
@@ -377,6 +377,38 @@ impl Config {
         }
         self.pick_ready(m, process);
         Ok(self.processes[process])
+    }
+
+    /// The processes of a set, bit n for process n, where each is known and ready; Err is
+    /// the refusal, 12 over the whole set before 13.
+    pub fn members(&self, set: u16) -> Result<Vec<usize>, u32> {
+        let members: Vec<usize> = (0..16).filter(|p| set >> p & 1 == 1).collect();
+        if members.iter().any(|&p| p >= self.processes.len()) {
+            return Err(12);
+        }
+        let ready = |&p: &usize| self.processes[p].standing == READY;
+        match members.iter().all(ready) {
+            true => Ok(members),
+            false => Err(13),
+        }
+    }
+
+    /// Pick of a set: the refusal, or how many were picked and whether one of them stopped.
+    /// The end is that of every arrangement, so any will do: here the highest is first.
+    pub fn pick_set(&mut self, m: &Model, set: u16) -> Result<(u16, bool), u32> {
+        let members = self.members(set)?;
+        for &p in members.iter().rev() {
+            self.pick_ready(m, p);
+        }
+        let stopped = |&p: &usize| self.processes[p].standing == STOPPED;
+        Ok((members.len() as u16, members.iter().any(stopped)))
+    }
+
+    /// The processes that stand so.
+    pub fn standing(&self, standing: u8) -> Vec<usize> {
+        let all = 0..self.processes.len();
+        all.filter(|&p| self.processes[p].standing == standing)
+            .collect()
     }
 
     pub fn lowest_ready(&self) -> Option<usize> {

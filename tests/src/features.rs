@@ -8,13 +8,14 @@ pub mod dumps;
 pub mod failing_node;
 pub mod inertial;
 pub mod nulls;
+pub mod pick_set;
 
 use crate::cycle::{Config, Process, Step, Value, READY, WAITING};
 use crate::damage::{self, Ways};
 use crate::model::{assigns_signal, expressions, operands};
 use crate::model::{DriverRecord, Model, NodeRecord, Role, ABSENT};
 use crate::rng::Rng;
-use crate::session::{self, ADVANCE, ANSWER, ORDER, PICK, SETTLE};
+use crate::session::{self, ADVANCE, ANSWER, ORDER, PICK, PICK_SET, SETTLE};
 use std::collections::BTreeSet;
 
 /// Names of what was seen.
@@ -81,6 +82,15 @@ pub const FEATURES: &[Feature] = &[
         fault: || inertial::FAULT.to_vec(),
         of_model: inertial::of_model,
         of_session: inertial::of_session,
+    },
+    Feature {
+        name: "picks of a set",
+        damages: Ways::NONE,
+        model: Vec::new,
+        session: pick_set::in_sessions,
+        fault: pick_set::faults,
+        of_model: |_| Seen::new(),
+        of_session: pick_set::of_session,
     },
 ];
 
@@ -151,7 +161,7 @@ fn decides(m: &Model, c: &Config, n: &NodeRecord) -> bool {
 }
 
 /// One that plays a session again, pick by pick, and looks at what is done.
-trait Player {
+pub trait Player {
     fn config(&self) -> &Config;
     fn pick(&mut self, process: usize);
     fn advance(&mut self);
@@ -160,10 +170,15 @@ trait Player {
     fn pick_ordered(&mut self, process: usize) {
         self.pick(process);
     }
+
+    /// A pick of a member of a set.
+    fn pick_in_set(&mut self, process: usize) {
+        self.pick(process);
+    }
 }
 
 /// Gives a session's orders to a player.
-fn replay(player: &mut impl Player, orders: &[u8]) {
+pub fn replay(player: &mut impl Player, orders: &[u8]) {
     for order in orders.chunks_exact(4) {
         match *order {
             [PICK, p, 0, 0] => player.pick_ordered(p as usize),
@@ -175,6 +190,11 @@ fn replay(player: &mut impl Player, orders: &[u8]) {
                     };
                     player.pick(p);
                 }
+            }
+            [PICK_SET, 0, low, high] => {
+                let set = u16::from_le_bytes([low, high]);
+                let members = player.config().members(set).unwrap_or_default();
+                members.into_iter().for_each(|p| player.pick_in_set(p));
             }
             _ => {}
         }

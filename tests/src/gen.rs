@@ -1,12 +1,13 @@
 //! Seeded random models that are accepted, and order lists for them.
 
 mod calculation;
+mod crowds;
 mod edges;
 mod pulses;
 mod waves;
 
 use crate::builder::Builder;
-use crate::cycle::{Config, READY, STOPPED};
+use crate::cycle::{Config, READY, STOPPED, WAITING};
 use crate::damage;
 use crate::features;
 use crate::integers::*;
@@ -849,9 +850,9 @@ fn settle_count(rng: &mut Rng) -> u16 {
 fn damaged_order(rng: &mut Rng) -> [u8; 4] {
     let byte = |rng: &mut Rng| 1 + rng.below(255) as u8;
     match rng.below(6) {
-        0 => [rng.choose(&[0, 5, 6, 128, 255]), 0, 0, 0],
+        0 => [rng.choose(&[0, 6, 7, 128, 255]), 0, 0, 0],
         1 => [
-            5 + rng.below(251) as u8,
+            6 + rng.below(250) as u8,
             rng.below(4) as u8,
             rng.below(3) as u8,
             0,
@@ -866,19 +867,70 @@ fn damaged_order(rng: &mut Rng) -> [u8; 4] {
             o[1 + rng.below(3)] = byte(rng);
             o
         }
-        4 => [3, byte(rng), rng.below(20) as u8, 0],
+        4 => [rng.choose(&[3, 5]), byte(rng), rng.below(20) as u8, 0],
         _ => [0, byte(rng), byte(rng), byte(rng)],
     }
 }
 
-/// An order that suits the configuration, now and then one that does not. Where a
-/// process is ready, a settle has this weight beside 39 for the others.
-fn next_order(rng: &mut Rng, c: &Config, settle: usize) -> [u8; 4] {
-    let ready: Vec<usize> = (0..c.processes.len())
-        .filter(|&p| c.processes[p].standing == READY)
-        .collect();
+/// The set of these processes.
+pub fn set_of(list: &[usize]) -> u16 {
+    list.iter().fold(0, |set, &p| set | 1 << p)
+}
+
+/// A set of some of these processes: none, one or two, all or any.
+fn some_of(rng: &mut Rng, list: &[usize]) -> u16 {
+    if list.is_empty() {
+        return 0;
+    }
+    match rng.weighted(&[1, 7, 6, 6]) {
+        0 => 0,
+        1 => set_of(&[rng.choose(list), rng.choose(list)]),
+        2 => set_of(list),
+        _ => set_of(list) & rng.next() as u16,
+    }
+}
+
+/// A set of ready processes and, where there are such, unknown ones, waiting ones,
+/// stopped ones or several of these; now and then an unused byte besides.
+fn odd_set(rng: &mut Rng, c: &Config, ready: &[usize]) -> [u8; 4] {
+    let unknown = (c.processes.len()..16).collect();
+    let (waiting, stopped) = (c.standing(WAITING), c.standing(STOPPED));
+    let mut set = some_of(rng, ready);
+    let form = rng.below(8);
+    for (list, forms) in [
+        (unknown, [0, 1, 2]),
+        (waiting, [1, 3, 4]),
+        (stopped, [2, 4, 5]),
+    ] {
+        if forms.contains(&form) && !list.is_empty() {
+            set |= 1 << rng.choose(&list);
+            if rng.chance(1, 2) {
+                set |= some_of(rng, &list);
+            }
+        }
+    }
+    if form == 6 {
+        set = rng.next() as u16;
+    }
+    let argument = match rng.chance(1, 4) {
+        true => 1 + rng.below(255) as u8,
+        false => 0,
+    };
+    order(5, argument, set)
+}
+
+/// Where a process is ready, the weights of settles and of sets beside 39 for the other
+/// orders.
+type Habit = (usize, usize);
+const SETTLES: Habit = (61, 5);
+const PICKS: Habit = (3, 5);
+const SETS: Habit = (6, 90);
+
+/// An order that suits the configuration, now and then one that does not.
+fn next_order(rng: &mut Rng, c: &Config, (settle, sets): Habit) -> [u8; 4] {
+    let ready = c.standing(READY);
     let some_process = rng.below(c.processes.len()) as u8;
-    match rng.weighted(&[20, 45, 10, 20, 905]) {
+    match rng.weighted(&[20, 45, 10, 20, 20, 885]) {
         0 => return damaged_order(rng),
         1 => {
             let signals = c.signals.len();
@@ -894,6 +946,7 @@ fn next_order(rng: &mut Rng, c: &Config, settle: usize) -> [u8; 4] {
             return order(1, rng.choose(&[none, none + 1, 16, 255]) as u8, 0);
         }
         3 => return order(1, some_process, 0),
+        4 => return odd_set(rng, c, &ready),
         _ => {}
     }
     if ready.is_empty() {
@@ -903,30 +956,32 @@ fn next_order(rng: &mut Rng, c: &Config, settle: usize) -> [u8; 4] {
             _ => order(1, some_process, 0),
         }
     } else {
-        match rng.weighted(&[35, settle, 4]) {
+        match rng.weighted(&[35, settle, sets, 4]) {
             0 => {
                 let any = rng.choose(&ready);
                 order(1, rng.choose(&[ready[0], any]) as u8, 0)
             }
             1 => order(3, 0, settle_count(rng)),
+            2 => order(5, 0, some_of(rng, &ready)),
             _ => order(2, 0, 0),
         }
     }
 }
 
-/// The weight of settles in most lists, and in those that go pick by pick.
-const SETTLES: usize = 61;
-const FEW_SETTLES: usize = 3;
-
 /// A list of at most `most` orders, chosen as the model plays; it ends soon
 /// after the model has come to rest or a process has stopped.
 pub fn orders(rng: &mut Rng, m: &Model, most: usize) -> Vec<u8> {
-    let settle = rng.choose(&[SETTLES, SETTLES, FEW_SETTLES]);
+    let habits = [SETTLES, SETTLES, SETTLES, SETTLES, PICKS, PICKS, SETS];
+    let habit = rng.choose(&habits);
+    orders_by(rng, m, most, habit)
+}
+
+fn orders_by(rng: &mut Rng, m: &Model, most: usize, habit: Habit) -> Vec<u8> {
     let mut c = Config::first(m);
     let mut list = Vec::new();
     let mut answer = [0; 16];
     for _ in 0..most {
-        let order = next_order(rng, &c, settle);
+        let order = next_order(rng, &c, habit);
         session::play(m, &mut c, &order, &mut answer);
         list.extend_from_slice(&order);
         let stuck =
@@ -1129,10 +1184,10 @@ pub struct SessionCase {
 
 /// Weights of the forms of a session: tame or wild models, damaged ones, orders of a
 /// wrong length, an answer buffer of a wrong length, marathons of delta and of time
-/// steps, calculations, edges, pulses, waves.
-type Forms = [usize; 10];
-const SESSIONS: Forms = [680, 90, 13, 13, 13, 9, 140, 88, 90, 0];
-const DUMPS: Forms = [260, 170, 30, 0, 10, 40, 50, 40, 80, 320];
+/// steps, calculations, edges, pulses, waves, crowds.
+type Forms = [usize; 11];
+const SESSIONS: Forms = [680, 90, 13, 13, 13, 9, 140, 88, 90, 0, 70];
+const DUMPS: Forms = [260, 170, 30, 0, 10, 40, 50, 40, 80, 320, 20];
 
 /// The session of a seed.
 pub fn session_case(seed: u64) -> SessionCase {
@@ -1142,6 +1197,21 @@ pub fn session_case(seed: u64) -> SessionCase {
 /// The run of a seed that is to be dumped.
 pub fn dump_case(seed: u64) -> SessionCase {
     session_of(&DUMPS, &mut Rng::new(seed))
+}
+
+/// A model and a list of orders that is to be arranged otherwise; every other one settles
+/// at its end.
+pub fn schedule_case(rng: &mut Rng) -> (Model, Vec<u8>) {
+    let m = match rng.chance(2, 5) {
+        true => crowds::model(rng),
+        false => model(rng),
+    };
+    let most = rng.range(4, 50) as usize;
+    let mut orders = self::orders(rng, &m, most);
+    if rng.chance(1, 2) {
+        orders.extend(order(3, 0, 2_000));
+    }
+    (m, orders)
 }
 
 fn session_of(forms: &Forms, rng: &mut Rng) -> SessionCase {
@@ -1210,6 +1280,13 @@ fn session_of(forms: &Forms, rng: &mut Rng) -> SessionCase {
                 false => straight(rng, &m, most),
             };
             ("waves", m, orders)
+        }
+        10 => {
+            let m = crowds::model(rng);
+            let habit = rng.choose(&[SETS, SETS, SETS, PICKS]);
+            let most = list_length(rng).max(8);
+            let orders = orders_by(rng, &m, most, habit);
+            ("crowds", m, orders)
         }
         _ => {
             let wild = rng.chance(2, 5);

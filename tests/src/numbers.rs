@@ -13,6 +13,8 @@ pub const ANSWERS: u32 = 10;
 pub const OUTPUT: u32 = 21;
 /// Refusals of an order.
 pub const ORDER: &[u32] = &[11, 12, 13, 14, 15, 16, 17, 18, 19];
+/// Those of them that a pick can have, of one process or of a set.
+pub const PICK: &[u32] = &[11, 12, 13];
 /// Faults that stop a process.
 pub const FAULT: &[u32] = &[1, 2, 3, 4];
 /// Those of them that an expression has.

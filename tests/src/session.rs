@@ -11,6 +11,7 @@ pub const PICK: u8 = 1;
 pub const ADVANCE: u8 = 2;
 pub const SETTLE: u8 = 3;
 pub const READ: u8 = 4;
+pub const PICK_SET: u8 = 5;
 
 /// The model, where neither it nor the orders' length is refused; Err is the number.
 pub fn accepted(model: &[u8], orders: &[u8]) -> Result<Model, u32> {
@@ -69,7 +70,7 @@ fn carry_out(m: &Model, config: &mut Config, order: &[u8]) -> Result<Done, u32> 
     let unused_clear = match order[0] {
         PICK | READ => count == 0,
         ADVANCE => argument == 0 && count == 0,
-        SETTLE => argument == 0,
+        SETTLE | PICK_SET => argument == 0,
         _ => false,
     };
     if !unused_clear {
@@ -99,6 +100,14 @@ fn carry_out(m: &Model, config: &mut Config, order: &[u8]) -> Result<Done, u32> 
             let (picks, ready) = config.settle(m, count);
             Ok(Done {
                 byte: ready as u8,
+                picks,
+                ..Done::default()
+            })
+        }
+        PICK_SET => {
+            let (picks, stopped) = config.pick_set(m, count)?;
+            Ok(Done {
+                byte: stopped as u8,
                 picks,
                 ..Done::default()
             })

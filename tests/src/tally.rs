@@ -4,6 +4,7 @@
 //! feature is.
 
 mod dumps;
+mod schedules;
 
 use crate::cases;
 use crate::cycle::Config;
@@ -13,7 +14,7 @@ use crate::features::{self, failing_node, FEATURES};
 use crate::gen;
 use crate::model::{judge, load, ABSENT};
 use crate::numbers::{self, Counts};
-use crate::session::{session, ADVANCE, PICK, SETTLE};
+use crate::session::{session, ADVANCE, PICK, PICK_SET, SETTLE};
 pub use dumps::Dump;
 use dumps::DumpTally;
 use std::collections::{BTreeMap, BTreeSet};
@@ -57,9 +58,11 @@ const FEATURE_SESSIONS: u64 = 200;
 const CONDITION_SESSIONS: u64 = 100;
 /// Each number and each thing of a dump, 200 times among the 20,000 of `make test`.
 const DUMPS: u64 = 100;
+/// Each thing that schedules show.
+const SCHEDULES: u64 = 100;
 
-/// What `tally` and `compare` do: `models N SEED`, `sessions N SEED`, `dumps N SEED` or
-/// `limits`, in this kernel and in the other one where it is given.
+/// What `tally` and `compare` do: `models N SEED`, `sessions N SEED`, `schedules N SEED`,
+/// `dumps N SEED` or `limits`, in this kernel and in the other one where it is given.
 pub fn run(
     name: &str,
     judge: Option<Judge>,
@@ -100,6 +103,16 @@ pub fn run(
             counts.require(least(n, DUMPS).feature)?;
             format!("the dumps of {n} runs from seed {seed} on")
         }
+        Some("schedules") => {
+            let (n, seed) = (number(1, "N")?, number(2, "SEED")?);
+            if judge.is_some() && session.is_none() {
+                return Err("this build has no sessions to compare".into());
+            }
+            let counts = schedules::schedules(n, seed, session)?;
+            counts.print();
+            counts.require(n / SCHEDULES)?;
+            format!("the schedules of {n} models from seed {seed} on")
+        }
         Some("limits") => {
             let counts = limits(judge, session, dump)?;
             counts.print();
@@ -111,7 +124,7 @@ pub fn run(
         }
         _ => {
             return Err(format!(
-                "use: {name} models N SEED | sessions N SEED | dumps N SEED | limits"
+                "use: {name} models N SEED | sessions N SEED | schedules N SEED | dumps N SEED | limits"
             ))
         }
     };
@@ -362,6 +375,30 @@ fn play(
     Ok((number, (answers, config)))
 }
 
+/// Refused orders by answers and by sessions.
+#[derive(Default)]
+pub struct Refusals {
+    pub answers: Counts,
+    pub sessions: Counts,
+}
+
+impl Refusals {
+    /// Adds the numbers of a session's answers.
+    fn add(&mut self, numbers: &[u32]) {
+        numbers.iter().for_each(|&n| self.answers.add(n));
+        let each: BTreeSet<u32> = numbers.iter().copied().collect();
+        each.into_iter().for_each(|n| self.sessions.add(n));
+    }
+
+    fn print(&self, title: &str, numbers: &[u32]) {
+        println!("{title:19}answers   sessions");
+        for &n in numbers {
+            let (answers, sessions) = (self.answers.of(n), self.sessions.of(n));
+            println!("{n:13} {answers:12} {sessions:10}");
+        }
+    }
+}
+
 #[derive(Default)]
 pub struct SessionTally {
     pub sessions: u64,
@@ -369,20 +406,24 @@ pub struct SessionTally {
     pub picks: u64,
     /// Sessions by number.
     pub numbers: Counts,
-    /// Refused orders by answers and by sessions.
-    pub answers: Counts,
-    pub refused: Counts,
+    /// Refused orders, and of them picks and set orders.
+    pub refused: Refusals,
+    pub refused_picks: Refusals,
+    pub refused_sets: Refusals,
     /// Faults by processes and by sessions.
     pub faults: Counts,
     pub faulted: Counts,
     /// Faults in a wait's condition, by processes.
     pub until: Counts,
-    /// Done orders: picks by new standing, settles by byte 1, delta steps,
+    /// Done orders: picks by new standing, settles and sets by byte 1, delta steps,
     /// time steps, reads.
     pub done_picks: [u64; 3],
     pub settles: [u64; 2],
+    pub sets: [u64; 2],
     pub steps: [u64; 3],
     pub reads: u64,
+    /// Done sets by their processes.
+    pub sizes: [u64; 17],
     /// End configurations: drivers by pending transactions.
     pub pending: [u64; 9],
     /// Signals whose past is not all alike.
@@ -477,26 +518,34 @@ impl SessionTally {
         if number != 0 {
             return;
         }
-        let mut refused = BTreeSet::new();
+        let mut refused: Vec<(u8, u32)> = vec![];
         let before = self.steps[2];
         for (order, answer) in case.orders.chunks_exact(4).zip(answers.chunks_exact(16)) {
+            let picks = u16::from_le_bytes([answer[2], answer[3]]);
             self.orders += 1;
-            self.picks += u16::from_le_bytes([answer[2], answer[3]]) as u64;
+            self.picks += picks as u64;
             if answer[0] != 0 {
-                self.answers.add(answer[0] as u32);
-                refused.insert(answer[0] as u32);
+                refused.push((order[0], answer[0] as u32));
                 continue;
             }
             match order[0] {
                 PICK => self.done_picks[answer[1] as usize] += 1,
                 ADVANCE => self.steps[answer[1] as usize] += 1,
                 SETTLE => self.settles[answer[1] as usize] += 1,
+                PICK_SET => {
+                    self.sets[answer[1] as usize] += 1;
+                    self.sizes[picks as usize] += 1;
+                }
                 _ => self.reads += 1,
             }
         }
-        for n in refused {
-            self.refused.add(n);
-        }
+        let of = |is: &dyn Fn(u8) -> bool| -> Vec<u32> {
+            let such = refused.iter().filter(|r| is(r.0));
+            such.map(|r| r.1).collect()
+        };
+        self.refused.add(&of(&|_| true));
+        self.refused_picks.add(&of(&|kind| kind == PICK));
+        self.refused_sets.add(&of(&|kind| kind == PICK_SET));
         let depth = match self.steps[2] - before {
             0 => 0,
             1 => 1,
@@ -534,8 +583,14 @@ impl SessionTally {
     pub fn require(&self, least: Least) -> Result<(), String> {
         self.numbers
             .require("session number", &numbers::session(), least.number)?;
-        self.refused
-            .require("sessions: refusal", numbers::ORDER, least.number)?;
+        for (what, refused, numbers) in [
+            ("refusal", &self.refused, numbers::ORDER),
+            ("a pick's refusal", &self.refused_picks, numbers::PICK),
+            ("a set's refusal", &self.refused_sets, numbers::PICK),
+        ] {
+            let what = format!("sessions: {what}");
+            refused.sessions.require(&what, numbers, least.number)?;
+        }
         self.faulted
             .require("sessions: fault", numbers::FAULT, least.number)?;
         for feature in FEATURES {
@@ -555,11 +610,9 @@ impl SessionTally {
         for n in with_none(&numbers::session()) {
             println!("{n:14} {:11}", self.numbers.of(n));
         }
-        println!("order refusal      answers   sessions");
-        for &n in numbers::ORDER {
-            let (answers, sessions) = (self.answers.of(n), self.refused.of(n));
-            println!("{n:13} {answers:12} {sessions:10}");
-        }
+        self.refused.print("order refusal", numbers::ORDER);
+        self.refused_picks.print("a pick's refusal", numbers::PICK);
+        self.refused_sets.print("a set's refusal", numbers::PICK);
         println!("fault            processes   sessions");
         for &n in numbers::FAULT {
             let (processes, sessions) = (self.faults.of(n), self.faulted.of(n));
@@ -573,9 +626,10 @@ impl SessionTally {
             self.shown.of(failing_node::CONDITION)
         );
         println!(
-            "done: picks by standing {:?}, settles {:?}, delta steps {}, time steps {}, reads {}",
-            self.done_picks, self.settles, self.steps[1], self.steps[2], self.reads
+            "done: picks by standing {:?}, settles {:?}, delta steps {}, time steps {}, reads {}, sets {:?}",
+            self.done_picks, self.settles, self.steps[1], self.steps[2], self.reads, self.sets
         );
+        println!("done sets by their processes: {:?}", self.sizes);
         println!(
             "drivers by pending transactions at the end: {:?}",
             self.pending
@@ -657,6 +711,16 @@ mod tests {
             picks.for_each(|(_, x)| x.swap(5, 6));
         });
         assert!(byte.contains("to order Some([1, "), "{byte}");
+        // A set's answer with one pick, and with a member's standing.
+        for at in [1, 2] {
+            let found = told_of(|number, orders, answers, _| {
+                let pairs = orders.chunks_exact(4).zip(answers.chunks_exact_mut(16));
+                let sets = pairs.filter(|(order, _)| number == 0 && order[0] == PICK_SET);
+                sets.filter(|(_, x)| x[at] > 0)
+                    .for_each(|(_, x)| x[at] = 3 - at as u8);
+            });
+            assert!(found.contains("to order Some([5, "), "{found}");
+        }
         // Null as 0, a signal's past, a node and an earlier value that are not kept.
         for (at, part) in [
             (4_368 + 4, "driver 0, byte 4"),
@@ -724,12 +788,21 @@ mod tests {
         let few = models(20, 5, None).unwrap();
         assert!(few.require(at_least(0, 0)).is_ok() && few.require(at_least(6, 0)).is_err());
         let mut played = sessions(2_000, 5, None).unwrap();
-        played.refused = Counts::default();
-        let message = played.require(at_least(1, 0)).unwrap_err();
-        for n in numbers::ORDER {
-            assert!(message.contains(&format!("refusal {n} ")), "{message}");
+        assert_eq!(played.require(at_least(1, 0)), Ok(()));
+        type Part = fn(&mut SessionTally) -> &mut Refusals;
+        let parts: [(Part, &str, &[u32]); 3] = [
+            (|t| &mut t.refused, "sessions: refusal", numbers::ORDER),
+            (|t| &mut t.refused_picks, "a pick's refusal", numbers::PICK),
+            (|t| &mut t.refused_sets, "a set's refusal", numbers::PICK),
+        ];
+        for (part, what, numbers) in parts {
+            let counted = std::mem::take(part(&mut played));
+            let message = played.require(at_least(1, 0)).unwrap_err();
+            for n in numbers {
+                assert!(message.contains(&format!("{what} {n} ")), "{message}");
+            }
+            *part(&mut played) = counted;
         }
-        let mut played = sessions(2_000, 5, None).unwrap();
         played.faulted = Counts::default();
         let message = played.require(at_least(1, 0)).unwrap_err();
         assert!(message.contains("fault 3"), "{message}");

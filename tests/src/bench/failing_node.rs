@@ -130,7 +130,7 @@ fn conditions_that_fail_in_a_delta_step() {
 #[test]
 fn value_and_node_in_the_text() {
     let text = |b: &Builder, list: &[(u8, u8, u16)]| print(&b.encode(), &orders(list));
-    let list = [pick(0), pick(0), pick(1), SET, ADV, (READ, 0, 0), (5, 0, 0)];
+    let list = [pick(0), pick(0), pick(1), SET, ADV, (READ, 0, 0), (6, 0, 0)];
     assert_eq!(
         text(&shared_node(), &list),
         "0 2 1 4 2 0\n13 0 0 0 0 0\n0 2 1 4 2 0\n0 0 1 0 0 0\n15 0 0 0 0 0\n\

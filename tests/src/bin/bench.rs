@@ -161,6 +161,52 @@ fn quiet() -> Builder {
     b
 }
 
+/// Sixteen busy processes, which never wait.
+fn crowd() -> Builder {
+    let mut b = Builder::new();
+    let one = b.integer(1);
+    for _ in 0..16 {
+        let p = b.process();
+        let count = b.variable(INTEGER, p, 0);
+        let read = b.read_variable(count);
+        let [more, less] = [11, 12].map(|kind| b.binary(kind, read, one));
+        b.assign(count, more);
+        b.assign(count, less);
+    }
+    b
+}
+
+/// The ways to make 4,096 picks of sixteen processes.
+const WAYS: [(&str, fn() -> Vec<u8>); 3] = [
+    ("single", || {
+        (0..4_096)
+            .flat_map(|n| [session::PICK, (n % 16) as u8, 0, 0])
+            .collect()
+    }),
+    ("sets", || [session::PICK_SET, 0, 255, 255].repeat(256)),
+    ("settle", || [session::SETTLE, 0, 16, 0].repeat(256)),
+];
+
+/// Nanoseconds a pick of the second and of the proved kernel, by single picks, sets of
+/// sixteen and settles of sixteen picks: the kernels in turn, the best of each.
+fn ways((name, orders): (&'static str, fn() -> Vec<u8>)) -> (&'static str, [Option<f64>; 2]) {
+    let model = crowd().encode();
+    let l = List {
+        orders: orders(),
+        picks: 4_096,
+        advances: 0,
+    };
+    let mut best = [f64::MAX; 2];
+    for _ in 0..ROUNDS {
+        best[0] = best[0].min(time(second, &model, &l));
+        if let Some(play) = PROVED {
+            best[1] = best[1].min(time(play, &model, &l));
+        }
+    }
+    let pick = |s: f64| s / l.picks as f64 * 1e9;
+    (name, [Some(pick(best[0])), PROVED.map(|_| pick(best[1]))])
+}
+
 /// A list of orders with what it does.
 struct List {
     orders: Vec<u8>,
@@ -505,6 +551,13 @@ fn main() {
         "quiet", steps[0], steps[1], steps[2]
     );
     println!("fan, chain: an advance with the picks after it; quiet: an advance alone");
+    println!();
+    println!("nanoseconds a pick of sixteen busy processes: single picks, sets of all, settles of sixteen");
+    println!("way       second   proved");
+    for (name, times) in WAYS.map(ways) {
+        let [own, proved] = times.map(|x| cell(x, 1));
+        println!("{name:7} {own:>8} {proved:>8}");
+    }
     println!();
     println!("nanoseconds a logic operator, over all pairs of codes, the loop included");
     for (name, times) in OPERATORS.map(operators) {

@@ -1,7 +1,8 @@
 //! Holds this kernel against the proved one:
-//! `compare models N SEED`, `compare sessions N SEED`, `compare dumps N SEED`, `compare limits`.
-//! Case i has the seed SEED + i, so `compare sessions 1 S` repeats seed S.
-//! Sessions are compared with the feature `session`, dumps with the feature `dumps`, which ask for libraries that have them.
+//! `compare models N SEED`, `compare sessions N SEED`, `compare schedules N SEED`, `compare dumps N SEED`,
+//! `compare limits`. Case i has the seed SEED + i, so `compare sessions 1 S` repeats seed S.
+//! Sessions and schedules are compared with the feature `session`, dumps with the feature `dumps`, which ask for libraries that
+//! have them.
 
 use second_kernel::{end, proved, tally};
 

@@ -5,13 +5,14 @@
 //!
 //!     ghdlrun N [SEED]             N lively models from SEED on (default 200
 //!                                  from 1), in which a signal changes, all
-//!                                  others between them, and the delta limit
+//!                                  others between them, the delta limit, and
+//!                                  sixteen processes on a line
 //!     ghdlrun N SEED FROM TO       the same with FROM replaced by TO in each
 //!                                  translation: differences are expected
 //!     ghdlrun show SEED            one model's translation and its run
 //!
-//! Each accepted model is played until nothing is due (or 60 time steps), or
-//! up to the time at which it faults, passes 1,000 delta steps or has a process
+//! Each accepted model is played, by settles, sets and picks, until nothing is due (or 60
+//! time steps), or up to the time at which it faults, passes 1,000 delta steps or has a process
 //! that never waits. GHDL must show the same changes of settled values and the
 //! same end: a failure at that time, or a stop by `--stop-delta`. Fault 3 is
 //! foreign to VHDL: such a run is compared up to the time before, and left out
@@ -31,11 +32,15 @@
 //! left aside.
 
 use second_kernel::builder::Builder;
-use second_kernel::cycle::{Config, Step, DELTA_LIMIT, NINTH, TIME_LIMIT};
-use second_kernel::features::{self, arithmetic, delay_zero, inertial, nulls, Seen, FEATURES};
-use second_kernel::gen;
+use second_kernel::cycle::{Config, Step, DELTA_LIMIT, NINTH, READY, TIME_LIMIT};
+use second_kernel::features::{
+    self, arithmetic, delay_zero, inertial, nulls, pick_set, Seen, FEATURES,
+};
+use second_kernel::gen::{self, order, set_of};
 use second_kernel::model::{self, Model, ABSENT, BUS, INTEGER, LOGIC, PLAIN, REGISTER};
 use second_kernel::numbers::Counts;
+use second_kernel::rng::Rng;
+use second_kernel::session::{PICK, PICK_SET, SETTLE};
 use second_kernel::tally;
 use second_kernel::values::LETTERS;
 use second_kernel::vcd::read::{read, Waves};
@@ -51,16 +56,19 @@ const TIME_STEPS: usize = 60;
 /// Picks in one settling after which some process is taken never to wait:
 /// then one has made the number that the translation allows.
 const PICKS: usize = 16 * vhdl::STEPS;
+/// Orders of a list up to which some picks are made by sets.
+const WITH_SETS: usize = 1_000;
 
 /// What many models must show: nulls that come due in one lively model of five,
 /// operators that are done in one of ten, a delay of 0 that the current value would not
-/// tell in one of fifty, and an inertial assignment that removes an unmarked transaction
-/// in one of ten.
-const OFTEN: [(&[&str], u64); 4] = [
+/// tell in one of fifty, an inertial assignment that removes an unmarked transaction in one
+/// of ten, and sets of several processes in one of five.
+const OFTEN: [(&[&str], u64); 5] = [
     (&nulls::DUE, 5),
     (&arithmetic::OPERATORS, 10),
     (&delay_zero::TOLD, 50),
     (&[inertial::REMOVED], 10),
+    (&pick_set::SEVERAL, 5),
 ];
 
 /// Signal values at a time.
@@ -94,12 +102,35 @@ struct Run {
     breaks: bool,
 }
 
-/// Settles; false if some process is still ready after many picks.
-fn settle(c: &mut Config, m: &Model, orders: &mut Vec<[u8; 4]>) -> bool {
+/// Makes some of the picks by sets of ready processes, one of them alone behind a set.
+fn pick_sets(c: &mut Config, m: &Model, orders: &mut Vec<[u8; 4]>, rng: &mut Rng) {
+    for _ in 0..rng.range(1, 3) {
+        let drawn = rng.next() as u16;
+        let set = set_of(&c.standing(READY)) & rng.choose(&[u16::MAX, drawn]);
+        c.pick_set(m, set).expect("its processes are ready");
+        orders.push(order(PICK_SET, 0, set));
+        let again = c.lowest_ready().filter(|_| rng.chance(1, 4));
+        if let Some(p) = again {
+            c.pick(m, p).expect("it is ready");
+            orders.push(order(PICK, p as u8, 0));
+        }
+    }
+}
+
+/// Settles, by sets before anything else and then half the time; false if some process is
+/// still ready after many picks.
+fn settle(c: &mut Config, m: &Model, orders: &mut Vec<[u8; 4]>, rng: &mut Rng) -> bool {
+    let first = c.time == 0 && c.delta == 0;
+    if orders.len() < WITH_SETS && (first || rng.chance(1, 2)) {
+        pick_sets(c, m, orders, rng);
+        if c.lowest_ready().is_none() {
+            return true;
+        }
+    }
     let mut picks = 0;
     while picks < PICKS {
         let (made, ready) = c.settle(m, 1_000);
-        orders.push([3, 0, 232, 3]);
+        orders.push(order(SETTLE, 0, 1_000));
         picks += made as usize;
         if !ready {
             return true;
@@ -110,13 +141,14 @@ fn settle(c: &mut Config, m: &Model, orders: &mut Vec<[u8; 4]>) -> bool {
 
 fn run(m: &Model) -> Run {
     let mut c = Config::first(m);
+    let rng = &mut Rng::new(m.statements.len() as u64);
     let mut rows = vec![(0, c.current())];
     let reads: Vec<[u8; 4]> = (0..rows[0].1.len()).map(|s| [4, s as u8, 0, 0]).collect();
     let mut orders = reads.clone();
     let mut compared = 0;
     let mut cycles = DELTA_LIMIT;
     let end = loop {
-        if !settle(&mut c, m, &mut orders) {
+        if !settle(&mut c, m, &mut orders, rng) {
             break End::NoWait;
         }
         let (time, row) = (c.time, c.current());
@@ -521,6 +553,28 @@ fn followed(start: i32, steps: i32) -> Case {
     Case::new(format!("{steps} changes from time {start}"), b.m, &bytes)
 }
 
+/// Sixteen processes drive a line, each at times of its own, to one of the nine values and
+/// a unit later to Z, or off where the line is a bus or a register.
+fn sixteen(kind: u8, turn: i32) -> Case {
+    let mut b = Builder::new();
+    let s = b.signal_of(LOGIC, kind, 4);
+    let (zero, one, z) = (b.integer(0), b.integer(1), b.logic(4));
+    for p in 0..16 {
+        let (value, pause) = (b.logic(p % 9), b.integer(turn + p as i32));
+        b.driver(p, s);
+        b.process();
+        b.schedule(s, value, zero);
+        match kind {
+            PLAIN => b.schedule(s, z, one),
+            _ => b.release(s, one),
+        };
+        b.wait(0, ABSENT, pause);
+    }
+    let bytes = b.encode();
+    let name = format!("sixteen processes, kind {kind}, each {turn} units or more");
+    Case::new(name, b.m, &bytes)
+}
+
 /// The models from the seed on until n are lively.
 fn choose(n: usize, first: u64) -> Vec<Case> {
     let mut cases: Vec<Case> = Vec::new();
@@ -533,6 +587,19 @@ fn choose(n: usize, first: u64) -> Vec<Case> {
         left -= case.lively as usize;
         cases.push(case);
     }
+    cases
+}
+
+/// Models at the delta limit, and of as many processes as there can be.
+fn fixed() -> Vec<Case> {
+    let mut cases = vec![];
+    for kind in [PLAIN, BUS, REGISTER] {
+        for at in [0, 3] {
+            cases.extend((998..1_003).map(|k| counted(kind, at, k)));
+        }
+        cases.extend([1, 2, 5].map(|turn| sixteen(kind, turn)));
+    }
+    cases.extend((997..1_002).map(|k| followed(3, k)));
     cases
 }
 
@@ -682,12 +749,7 @@ fn main() {
         usage()
     }
     let mut cases = choose(n, seed);
-    for kind in [PLAIN, BUS, REGISTER] {
-        for at in [0, 3] {
-            cases.extend((998..1_003).map(|k| counted(kind, at, k)));
-        }
-    }
-    cases.extend((997..1_002).map(|k| followed(3, k)));
+    cases.extend(fixed());
     let mut counts: BTreeMap<End, [usize; 4]> = BTreeMap::new();
     for c in &cases {
         let row = counts.entry(c.end).or_default();
@@ -732,13 +794,13 @@ fn main() {
     }
     let rows: usize = cases.iter().map(|c| c.changes.len() - 1).sum();
     let proved = cases.iter().filter(|c| c.proved).count();
-    let [nulls, operators, delays, inertial] =
+    let [nulls, operators, delays, inertial, sets] =
         OFTEN.map(|(names, _)| cases.iter().filter(|c| c.shows(names)).count());
     println!(
         "ghdlrun: {} models ({proved} played by the proved kernel, {nulls} with nulls that came due, \
          {operators} with products, quotients, mods or rems, {delays} with delays of 0 that the current \
-         value would not tell, {inertial} with inertial assignments that removed an unmarked transaction), \
-         {rows} changes of settled values, {differ} models differ",
+         value would not tell, {inertial} with inertial assignments that removed an unmarked transaction, \
+         {sets} with sets of several processes), {rows} changes of settled values, {differ} models differ",
         cases.len(),
     );
     let _ = std::fs::remove_dir_all(&dir);
@@ -774,6 +836,23 @@ mod tests {
         let states = "#0\nx!\nx!\n0!\n1!\nz!\nx!\n0!\n1!\nx!\nb101 -\n";
         assert_eq!(mapped, format!("{header}{states}"));
         assert_eq!(letters, BTreeSet::from(LETTERS.map(char::from)));
+    }
+
+    // Before GHDL is asked: the runs of its models show what is due, and are short enough
+    // for the proved kernel.
+    #[test]
+    fn runs_show_the_features() {
+        let mut cases = choose(200, 1);
+        cases.extend(fixed());
+        let mut shown = Counts::default();
+        cases
+            .iter()
+            .flat_map(|c| &c.shown)
+            .for_each(|what| shown.add(*what));
+        assert_eq!(features_due(&shown, 200), Ok(()));
+        let lively = cases.iter().filter(|c| c.lively);
+        let (short, long): (Vec<&Case>, Vec<&Case>) = lively.partition(|c| c.dump.is_some());
+        assert!(short.len() >= 20 * long.len(), "{} are long", long.len());
     }
 
     #[test]

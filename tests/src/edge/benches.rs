@@ -47,11 +47,14 @@ pub const DUMP: Bench = Bench {
     never: "numbers 10 and 21 cannot occur: there is no answer buffer, and the program's own holds every dump",
 };
 
-/// What lines of random sessions show in the columns of value and node, besides 0.
+/// What lines of random sessions show in the columns of value and node, besides 0, and of
+/// sets.
 const NODE: &str = "a pick with a node";
 const NO_NODE: &str = "a pick with node 65535";
 const NEGATIVE: &str = "a read of a negative value";
-const COLUMNS: [&str; 3] = [NODE, NO_NODE, NEGATIVE];
+const SEVERAL: &str = "a set of several processes";
+const STOPPED: &str = "a set of which one stopped";
+const COLUMNS: [&str; 5] = [NODE, NO_NODE, NEGATIVE, SEVERAL, STOPPED];
 
 /// What a played session's lines show.
 fn columns_shown(orders: &[u8], text: &str) -> Seen {
@@ -63,6 +66,11 @@ fn columns_shown(orders: &[u8], text: &str) -> Seen {
             (session::PICK, _, "65535") => _ = seen.insert(NO_NODE),
             (session::PICK, ..) => _ = seen.insert(NODE),
             (session::READ, value, _) if value.starts_with('-') => _ = seen.insert(NEGATIVE),
+            (session::PICK_SET, ..) => {
+                let several = !["0", "1"].contains(&columns[2]);
+                seen.extend(several.then_some(SEVERAL));
+                seen.extend((columns[1] == "1").then_some(STOPPED));
+            }
             _ => {}
         }
     }
@@ -80,10 +88,14 @@ mod tests {
             (session::PICK, "0 2 1 4 2 0", NODE),
             (session::PICK, "0 2 1 2 65535 0", NO_NODE),
             (session::READ, "0 0 0 -7 0 0", NEGATIVE),
+            (session::PICK_SET, "0 0 2 0 0 7", SEVERAL),
+            (session::PICK_SET, "0 1 1 0 0 0", STOPPED),
         ] {
             assert_eq!(shown(order, line), Seen::from([what]), "{line}");
         }
         assert!(shown(session::PICK, "0 0 1 0 0 3").is_empty());
         assert!(shown(session::READ, "0 0 0 7 0 3").is_empty());
+        assert!(shown(session::PICK_SET, "0 0 1 0 0 3").is_empty());
+        assert!(shown(session::PICK_SET, "13 0 0 0 0 3").is_empty());
     }
 }

@@ -5,7 +5,7 @@ use super::Seen;
 use crate::cycle::{Config, STOPPED, TIME_LIMIT};
 use crate::integers::TOP;
 use crate::model::{Model, INTEGER, LOGIC};
-use crate::session::{self, ANSWER, ORDER};
+use crate::session::{self, ANSWER, ORDER, PICK_SET};
 use crate::vcd::write::{line, Row};
 
 /// A run as it was played.
@@ -15,8 +15,10 @@ struct Played<'r> {
     run: &'r [Row],
     /// The end configuration.
     end: Config,
-    /// The orders before the last time step had a refused one among them.
+    /// The orders before the last time step had a refused one among them, and a set that
+    /// picked some process.
     refused: bool,
+    sets: bool,
     /// The last order was a time step.
     stepped: bool,
     /// Some signal left its value of a time's beginning and had it again at its end.
@@ -39,6 +41,7 @@ const RUNS: &[OfRun] = &[
         p.end.processes.iter().any(|q| q.standing == STOPPED)
     }),
     ("a refused order before a time step", |p| p.refused),
+    ("a set that picks before a time step", |p| p.sets),
     ("a time step at the end", |p| p.stepped),
     ("other values at time 0 than the first", |p| {
         p.run[0].1 != Config::first(p.m).current()
@@ -200,7 +203,8 @@ pub fn of_run(m: &Model, orders: &[u8], run: &[Row]) -> Seen {
 
 fn played<'r>(m: &'r Model, orders: &'r [u8], run: &'r [Row]) -> Played<'r> {
     let mut c = Config::first(m);
-    let (mut refused, mut before_step, mut stepped, mut pulse) = (false, false, false, false);
+    let (mut refused, mut sets, mut stepped, mut pulse) = (false, false, false, false);
+    let mut before_step = (false, false);
     // The values of the time's beginning, and whether each was another one since.
     let mut began = c.current();
     let mut left = vec![false; began.len()];
@@ -208,6 +212,7 @@ fn played<'r>(m: &'r Model, orders: &'r [u8], run: &'r [Row]) -> Played<'r> {
         let (time, mut answer) = (c.time, [0; ANSWER]);
         session::play(m, &mut c, order, &mut answer);
         refused |= answer[0] != 0;
+        sets |= order[0] == PICK_SET && answer[2] > 0;
         stepped = c.time != time;
         let now = c.current();
         for (n, left) in left.iter_mut().enumerate() {
@@ -215,7 +220,7 @@ fn played<'r>(m: &'r Model, orders: &'r [u8], run: &'r [Row]) -> Played<'r> {
             *left = !stepped && (*left || began[n] != now[n]);
         }
         if stepped {
-            before_step |= refused;
+            before_step = (refused, sets);
             began = now;
         }
     }
@@ -224,7 +229,8 @@ fn played<'r>(m: &'r Model, orders: &'r [u8], run: &'r [Row]) -> Played<'r> {
         orders,
         run,
         end: c,
-        refused: before_step,
+        refused: before_step.0,
+        sets: before_step.1,
         stepped,
         pulse,
     }
@@ -256,6 +262,9 @@ mod tests {
         );
         let refused = [&orders(&[(READ, 9, 0)]), &inverter_orders()[..]].concat();
         assert!(shown(&inverter(), &refused).contains(&"a refused order before a time step"));
+        let sets = [(PICK_SET, 0, 3), (PICK_SET, 0, 3)];
+        let by_sets = [&orders(&sets), &inverter_orders()[..]].concat();
+        assert!(shown(&inverter(), &by_sets).contains(&"a set that picks before a time step"));
         let alone = "orders, and time 0 alone";
         assert_eq!(shown(&inverter(), &inverter_orders()[..4]), [alone]);
         assert_eq!(shown(&inverter(), &[]), ["no orders"]);

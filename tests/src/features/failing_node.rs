@@ -14,6 +14,7 @@ enum By {
     /// A pick's answer tells it.
     Pick,
     Settle,
+    Set,
     /// A wait's condition in a delta step.
     Delta,
 }
@@ -68,6 +69,7 @@ const FAILURES: &[Row] = &[
         f.by == By::Pick && f.node > 255
     }),
     ("a node fails in a settle", |f| f.by == By::Settle),
+    ("a node fails in a set order", |f| f.by == By::Set),
     ("a sum fails", |f| f.kind == SUM),
     ("a difference fails", |f| f.kind == DIFFERENCE),
     ("a product fails", |f| f.kind == PRODUCT),
@@ -207,6 +209,10 @@ impl Player for Play<'_> {
         let stopped = process.is_some_and(|p| p.standing == STOPPED);
         self.see(AGAIN, stopped);
         self.picked(p, By::Pick);
+    }
+
+    fn pick_in_set(&mut self, p: usize) {
+        self.picked(p, By::Set);
     }
 
     fn advance(&mut self) {
@@ -370,9 +376,12 @@ mod tests {
         let quotient = ["a quotient fails", "a node fails in a variable's value"];
         let of_pick = [&["fault 4 told by a pick, its top node"][..], &quotient].concat();
         let of_settle = [&["a node fails in a settle"][..], &quotient].concat();
+        let of_set = [&["a node fails in a set order"][..], &quotient].concat();
         let b = sum(7, QUOTIENT, 0);
         assert_eq!(shown(&b, &FIRST), of_pick);
         assert_eq!(shown(&b, &SETTLED), of_settle);
+        assert_eq!(shown(&b, &[(PICK_SET, 0, 1)]), of_set);
+        assert!(shown(&b, &[(PICK_SET, 0, 3), (PICK_SET, 1, 1)]).is_empty());
         let twice = [of_pick, vec![AGAIN]].concat();
         assert_eq!(shown(&b, &[(PICK, 0, 0), (PICK, 0, 0)]), twice);
         assert!(shown(&sum(7, QUOTIENT, 1), &[(PICK, 0, 0), (PICK, 9, 0)]).is_empty());

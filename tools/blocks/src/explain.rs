@@ -1,4 +1,4 @@
-//! Explains a node by the number that a pick's answer gives: its expression, and the statements that use it.
+//! Explains a node by the number that a single pick's answer gives: its expression, and the statements that use it.
 
 use crate::list;
 use second_kernel::cycle::NO_NODE;

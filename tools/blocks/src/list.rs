@@ -102,16 +102,25 @@ pub fn model(m: &Model) -> String {
     out
 }
 
-/// Orders as text; one that is none of the four is listed as a comment.
+/// A pick of a set. Without the word `set` one process would be a single pick, and none no order.
+fn set_pick(set: u16) -> String {
+    let members: Vec<String> = (0..16).filter(|n| set >> n & 1 == 1).map(|n| format!(" {n}")).collect();
+    let word = if members.len() < 2 { " set" } else { "" };
+    format!("pick{word}{}", members.concat())
+}
+
+/// Orders as text, one that the kernel refuses with 11 as its bytes. Bytes at the end that make no whole order are a comment.
 pub fn orders(bytes: &[u8]) -> String {
     let mut out = String::new();
     for o in bytes.chunks(4) {
-        let _ = match o {
+        let _ = match *o {
             [1, p, 0, 0] => writeln!(out, "pick {p}"),
             [2, 0, 0, 0] => writeln!(out, "advance"),
-            [3, 0, lo, hi] => writeln!(out, "settle {}", u16::from_le_bytes([*lo, *hi])),
+            [3, 0, low, high] => writeln!(out, "settle {}", u16::from_le_bytes([low, high])),
             [4, s, 0, 0] => writeln!(out, "read {s}"),
-            other => writeln!(out, "-- bytes {other:?}"),
+            [5, 0, low, high] => writeln!(out, "{}", set_pick(u16::from_le_bytes([low, high]))),
+            [a, b, c, d] => writeln!(out, "bytes {a} {b} {c} {d}"),
+            _ => writeln!(out, "-- bytes {o:?}"),
         };
     }
     out
@@ -237,7 +246,36 @@ process p1
         for n in 0..=255 {
             all.extend(cases::orders(&[(cases::PICK, n, 0), (cases::READ, n, 0), (cases::SETTLE, 0, 257 * n as u16)]));
         }
+        all.extend((0..=65535).flat_map(|set| cases::orders(&[(session::PICK_SET, 0, set)])));
+        assert!(!orders(&all).contains("bytes"));
         assert_eq!(text::orders(&orders(&all)), Ok(all));
-        assert_eq!(orders(&[2, 0, 0, 1, 4, 7, 0, 0]), "-- bytes [2, 0, 0, 1]\nread 7\n");
+    }
+
+    // Bytes near those of the orders' kinds, and any.
+    #[test]
+    fn listed_bytes_make_the_same_bytes() {
+        let small = (0..7).flat_map(|kind| (0..27).map(move |n| [kind, n % 3, n / 3 % 3, n / 9 % 3]));
+        let mut rng = Rng::new(8);
+        let any: Vec<u8> = (0..40_000).map(|_| rng.below(256) as u8).collect();
+        let all = [small.flatten().collect(), any].concat();
+        assert_eq!(text::orders(&orders(&all)), Ok(all));
+    }
+
+    #[test]
+    fn a_listing_of_orders() {
+        for (order, listed) in [
+            ([1, 3, 0, 0], "pick 3\n"),
+            ([5, 0, 37, 0], "pick 0 2 5\n"),
+            ([5, 0, 1, 128], "pick 0 15\n"),
+            ([5, 0, 8, 0], "pick set 3\n"),
+            ([5, 0, 0, 0], "pick set\n"),
+            ([5, 3, 0, 0], "bytes 5 3 0 0\n"),
+            ([1, 3, 5, 0], "bytes 1 3 5 0\n"),
+            ([2, 0, 0, 1], "bytes 2 0 0 1\n"),
+            ([0, 0, 0, 0], "bytes 0 0 0 0\n"),
+        ] {
+            assert_eq!(orders(&order), listed);
+        }
+        assert_eq!(orders(&[4, 7, 0, 0, 5, 0, 37]), "read 7\n-- bytes [5, 0, 37]\n");
     }
 }

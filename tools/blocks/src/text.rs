@@ -32,7 +32,17 @@
 //!
 //! The words `null transport inertial not and or xor mod rem` are reserved: they name nothing.
 //!
-//! Orders: `pick P`, `advance`, `settle N`, `read S`, with numbers.
+//! Orders, with numbers:
+//!
+//!     pick P                          order 1: a single pick, P from 0 to 255
+//!     pick P P ..                     order 5: a set of two processes or more, from 0 to 15
+//!     pick set [P ..]                 order 5: any set, the empty one and a set of one process too
+//!     advance
+//!     settle N                        N from 0 to 65535
+//!     read S                          S from 0 to 255
+//!     bytes B B B B                   the order's bytes themselves, also where the kernel refuses them with 11
+//!
+//! A process stands in a set once; which stands first does not matter.
 
 use second_kernel::model::*;
 use std::collections::BTreeSet;
@@ -409,21 +419,64 @@ pub fn model(text: &str) -> Result<Vec<u8>, String> {
     Ok(encode(&r.model))
 }
 
+/// What is told of a line that is no order.
+const ORDERS: &str = "an order is `pick P`, `pick P P ..`, `pick set P ..`, `advance`, `settle N`, `read S` or `bytes B B B B`";
+
+/// A number up to `top`; `what` says of what.
+fn number(item: &Token, what: &str, top: u16) -> Result<u16, String> {
+    match item {
+        Token::Number(n) if *n <= top as i64 => Ok(*n as u16),
+        t => Err(format!("{what} is a number from 0 to {top}, not {t}")),
+    }
+}
+
+fn byte(item: &Token, what: &str) -> Result<u8, String> {
+    number(item, what, 255).map(|n| n as u8)
+}
+
+/// A settle, or a pick of a set, whose count is the set.
+fn counted(kind: u8, count: u16) -> [u8; 4] {
+    let [low, high] = count.to_le_bytes();
+    [kind, 0, low, high]
+}
+
+/// The set of the processes, bit n for process n.
+fn set(processes: &[Token]) -> Result<u16, String> {
+    let mut set = 0;
+    for p in processes {
+        let n = number(p, "a process of a set", 15)?;
+        if set >> n & 1 == 1 {
+            return Err(format!("process {n} stands in the set twice"));
+        }
+        set |= 1 << n;
+    }
+    Ok(set)
+}
+
+/// The order of a line.
+fn order(items: &[Token]) -> Result<[u8; 4], String> {
+    let [Token::Word(word), rest @ ..] = items else { return Err(ORDERS.to_string()) };
+    match (word.as_str(), rest) {
+        ("pick", [Token::Word(w), processes @ ..]) if w == "set" => Ok(counted(5, set(processes)?)),
+        ("pick", [p]) => Ok([1, byte(p, "a process")?, 0, 0]),
+        ("pick", [_, _, ..]) => Ok(counted(5, set(rest)?)),
+        ("advance", []) => Ok([2, 0, 0, 0]),
+        ("settle", [n]) => Ok(counted(3, number(n, "a count", 65535)?)),
+        ("read", [s]) => Ok([4, byte(s, "a signal")?, 0, 0]),
+        ("bytes", [a, b, c, d]) => Ok([byte(a, "a byte")?, byte(b, "a byte")?, byte(c, "a byte")?, byte(d, "a byte")?]),
+        _ => Err(ORDERS.to_string()),
+    }
+}
+
 /// The orders of an order text.
 pub fn orders(text: &str) -> Result<Vec<u8>, String> {
     let mut out = Vec::new();
     for (i, line) in text.lines().enumerate() {
         let at = |e: String| format!("line {}: {e}", i + 1);
         let items = tokens(line).map_err(at)?;
-        let order = match items.as_slice() {
-            [] => continue,
-            [Token::Word(w), Token::Number(n)] if w == "pick" && *n < 256 => [1, *n as u8, 0, 0],
-            [Token::Word(w)] if w == "advance" => [2, 0, 0, 0],
-            [Token::Word(w), Token::Number(n)] if w == "settle" && *n < 65536 => [3, 0, *n as u8, (*n >> 8) as u8],
-            [Token::Word(w), Token::Number(n)] if w == "read" && *n < 256 => [4, *n as u8, 0, 0],
-            _ => return Err(at("an order is `pick P`, `advance`, `settle N` or `read S`".to_string())),
-        };
-        out.extend(order);
+        if !items.is_empty() {
+            out.extend(order(&items).map_err(at)?);
+        }
     }
     Ok(out)
 }
@@ -752,6 +805,78 @@ process p0
             ("process p\nnull:", 2, "`:` is one too many"),
         ] {
             assert_eq!(model(text), Err(format!("line {line}: {error}")), "{text}");
+        }
+    }
+
+    #[test]
+    fn order_texts() {
+        for (text, order) in [
+            ("pick 3", [1, 3, 0, 0]),
+            ("pick 255", [1, 255, 0, 0]),
+            ("advance", [2, 0, 0, 0]),
+            ("settle 0", [3, 0, 0, 0]),
+            ("settle 65535", [3, 0, 255, 255]),
+            ("read 31", [4, 31, 0, 0]),
+            ("pick 0 2 5", [5, 0, 37, 0]),
+            ("pick 5 0 2", [5, 0, 37, 0]),
+            ("  pick 14\t15 -- the last two", [5, 0, 0, 192]),
+            ("pick 0 1 2 3 4 5 6 7 8 9 10 11 12 13 14 15", [5, 0, 255, 255]),
+            ("pick set", [5, 0, 0, 0]),
+            ("pick set -- none", [5, 0, 0, 0]),
+            ("pick set 3", [5, 0, 8, 0]),
+            ("pick set 15", [5, 0, 0, 128]),
+            ("pick set 0 2 5", [5, 0, 37, 0]),
+            ("bytes 5 1 0 0", [5, 1, 0, 0]),
+            ("bytes 255 0 255 7", [255, 0, 255, 7]),
+        ] {
+            assert_eq!(orders(text), Ok(order.to_vec()), "{text}");
+        }
+        let text = "-- the counters in step\npick 1 2\n\nadvance\npick 1";
+        assert_eq!(orders(text), Ok(vec![5, 0, 6, 0, 2, 0, 0, 0, 1, 1, 0, 0]));
+        assert_eq!(orders(""), Ok(vec![]));
+    }
+
+    #[test]
+    fn wrong_orders_are_told_with_their_line() {
+        for (order, error) in [
+            ("pick 0 16", "a process of a set is a number from 0 to 15, not `16`"),
+            ("pick 16 0", "a process of a set is a number from 0 to 15, not `16`"),
+            ("pick set 16", "a process of a set is a number from 0 to 15, not `16`"),
+            ("pick 0 65536", "a process of a set is a number from 0 to 15, not `65536`"),
+            ("pick 0 sensor", "a process of a set is a number from 0 to 15, not `sensor`"),
+            ("pick sensor 0", "a process of a set is a number from 0 to 15, not `sensor`"),
+            ("pick 0 set 2", "a process of a set is a number from 0 to 15, not `set`"),
+            ("pick set set", "a process of a set is a number from 0 to 15, not `set`"),
+            ("pick 0, 2", "a process of a set is a number from 0 to 15, not `,`"),
+            ("pick 0 -2", "a process of a set is a number from 0 to 15, not `-`"),
+            ("pick 0 '1'", "a process of a set is a number from 0 to 15, not `'1'`"),
+            ("pick {0 2}", "`{` means nothing here"),
+            ("pick 0 99999999999999999999", "99999999999999999999: too large"),
+            ("pick 0 2 5 2", "process 2 stands in the set twice"),
+            ("pick 3 3", "process 3 stands in the set twice"),
+            ("pick set 0 0", "process 0 stands in the set twice"),
+            ("pick 256", "a process is a number from 0 to 255, not `256`"),
+            ("pick sensor", "a process is a number from 0 to 255, not `sensor`"),
+            ("settle 65536", "a count is a number from 0 to 65535, not `65536`"),
+            ("settle all", "a count is a number from 0 to 65535, not `all`"),
+            ("read 256", "a signal is a number from 0 to 255, not `256`"),
+            ("read pulse", "a signal is a number from 0 to 255, not `pulse`"),
+            ("bytes 1 2 3 256", "a byte is a number from 0 to 255, not `256`"),
+            ("bytes 1 x 3 4", "a byte is a number from 0 to 255, not `x`"),
+            ("bytes 5 0 0", ORDERS),
+            ("bytes 5 0 0 0 0", ORDERS),
+            ("pick", ORDERS),
+            ("set 0 2", ORDERS),
+            ("Pick 0 2", ORDERS),
+            ("advance 1", ORDERS),
+            ("settle", ORDERS),
+            ("settle 1 2", ORDERS),
+            ("read", ORDERS),
+            ("read 0 1", ORDERS),
+            ("0 2 5", ORDERS),
+        ] {
+            let text = format!("-- a comment\npick 0 1\n{order}\nadvance");
+            assert_eq!(orders(&text), Err(format!("line 3: {error}")), "{order}");
         }
     }
 }
