@@ -656,7 +656,13 @@ mod tests {
     use super::*;
     use crate::vcd::write::write;
 
-    fn own(m: &[u8], orders: &[u8], answers: &mut [u8], out: &mut [u8]) -> Result<u32, String> {
+    /// This kernel, as another one.
+    pub(super) fn own(
+        m: &[u8],
+        orders: &[u8],
+        answers: &mut [u8],
+        out: &mut [u8],
+    ) -> Result<u32, String> {
         let (number, config) = session(m, orders, answers);
         out.copy_from_slice(&dump(&config));
         Ok(number)

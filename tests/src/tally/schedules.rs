@@ -11,7 +11,7 @@ use crate::gen::{self, order, set_of};
 use crate::model::{encode, Model};
 use crate::numbers::Counts;
 use crate::rng::Rng;
-use crate::session::{self, ADVANCE, ANSWER, ORDER, PICK, PICK_SET, READ, SETTLE};
+use crate::session::{self, session, ADVANCE, ANSWER, ORDER, PICK, PICK_SET, READ, SETTLE};
 
 /// Picks of a list that is arranged otherwise, at most.
 const MOST: usize = 1_000;
@@ -383,7 +383,7 @@ impl ScheduleTally {
     fn set(&mut self, rng: &mut Rng, game: &Game, orders: &[u8]) -> Result<(), String> {
         let any = rng.below(orders.len() / ORDER + 1);
         let front = &orders[..ORDER * rng.choose(&[0, any, any])];
-        let before = game.play(front)?.end;
+        let before = session(&game.model, front, &mut vec![0; 4 * front.len()]).1;
         let drawn = rng.next();
         let drawn = rng.choose(&[u64::MAX, drawn, drawn]);
         let ready = before.standing(READY).into_iter();
@@ -452,13 +452,7 @@ mod tests {
     use super::*;
     use crate::builder::Builder;
     use crate::cases::{inverter, inverter_orders, orders, team, Turn};
-    use crate::session::session;
-
-    fn own(m: &[u8], orders: &[u8], answers: &mut [u8], out: &mut [u8]) -> Result<u32, String> {
-        let (number, config) = session(m, orders, answers);
-        out.copy_from_slice(&dump(&config));
-        Ok(number)
-    }
+    use crate::tally::tests::own;
 
     fn game(b: &Builder) -> Game<'_> {
         Game {
