@@ -1,4 +1,4 @@
--- What the arms of the loop behind pick and settle make of the struct, and that it then holds the configuration after the
+-- What the arms of the loop behind pick, settle and pick of a set make of the struct, and that it then holds the configuration after the
 -- statement's effect.
 -- Assumes nothing.
 use mathlib.Core.Path.{_≡_, refl, ap, _∙_}

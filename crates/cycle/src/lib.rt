@@ -1,4 +1,4 @@
-// The cycle layer: the configuration, pick, settle, advance and read.
+// The cycle layer: the configuration, pick, settle, pick of a set, advance and read.
 pub mod advance;
 pub mod config;
 pub mod orders;
