@@ -21,10 +21,10 @@ use Rattle.rules.specs.Steps.{inSet}
 use Rattle.rules.specs.Orders.{Outcome, Settled, refused, isReady, isStopped, picked, lowestReady, settledFrom, settled, setBits, someMember, pickedSet, readOf}
 use Rattle.rules.proofs.Invariant.{failure-small}
 use Rattle.rules.proofs.Sets.{all-in, no-member, members-same, chosen, none-above}
-use Rattle.rules.proofs.Turns.{Turned, turned-none, turned-one, turned-settled, turned-set}
+use Rattle.rules.proofs.Turns.{Turned, turned-over, turned-one, turned-settled, turned-set}
 use Rattle.members.specs.Members.{readyIn, setRefusal}
 use Rattle.cycle.specs.View.{viewOf, Valid, outcomeOf, Answers, ReadTo, pickedBy}
-use Rattle.cycle.specs.Turns.{refusalOf, partOf, turnsOf, Tellable, Named, replyOf}
+use Rattle.cycle.specs.Turns.{picksRefusal, partOf, turnsOf, Tellable, Named, replyOf}
 use Rattle.cycle.specs.declared.config.Config.{Config}
 use Rattle.cycle.specs.declared.orders.Answer.{Answer}
 use Rattle.cycle.specs.declared.orders.Answered.{Answered}
@@ -52,7 +52,7 @@ pub record Made (M : Model) (which : Picks) (c₀ : Config) (refusal n : ℕ) (c
   pub facts : Facts M
   pub before : Valid M c₀
   pub valid : Valid M c
-  pub asked : refusal ≡ refusalOf which (c₀ .standings) (c₀ .nprocesses)
+  pub asked : refusal ≡ picksRefusal which (c₀ .standings) (c₀ .nprocesses)
   pub turns : Turns
   pub part : turns ≡ turnsOf which refusal
   pub rest : Turned M (turns .set) (turns .stride) (turns .count) (c₀ .nprocesses) (turns .first) 0 (viewOf c₀) (record { picks = n; end = viewOf c })
@@ -75,7 +75,7 @@ module _ {M : Model} {which : Picks} {c₀ : Config} {refusal n : ℕ} {c : Conf
   refused-told : (k : ℕ) → eqb k 0 ≡ false → refusal ≡ k → told ≡ refused k (viewOf c₀)
   unfolding outcomeOf
   refused-told k some e =
-      let same = turned-none (rw (d .part, e, some) at (d .rest)) in
+      let same = turned-over (rw (d .part, e, some) at (d .rest)) (omega arith) in
       rw (e, some, ap (λ (s : Settled). s .end) same)
 
   -- the loop where they are not refused
@@ -185,7 +185,7 @@ tellable {M} fs {c} f n e p h =
     (omega (arith, s .0, fault-in c p l), omega (arith, s .1, node-in c p l))
 
 -- a process that is picked alone, and not refused, is there
-pub named : (which : Picks) (standings : List ℕ) (nprocesses refusal : ℕ) → refusal ≡ refusalOf which standings nprocesses → Named which refusal nprocesses
+pub named : (which : Picks) (standings : List ℕ) (nprocesses refusal : ℕ) → refusal ≡ picksRefusal which standings nprocesses → Named which refusal nprocesses
 named which standings nprocesses refusal e p one free =
     ⊎-elim
     (λ (h : p < nprocesses). h)
@@ -193,7 +193,10 @@ named which standings nprocesses refusal e p one free =
     (split p nprocesses)
 
 -- the loop goes on by at most one process
+short-part : (which : Picks) → partOf which .stride ≤ 1
+short-part (One p) = omega arith
+short-part (Settle n) = omega arith
+short-part (Set set) = omega arith
+
 pub short-stride : (which : Picks) (refusal : ℕ) (t : Turns) → t ≡ turnsOf which refusal → t .stride ≤ 1
-short-stride (One p) refusal t e = rw e (by-test (λ (t : Turns). t .stride ≤ 1) (eqb refusal 0) _ _ (λ z. omega arith) (λ z. omega arith))
-short-stride (Settle n) refusal t e = rw e (by-test (λ (t : Turns). t .stride ≤ 1) (eqb refusal 0) _ _ (λ z. omega arith) (λ z. omega arith))
-short-stride (Set set) refusal t e = rw e (by-test (λ (t : Turns). t .stride ≤ 1) (eqb refusal 0) _ _ (λ z. omega arith) (λ z. omega arith))
+short-stride which refusal t e = rw e (by-test (λ (t : Turns). t .stride ≤ 1) (eqb refusal 0) _ _ (λ z. short-part which) (λ z. omega arith))

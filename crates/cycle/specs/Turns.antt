@@ -16,10 +16,10 @@ use Rattle.cycle.specs.declared.picks.Picks.{Picks}
 use Rattle.cycle.specs.declared.picks.Picks.the-variants.{One, Settle, Set}
 
 -- the refusal of the picks, or 0
-abbrev pub refusalOf : Picks → List ℕ → ℕ → ℕ
-refusalOf (One p) standings nprocesses = pickRefusal standings nprocesses p
-refusalOf (Settle n) standings nprocesses = 0
-refusalOf (Set set) standings nprocesses = setRefusal standings nprocesses set
+abbrev pub picksRefusal : Picks → List ℕ → ℕ → ℕ
+picksRefusal (One p) standings nprocesses = pickRefusal standings nprocesses p
+picksRefusal (Settle n) standings nprocesses = 0
+picksRefusal (Set set) standings nprocesses = setRefusal standings nprocesses set
 
 -- every process
 abbrev pub all : ℕ

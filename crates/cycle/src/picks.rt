@@ -21,7 +21,7 @@ use rules::WAITING;
 use rules::effect::Effect;
 use steps::due::any_standing;
 use steps::sets::has;
-ghost use Rattle.cycle.specs.Turns.{refusalOf, turnsOf, Tellable, Named, replyOf};
+ghost use Rattle.cycle.specs.Turns.{picksRefusal, turnsOf, Tellable, Named, replyOf};
 
 // The picks that an order asks for.
 pub enum Picks {
@@ -47,7 +47,7 @@ pub struct Turns {
 // The refusal of the picks, or 0.
 fn refusal_of<'a>(which: Picks, standings: &'a [usize; 16], nprocesses: usize) -> usize
     requires { ⌜ nprocesses ≤ 16 ⌝ }
-    ensures { λ r. ⌜ r ≡ refusalOf which (now (standings .entry)) nprocesses ⌝ }
+    ensures { λ r. ⌜ r ≡ picksRefusal which (now (standings .entry)) nprocesses ⌝ }
 {
     match which {
         Picks::One(p) => pick_refusal(standings, nprocesses, p),

@@ -4,7 +4,7 @@
 use mathlib.Core.Path.{_≡_, refl, sym, ap, _∙_}
 use mathlib.Core.Bool.{Bool, true}
 use mathlib.Core.Logic.{_≢_}
-use mathlib.Core.List.{List, [], _∷_}
+use mathlib.Core.List.{List, [], _∷_, _++_}
 use Prim.Native.Nat.{ℕ, suc, _+_, _≤_, _<_}
 use native.Mathlib.Decide.{ℕ-discrete}
 use native.Mathlib.Omega.{arith}
@@ -20,6 +20,15 @@ first-there p ps = rw (eq-eqb p p refl)
 
 other-first : (p q : ℕ) (ps : List ℕ) → p ≢ q → occurrences p (q ∷ ps) ≡ occurrences p ps
 other-first p q ps other = rw (ne-eqb p q other) (omega arith)
+
+-- a list behind another
+pub occurrences-append : (p : ℕ) (xs ys : List ℕ) → occurrences p (xs ++ ys) ≡ occurrences p xs + occurrences p ys
+occurrences-append p [] ys = omega arith
+occurrences-append p (x ∷ xs) ys = omega (arith, occurrences-append p xs ys)
+
+pub steps-append : (K : Kernel) (xs ys : List ℕ) (c : K .Conf) → stepsOf K (xs ++ ys) c ≡ stepsOf K ys (stepsOf K xs c)
+steps-append K [] ys c = refl
+steps-append K (x ∷ xs) ys c = steps-append K xs ys (K .step x c)
 
 module _ (K : Kernel) (L : Laws K) where
   open Kernel K using (Conf, ready, step)

@@ -39,25 +39,19 @@ not-ready false b idle m = refl
 goes-on : (n count p end : ℕ) → n < count → p < end → (ltb n count && ltb p end) ≡ false → ⊥
 goes-on n count p end few there o = true≢false (sym (lt-ltb p end there) ∙ rw (lt-ltb n count few) at o)
 
--- no pick may be made: the loop is over at once
-pub turned-none : {M : Model} {set stride end p : ℕ} {c : Configuration} {s : Settled} → Turned M set stride 0 end p 0 c s
-    → s ≡ record { picks = 0; end = c }
-turned-none (over o) = refl
-turned-none (past few there idle t) = absurd (omega arith)
-turned-none (next few there ready m t) = absurd (omega arith)
+-- as many picks are made as may be: the loop is over
+pub turned-over : {M : Model} {set stride count end p n : ℕ} {c : Configuration} {s : Settled} → Turned M set stride count end p n c s → count ≤ n
+    → s ≡ record { picks = n; end = c }
+turned-over (over o) h = refl
+turned-over (past few there idle t) h = absurd (omega arith)
+turned-over (next few there ready m t) h = absurd (omega arith)
 
 -- one pick, of a process that is ready
-made-one : {M : Model} {set stride end p : ℕ} {c : Configuration} {s : Settled} → Turned M set stride 1 end p 1 c s
-    → s ≡ record { picks = 1; end = c }
-made-one (over o) = refl
-made-one (past few there idle t) = absurd (omega arith)
-made-one (next few there ready m t) = absurd (omega arith)
-
 pub turned-one : {M : Model} {set stride end p : ℕ} {c : Configuration} {s : Settled} → Turned M set stride 1 end p 0 c s
     → p < end → isReady p c ≡ true → inSet set p ≡ true → s ≡ record { picks = 1; end = stepped M p c }
 turned-one {end = end} {p = p} (over o) there ready m = absurd (goes-on 0 1 p end (omega arith) there o)
 turned-one (past few h idle t) there ready m = absurd (true≢false (sym m ∙ rw ready at idle))
-turned-one (next few h r i t) there ready m = made-one t
+turned-one (next few h r i t) there ready m = turned-over t (omega arith)
 
 -- a settle: the set has each process, and a process that was picked may be picked again
 module _ (M : Model) (few : length (M .processes) ≤ setBits) where

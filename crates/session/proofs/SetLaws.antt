@@ -3,7 +3,7 @@
 use mathlib.Core.Path.{_≡_, refl, sym, ap, _∙_}
 use mathlib.Core.Bool.{true, false, true≢false, _&&_}
 use mathlib.Core.Logic.{_≢_, ⊎-elim}
-use mathlib.Core.List.{List, [], _∷_, _++_}
+use mathlib.Core.List.{List, [], _∷_}
 use Prim.Native.Nat.{ℕ, zero, suc, _+_, _≤_, _<_}
 use native.Mathlib.Decide.{ℕ-discrete}
 use native.Mathlib.Numerals.{add-one}
@@ -16,7 +16,7 @@ use Rattle.base.specs.Cases.{_∣_, _⇒_}
 use Rattle.base.proofs.Below.{split, and-left, and-right, join-none, join-more}
 use Rattle.base.proofs.Cases.{either-way}
 use Rattle.determinacy.specs.Arrangements.{occurrences, Arranges, stepsOf, CanStep}
-use Rattle.determinacy.proofs.Arranged.{arranged as by-arranging}
+use Rattle.determinacy.proofs.Arranged.{occurrences-append, steps-append, arranged as by-arranging}
 use Rattle.blocks.specs.Records.{Model, modelOf}
 use Rattle.model.specs.Facts.{Facts}
 use Rattle.model.proofs.Facts.{facts}
@@ -34,16 +34,6 @@ use Rattle.session.specs.SetLaws.{member, setOrder, singlePicks, SameEnd
 use Rattle.session.proofs.Answers.{picks-word}
 use Rattle.session.proofs.Demand3.{laws, sound}
 use Rattle.session.proofs.InTime.{played-reachable}
-
--- a list behind another
-module _ (M : Model) where
-  steps-append : (xs ys : List ℕ) (c : Configuration) → stepsOf (kernelOf M) (xs ++ ys) c ≡ stepsOf (kernelOf M) ys (stepsOf (kernelOf M) xs c)
-  steps-append [] ys c = refl
-  steps-append (x ∷ xs) ys c = steps-append xs ys (kernelOf M .step x c)
-
-occurrences-append : (p : ℕ) (xs ys : List ℕ) → occurrences p (xs ++ ys) ≡ occurrences p xs + occurrences p ys
-occurrences-append p [] ys = omega arith
-occurrences-append p (x ∷ xs) ys = omega (arith, occurrences-append p xs ys)
 
 -- the processes of a set that are below n, in rising order
 module _ (set : ℕ) where
@@ -85,8 +75,8 @@ module _ (M : Model) (set : ℕ) (c : Configuration) (all : Chosen M set c) wher
   rising-ends =
       by-members M set c all (λ n d. stepsOf (kernelOf M) (rising set n) c ≡ d) (rw (join-none (here set)))
       (λ n d m there ready before.
-      rw (join-more (here set) n, steps-append M (rising set n) (here set n) c, before, m) (ap (λ (o : Outcome). o .after) (pick-of-ready M d n there ready)))
-      (λ n d m before. rw (join-more (here set) n, steps-append M (rising set n) (here set n) c, before, m))
+      rw (join-more (here set) n, steps-append (kernelOf M) (rising set n) (here set n) c, before, m) (ap (λ (o : Outcome). o .after) (pick-of-ready M d n there ready)))
+      (λ n d m before. rw (join-more (here set) n, steps-append (kernelOf M) (rising set n) (here set n) c, before, m))
 
   member-ready : (p : ℕ) → member set p ≡ true → kernelOf M .ready p c ≡ true
   member-ready p m =

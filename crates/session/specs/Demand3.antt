@@ -17,7 +17,7 @@ use Rattle.rules.specs.Configuration.{Configuration, first}
 use Rattle.rules.specs.Orders.{picked, advanced}
 use Rattle.session.specs.Lists.{Order, Played, ordersOf, played}
 
--- a list's picks
+-- a list's picks: those of a set are as many as it has processes
 unfoldable pub picksOf : List (List ℕ) → ℕ
 picksOf [] = 0
 picksOf (a ∷ rest) = wordAt a 2 + picksOf rest
