@@ -1,11 +1,12 @@
 # make run: plays the bundled example, within seconds. make prove: proves every crate. make test: every test; it installs what
 # is missing (Debian packages).
-.PHONY: run prove test peers proved bench tools setup clean
+.PHONY: run prove test peers proved bench tools blocks setup clean
 
 LIB := $(CURDIR)/target/staticlib
 CARGO := cargo --quiet
 PEER := --release --offline --manifest-path tests/Cargo.toml
-PROVED := KERNEL_LIB_DIR=$(LIB) $(CARGO) run $(PEER) --features dumps --bin
+BLOCKS := --release --offline --manifest-path tools/blocks/Cargo.toml
+PROVED := KERNEL_LIB_DIR=$(LIB) $(CARGO) run $(PEER) --features dumps,moves --bin
 
 run:
 	@sh tools/run
@@ -16,20 +17,22 @@ prove:
 test: peers proved
 
 # What needs no proof.
-peers: setup tools
+peers: setup
 	rt fmt --check
 	$(CARGO) test $(PEER)
-	$(CARGO) test --release --offline --manifest-path tools/blocks/Cargo.toml
+	$(CARGO) test $(BLOCKS)
 
 # What runs the proved kernel.
-proved: setup tools prove
+proved: setup tools
 	rt staticlib exports
 	rt staticlib dump_exports
+	KERNEL_LIB_DIR=$(LIB) $(CARGO) test $(BLOCKS) --features library
 	sh tests/run.sh
 	sh tests/examples.sh
 	$(PROVED) compare models 200000 1
 	$(PROVED) compare sessions 100000 1
 	$(PROVED) compare schedules 10000 1
+	$(PROVED) compare moves 20000 1
 	$(PROVED) compare limits
 	$(PROVED) compare dumps 20000 1
 	$(PROVED) viewer 50 1
@@ -42,8 +45,14 @@ bench: setup
 	bench/run
 	KERNEL_LIB_DIR=$(LIB) $(CARGO) run $(PEER) --features proved --bin judgebench
 
-tools:
-	$(CARGO) build --release --offline --manifest-path tools/blocks/Cargo.toml
+# With the proved library, for blocks move.
+tools: prove
+	rt staticlib move_exports
+	KERNEL_LIB_DIR=$(LIB) $(CARGO) build $(BLOCKS) --features library
+
+# Without it: no proof, and all but blocks move.
+blocks:
+	$(CARGO) build $(BLOCKS)
 
 setup:
 	@sh tools/setup

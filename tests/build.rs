@@ -1,10 +1,15 @@
 // With the feature `proved`, links the static library `exports` found in
-// the directory named by KERNEL_LIB_DIR; with `dumps`, `dump_exports` too.
+// the directory named by KERNEL_LIB_DIR; with `dumps`, `dump_exports` too;
+// with `moves`, `move_exports`.
 fn main() {
     println!("cargo:rerun-if-env-changed=KERNEL_LIB_DIR");
     println!("cargo:rerun-if-changed=build.rs");
     let dir = std::env::var("KERNEL_LIB_DIR");
-    for (feature, library) in [("PROVED", "exports"), ("DUMPS", "dump_exports")] {
+    for (feature, library) in [
+        ("PROVED", "exports"),
+        ("DUMPS", "dump_exports"),
+        ("MOVES", "move_exports"),
+    ] {
         if std::env::var_os(format!("CARGO_FEATURE_{feature}")).is_none() {
             continue;
         }

@@ -1,7 +1,8 @@
 #!/bin/sh
 # The examples: each text makes its blocks and orders, their listings make the same ones again, the proved playbench and dumpbench
-# and the second kernel's print what is expected, also of the orders for the wave viewer, single picks come to the end of the sets,
-# and each node that failed is explained as stored. README.md shows some of these lines.
+# and the second kernel's print what is expected, also of the orders for the wave viewer and of steps that are refused, single picks
+# come to the end of the sets, and each node that failed is explained as stored. A stored list of before moves over, and a refused
+# move writes nothing. README.md shows some of these lines.
 set -eu
 top=$(cd "$(dirname "$0")/.." && pwd)
 blocks=$top/tools/blocks/target/release/blocks
@@ -16,6 +17,12 @@ prints() { # PROGRAM EXPECTED: what both kernels' programs print of the model an
         "$programs/$1" >printed
         cmp printed "$2"
     done
+}
+plays() { # FOLDER NAME: both programs play the orders of a further text
+    cp "$1/model" model
+    "$blocks" orders "$1/$2.txt" orders
+    prints playbench "$1/$2.expected"
+    prints dumpbench "$1/dump.vcd"
 }
 answered() { # ORDERS ANSWERS: each order as text, its answer behind a tab
     "$blocks" show "$1" | paste - "$2"
@@ -41,7 +48,7 @@ for folder in "$top"/examples/*/; do
     "$blocks" orders shown again
     cmp again orders
     for text in "$folder"/*.txt; do
-        case $(basename "$text") in orders.txt | singles.txt | waves.txt) continue ;; esac
+        case $(basename "$text") in orders.txt | singles.txt | steps.txt | waves.txt | before.txt) continue ;; esac
         "$blocks" make "$text" model
         [ "$(basename "$text")" = model.txt ] && cmp model "$folder/model"
         "$blocks" list model >listed
@@ -52,12 +59,12 @@ for folder in "$top"/examples/*/; do
     done
     if [ -e "$folder/singles.txt" ]; then
         told "$folder/expected" >of_sets
-        cp "$folder/model" model
-        "$blocks" orders "$folder/singles.txt" orders
-        prints playbench "$folder/singles.expected"
-        prints dumpbench "$folder/dump.vcd"
+        plays "$folder" singles
         told "$folder/singles.expected" >of_singles
         cmp of_singles of_sets
+    fi
+    if [ -e "$folder/steps.txt" ]; then
+        plays "$folder" steps
     fi
     if [ -e "$folder/waves.txt" ]; then
         cp "$folder/model" model
@@ -70,8 +77,62 @@ for folder in "$top"/examples/*/; do
     fi
     echo "example $name: as expected"
 done
-in_readme <"$top/examples/inverter/expected"
-in_readme <"$top/examples/inverter/dump.vcd"
+
+says() { # FILE WORDS
+    grep -qF "$2" "$1" || { cat "$1" >&2; echo "examples.sh: '$2' is not said" >&2; exit 1; }
+}
+refuses() { # MODEL ORDERS WORDS: the move is refused with these words, and writes nothing
+    if "$blocks" move "$1" "$2" none >said 2>&1 || [ -e none ]; then
+        echo "examples.sh: the move of $2 with $1 is not refused" >&2
+        exit 1
+    fi
+    says said "$3"
+}
+inverter=$top/examples/inverter
+"$blocks" orders "$inverter/before.txt" before 2>warned
+says warned "line 3 (and 4 more): \`advance\` is order 2"
+cmp before "$inverter/before"
+"$blocks" move "$inverter/model" before new >said 2>warned
+says said 'before: 5 orders moved, 3 to delta and 2 to time'
+sed "s#^#examples/inverter/#" said | in_readme
+cmp warned /dev/null
+cmp new "$inverter/orders"
+"$blocks" move "$inverter/model" new new >said 2>warned
+says warned 'order 1, counted from 0, is of kind 6'
+says warned 'may have been moved already'
+cmp new "$inverter/orders"
+cat new before >mixed
+"$blocks" move "$inverter/model" mixed mixed >said 2>warned
+says warned 'order 1, counted from 0, is of kind 6: it gave 11 before and is played now; answers may differ from there on'
+head -c 511 "$inverter/model" >short
+head -c 31 before >partial
+refuses short before 'short: the kernel refuses this model with 1'
+refuses "$inverter/model" partial 'partial: the kernel refuses these orders with 9: 31 bytes'
+refuses "$inverter/model" nowhere 'nowhere: '
+# A folder of stored lists, as README.md has it; the list that is refused stays as it is.
+cat >all <<'END'
+for list in */orders; do
+    blocks move "${list%orders}model" "$list" "$list.new" && mv "$list.new" "$list"
+done
+END
+in_readme <all
+mkdir -p stored/a stored/b stored/c
+for name in a b c; do
+    cp "$inverter/model" "stored/$name/model"
+    cp before "stored/$name/orders"
+done
+cp short stored/b/model
+(cd stored && PATH=$(dirname "$blocks"):$PATH sh ../all >../said 2>&1)
+says said 'b/model: the kernel refuses this model with 1'
+cmp stored/a/orders "$inverter/orders"
+cmp stored/b/orders before
+cmp stored/c/orders "$inverter/orders"
+find stored -name '*.new' | cmp - /dev/null
+echo "orders of before: moved over"
+
+in_readme <"$inverter/expected"
+in_readme <"$inverter/dump.vcd"
+awk '($1 == 22 || $1 == 23) && $6 == 0' "$inverter/steps.expected" | in_readme
 awk '$5 != 0' "$top/examples/mean_speed/expected" | in_readme
 in_readme <"$top/examples/mean_speed/explained"
 sets=$top/examples/trip_counters

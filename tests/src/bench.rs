@@ -5,8 +5,10 @@ mod delay_zero;
 mod dumps;
 mod failing_node;
 mod inertial;
+mod moves;
 mod nulls;
 mod pick_set;
+mod two_orders;
 
 use crate::builder::Builder;
 use crate::cases::*;
@@ -17,8 +19,9 @@ use crate::session::{print, session};
 /// An answer as (refusal, byte 1, picks, value, node, time).
 type Answer = (u8, u8, u16, i32, u16, u64);
 
-/// An advance, and a settle of a few picks.
-const ADV: (u8, u8, u16) = (ADVANCE, 0, 0);
+/// A delta step, a time step, and a settle of a few picks.
+const DEL: (u8, u8, u16) = (DELTA, 0, 0);
+const TIM: (u8, u8, u16) = (TIME, 0, 0);
 const SET: (u8, u8, u16) = (SETTLE, 0, 9);
 
 /// The fault and the node of a process that has not stopped.
@@ -66,6 +69,8 @@ fn play(b: &Builder, list: &[(u8, u8, u16)]) -> (Vec<Answer>, Config) {
 #[test]
 fn inverter_as_printed() {
     let list = inverter_orders();
+    let kinds: Vec<u8> = list.chunks(4).map(|order| order[0]).collect();
+    assert_eq!(kinds, [3, 6, 7, 6, 3, 6, 7, 4]);
     let text = "0 0 4 0 0 0\n0 1 0 0 0 0\n0 2 0 0 0 1\n0 1 0 0 0 1\n\
                 0 0 2 0 0 1\n0 1 0 0 0 1\n17 0 0 0 0 1\n0 0 0 2 0 1\n";
     assert_eq!(print(&inverter().encode(), &list), text);
@@ -86,7 +91,7 @@ fn resolution_through_drivers() {
         ("--", 'X'),
     ] {
         let b = drivers(values);
-        let (a, _) = play(&b, &[SET, ADV, (READ, 0, 0)]);
+        let (a, _) = play(&b, &[SET, DEL, (READ, 0, 0)]);
         assert_eq!(a[2].3, crate::values::code(result as u8) as i32, "{values}");
     }
 }
@@ -154,15 +159,19 @@ fn delta_limit() {
     b.process();
     let loop_start = b.wait(0, ABSENT, zero);
     b.go(loop_start);
-    let list = [SET, ADV].repeat(1_001);
-    let (a, c) = play(&b, &list);
+    let deltas = [SET, DEL].repeat(1_000);
+    let (a, c) = play(&b, &[&deltas[..], &[SET, DEL, TIM]].concat());
     assert_eq!(a[1_999], (0, 1, 0, 0, 0, 0));
-    assert_eq!(a[2_001], (16, 0, 0, 0, 0, 0));
+    assert_eq!(a[2_001..], [(16, 0, 0, 0, 0, 0), (23, 0, 0, 0, 0, 0)]);
     assert_eq!(c.delta, 1_000);
-    // With nothing due now after 1,000 delta steps the time step is done.
-    let (a, c) = play(&delta_turns(1_000), &list);
+    // With nothing due now after 1,000 delta steps there is no further one, and the time
+    // step is done.
+    let (a, c) = play(
+        &delta_turns(1_000),
+        &[&deltas[..], &[SET, DEL, TIM]].concat(),
+    );
     assert_eq!(a[1_999], (0, 1, 0, 0, 0, 0));
-    assert_eq!(a[2_001], (0, 2, 0, 0, 0, 1));
+    assert_eq!(a[2_001..], [(22, 0, 0, 0, 0, 0), (0, 2, 0, 0, 0, 1)]);
     assert_eq!((c.time, c.delta), (1, 0));
 }
 
@@ -170,7 +179,7 @@ fn delta_limit() {
 fn time_limit() {
     for (extra, refused) in [(0, false), (1, true)] {
         let b = time_turns(2_000_000_000 + extra);
-        let (a, c) = play(&b, &[SET, ADV, ADV].repeat(501));
+        let (a, c) = play(&b, &stepped(&b, &[SET, STEP, STEP].repeat(501)));
         let before = 499 * 2_000_000_000;
         let limit = 1_000_000_000_000;
         assert_eq!(a[1_496], (0, 1, 0, 0, 0, before));
@@ -221,7 +230,7 @@ fn refused_sessions_write_nothing() {
     for (model, list, room, number) in [
         (&model[..511], &list[..], 16, 1),
         (&model[..], &list[..3], 12, 9),
-        (&model[..], &[2, 0, 0, 0].repeat(4_097)[..], 65_552, 9),
+        (&model[..], &[DELTA, 0, 0, 0].repeat(4_097)[..], 65_552, 9),
         (&model[..], &list[..], 15, 10),
         (&model[..], &list[..], 17, 10),
         (&model[..], &list[..], 0, 10),
@@ -236,7 +245,7 @@ fn refused_sessions_write_nothing() {
     }
     let mut answers = vec![0; 65_536];
     assert_eq!(
-        session(&model, &[2, 0, 0, 0].repeat(4_096), &mut answers).0,
+        session(&model, &[DELTA, 0, 0, 0].repeat(4_096), &mut answers).0,
         0
     );
 }
@@ -247,21 +256,25 @@ fn order_refusals() {
         &inverter(),
         &[
             (0, 0, 0),
-            (6, 0, 0),
+            (8, 0, 0),
             (PICK, 0, 1),
             (PICK, 200, 256),
-            (ADVANCE, 1, 0),
-            (ADVANCE, 0, 1),
+            (DELTA, 1, 0),
+            (TIME, 0, 1),
             (SETTLE, 1, 1),
             (READ, 0, 1),
             (PICK, 2, 0),
-            ADV,
+            DEL,
+            TIM,
             (READ, 2, 0),
             (READ, 255, 0),
         ],
     );
     let numbers: Vec<u8> = a.iter().map(|x| x.0).collect();
-    assert_eq!(numbers, [11, 11, 11, 11, 11, 11, 11, 11, 12, 14, 19, 19]);
+    assert_eq!(
+        numbers,
+        [11, 11, 11, 11, 11, 11, 11, 11, 12, 14, 14, 19, 19]
+    );
     assert!(a
         .iter()
         .all(|x| (x.1, x.2, x.3, x.4, x.5) == (0, 0, 0, 0, 0)));
@@ -289,18 +302,21 @@ fn ready_before_stopped() {
     b.wait(0, ABSENT, minus);
     b.process();
     b.wait(0, ABSENT, ABSENT);
-    let (a, c) = play(&b, &[(PICK, 0, 0), ADV, (PICK, 1, 0), ADV, (SETTLE, 0, 5)]);
-    assert_eq!(
-        a,
-        [
-            (0, 2, 1, 2, 65_535, 0),
-            (14, 0, 0, 0, 0, 0),
-            (0, 1, 1, 0, 0, 0),
-            (15, 0, 0, 0, 0, 0),
-            (0, 0, 0, 0, 0, 0)
-        ]
-    );
-    assert_eq!(c.processes[0], process(0, 2, (2, 65_535), None));
+    for step in [DEL, TIM] {
+        let list = [(PICK, 0, 0), step, (PICK, 1, 0), step, (SETTLE, 0, 5)];
+        let (a, c) = play(&b, &list);
+        assert_eq!(
+            a,
+            [
+                (0, 2, 1, 2, 65_535, 0),
+                (14, 0, 0, 0, 0, 0),
+                (0, 1, 1, 0, 0, 0),
+                (15, 0, 0, 0, 0, 0),
+                (0, 0, 0, 0, 0, 0)
+            ]
+        );
+        assert_eq!(c.processes[0], process(0, 2, (2, 65_535), None));
+    }
 }
 
 #[test]
@@ -394,7 +410,7 @@ fn quiet_driver_still_drives() {
     b.wait(0, ABSENT, ABSENT);
     b.driver(0, s);
     b.driver(1, s);
-    let (a, c) = play(&b, &[SET, ADV, (READ, 0, 0)]);
+    let (a, c) = play(&b, &[SET, DEL, (READ, 0, 0)]);
     assert_eq!(a[2].3, 1);
     assert_eq!(c.drivers[0].current, Some(3));
     assert_eq!(c.drivers[1].current, Some(2));
@@ -410,7 +426,7 @@ fn activity_without_change_wakes_nobody() {
     b.schedule(s, high, zero);
     b.wait(1, ABSENT, ABSENT);
     b.driver(0, s);
-    let (a, _) = play(&b, &[SET, ADV, SET, ADV]);
+    let (a, _) = play(&b, &[SET, DEL, SET, TIM]);
     assert_eq!(
         a[1..],
         [(0, 1, 0, 0, 0, 0), (0, 0, 0, 0, 0, 0), (17, 0, 0, 0, 0, 0)]
@@ -440,7 +456,7 @@ fn faulting_condition(limit: i32) -> Builder {
 
 #[test]
 fn fault_in_a_waits_condition() {
-    let list = [SET, ADV, ADV, ADV, SET, ADV];
+    let list = [SET, TIM, DEL, DEL, SET, DEL];
     let (a, c) = play(&faulting_condition(5), &list);
     assert_eq!(
         a[1..],
@@ -466,7 +482,7 @@ fn wait_forms() {
     let mut b = faulting_condition(4);
     b.m.statements[2].set = 0;
     b.null();
-    let (a, c) = play(&b, &[SET, ADV, ADV, SET, ADV, ADV]);
+    let (a, c) = play(&b, &[SET, TIM, DEL, SET, TIM, DEL]);
     assert_eq!(a[4], (0, 2, 0, 0, 0, 4));
     assert_eq!(a[5], (0, 1, 0, 0, 0, 4));
     assert_eq!(c.processes[1].standing, READY);
@@ -485,12 +501,12 @@ fn wait_forms() {
     b.wait(1, is_two, ABSENT);
     b.null();
     b.driver(0, s);
-    let (_, c) = play(&b, &[SET, ADV, ADV]);
+    let (_, c) = play(&b, &[SET, TIM, DEL]);
     assert_eq!(
         (c.time, c.processes[1].standing, c.processes[1].place),
         (1, WAITING, 3)
     );
-    let (_, c) = play(&b, &[SET, ADV, ADV, ADV, ADV]);
+    let (_, c) = play(&b, &[SET, TIM, DEL, TIM, DEL]);
     assert_eq!(
         (c.time, c.processes[1].standing, c.processes[1].place),
         (2, READY, 4)
@@ -499,7 +515,7 @@ fn wait_forms() {
 
 #[test]
 fn time_step_changes_no_current_value() {
-    let (_, c) = play(&line(&[3]), &[SET, ADV]);
+    let (_, c) = play(&line(&[3]), &[SET, TIM]);
     assert_eq!((c.time, c.signals[0][0]), (3, 0));
     assert_eq!(c.drivers[0].wave, [(3, Some(3))]);
 }
@@ -507,7 +523,7 @@ fn time_step_changes_no_current_value() {
 #[test]
 fn past_values() {
     // 0 until 2, 2 from 2, 5 from 5, 40 from 40.
-    let list = [SET, ADV, ADV, ADV, ADV, ADV];
+    let list = [SET, TIM, DEL, TIM, DEL, TIM];
     let b = line(&[2, 5, 40]);
     let (_, c) = play(&b, &list[..5]);
     assert_eq!(c.time, 5);
@@ -517,11 +533,12 @@ fn past_values() {
     let (_, c) = play(&b, &list);
     assert_eq!((c.time, c.signals[0]), (40, [5; 32]));
     // A value lives on for 31 units and not for 32.
+    let list = [SET, DEL, TIM, DEL, TIM, DEL];
     let (_, c) = play(&line(&[0, 1, 31]), &list);
     assert_eq!((c.time, c.signals[0][0]), (31, 31));
     assert_eq!((c.signals[0][31], c.signals[0][30]), (0, 1));
     // Delta steps leave the past alone.
-    let (_, c) = play(&line(&[1]), &[SET, ADV, ADV]);
+    let (_, c) = play(&line(&[1]), &[SET, TIM, DEL]);
     assert_eq!(c.signals[0][..3], [1, 0, 0]);
 }
 

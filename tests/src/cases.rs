@@ -3,16 +3,20 @@
 
 mod dumps;
 mod pick_set;
+mod two_orders;
 
 use crate::builder::Builder;
 use crate::cycle::Carried;
 use crate::gen::order;
 use crate::integers::*;
 use crate::model::*;
-pub use crate::session::{ADVANCE, PICK, PICK_SET, READ, SETTLE};
+use crate::moves::{moved, ADVANCE};
+use crate::session::ORDER;
+pub use crate::session::{DELTA, PICK, PICK_SET, READ, SETTLE, TIME};
 use crate::values::code;
 pub use dumps::{in_turn, integers_in_turn, longest_dump, nine_in_turn, no_signals};
 pub use pick_set::{mixed_team, team, Turn};
+pub use two_orders::unused_bytes;
 
 /// A named session.
 pub struct Case {
@@ -28,6 +32,18 @@ pub fn orders(list: &[(u8, u8, u16)]) -> Vec<u8> {
     list.iter()
         .flat_map(|&(kind, argument, count)| order(kind, argument, count))
         .collect()
+}
+
+/// A step in a list for `stepped`: an advance of before.
+pub const STEP: (u8, u8, u16) = (ADVANCE, 0, 0);
+
+/// The list with each `STEP` moved over to order 6 or 7, whichever gives its answer on
+/// the model.
+pub fn stepped(b: &Builder, list: &[(u8, u8, u16)]) -> Vec<(u8, u8, u16)> {
+    let moved = moved(&b.m, &orders(list));
+    let kinds = moved.chunks(ORDER).map(|order| order[0]);
+    let pairs = list.iter().zip(kinds);
+    pairs.map(|(old, kind)| (kind, old.1, old.2)).collect()
 }
 
 /// The inverter: process 0 o <= not i after 0, wait on i; process 1
@@ -56,12 +72,12 @@ pub fn inverter() -> Builder {
 pub fn inverter_orders() -> Vec<u8> {
     orders(&[
         (SETTLE, 0, 10),
-        (ADVANCE, 0, 0),
-        (ADVANCE, 0, 0),
-        (ADVANCE, 0, 0),
+        (DELTA, 0, 0),
+        (TIME, 0, 0),
+        (DELTA, 0, 0),
         (SETTLE, 0, 10),
-        (ADVANCE, 0, 0),
-        (ADVANCE, 0, 0),
+        (DELTA, 0, 0),
+        (TIME, 0, 0),
         (READ, 1, 0),
     ])
 }
@@ -679,23 +695,27 @@ pub fn asked_quotient(time: i32, k: i32) -> Builder {
     })
 }
 
-/// One process waits `turns` times for `step`, then for each of `rest`, again
-/// and again.
-fn turns(turns: i32, step: i32, rest: &[i32]) -> Builder {
-    let mut b = Builder::new();
-    let v = b.variable(INTEGER, 0, 0);
+/// Adds a process that waits `turns` times for `step`, then for each of `rest`, again and
+/// again.
+fn add_turns(b: &mut Builder, turns: i32, step: i32, rest: &[i32]) {
+    let p = b.process();
+    let (first, v) = (b.m.statements.len() as u16, b.variable(INTEGER, p, 0));
     let (one, turns, step) = (b.integer(1), b.integer(turns), b.integer(step));
     let read = b.read_variable(v);
     let (more, less) = (b.binary(11, read, one), b.binary(14, read, turns));
-    b.process();
-    b.unless(less, 4);
+    b.unless(less, first + 4);
     b.assign(v, more);
     b.wait(0, ABSENT, step);
-    b.go(0);
+    b.go(first);
     for &time in rest {
         let time = b.integer(time);
         b.wait(0, ABSENT, time);
     }
+}
+
+fn turns(turns: i32, step: i32, rest: &[i32]) -> Builder {
+    let mut b = Builder::new();
+    add_turns(&mut b, turns, step, rest);
     b
 }
 
@@ -704,10 +724,48 @@ pub fn delta_turns(count: i32) -> Builder {
     turns(count, 0, &[1])
 }
 
+/// Process 0 counts delta steps in signal 0, and process 1 stops once they are `last`.
+pub fn counted_deltas(last: i32) -> Builder {
+    let mut b = Builder::new();
+    let s = b.signal(INTEGER, 0);
+    let [zero, one, last] = [0, 1, last].map(|k| b.integer(k));
+    let minus = b.integer(-1);
+    let count = b.read_signal(s);
+    let (next, equal) = (b.binary(SUM, count, one), b.binary(13, count, last));
+    b.process();
+    b.schedule(s, next, zero);
+    b.wait(1 << s, ABSENT, ABSENT);
+    b.process();
+    b.wait(1 << s, equal, ABSENT);
+    b.wait(0, ABSENT, minus);
+    b.driver(0, s);
+    b
+}
+
 /// One process waits 499 times for 2,000,000,000, then for `last`, then
 /// for 1.
 pub fn time_turns(last: i32) -> Builder {
     turns(499, 2_000_000_000, &[last, 1])
+}
+
+/// The same up to the last time, at which another process gives a signal a transaction for
+/// the next one and stops.
+pub fn stopped_at_last() -> Builder {
+    let mut b = time_turns(2_000_000_000);
+    let s = b.signal(INTEGER, 0);
+    let (one, minus) = (b.integer(1), b.integer(-1));
+    add_turns(&mut b, 500, 2_000_000_000, &[]);
+    b.schedule(s, one, one);
+    b.wait(0, ABSENT, minus);
+    b.driver(1, s);
+    b
+}
+
+/// The same up to the last time, while another process waits for the next one.
+pub fn due_beyond_last() -> Builder {
+    let mut b = time_turns(2_000_000_000);
+    add_turns(&mut b, 499, 2_000_000_000, &[2_000_000_001]);
+    b
 }
 
 /// A model in 64 blocks, the last ones empty.
@@ -759,10 +817,10 @@ pub fn largest() -> Vec<u8> {
     in_64_blocks(&b.m)
 }
 
-/// Settle and advance, so often.
-pub fn rounds(n: usize, advances: usize) -> Vec<u8> {
-    let round = [vec![(SETTLE, 0, 9)], vec![(ADVANCE, 0, 0); advances]].concat();
-    orders(&round).repeat(n)
+/// A settle and steps, so often.
+pub fn rounds(b: &Builder, n: usize, steps: usize) -> Vec<u8> {
+    let round = [vec![(SETTLE, 0, 9)], vec![STEP; steps]].concat();
+    orders(&stepped(b, &round.repeat(n)))
 }
 
 /// Variables for one row of an operator's table: `row` with each of the nine.
@@ -807,10 +865,15 @@ fn resolution_row(row: u8) -> Builder {
     b
 }
 
-/// A settle, then advances with a read of signal 0 and a settle after each.
-pub fn watched(advances: usize) -> Vec<u8> {
-    let round = orders(&[(ADVANCE, 0, 0), (READ, 0, 0), (SETTLE, 0, 20)]);
-    [orders(&[(SETTLE, 0, 30)]), round.repeat(advances)].concat()
+/// A settle, then steps with a read of signal 0 and a settle after each.
+pub fn watched(b: &Builder, steps: usize) -> Vec<u8> {
+    let round = [STEP, (READ, 0, 0), (SETTLE, 0, 20)].repeat(steps);
+    orders(&stepped(b, &[&[(SETTLE, 0, 30)][..], &round].concat()))
+}
+
+/// Adds a session of so many steps that are watched.
+fn watch(add: &mut impl FnMut(String, &Builder, Vec<u8>), name: String, b: &Builder, steps: usize) {
+    add(name, b, watched(b, steps));
 }
 
 /// Bus and register signals whose drivers turn off.
@@ -819,10 +882,11 @@ fn null_sessions(add: &mut impl FnMut(String, &Builder, Vec<u8>)) {
         for letters in [
             "", "1", "-", "01", "-0", "0-", "--", "LH", "H0L", "U1", "ZZ",
         ] {
-            add(
+            watch(
+                add,
                 format!("a {name} turned off after {letters}"),
                 &turned_off(kind, letters),
-                watched(2 * letters.len() + 2),
+                2 * letters.len() + 2,
             );
         }
         // Nulls and values that remove one another.
@@ -841,29 +905,32 @@ fn null_sessions(add: &mut impl FnMut(String, &Builder, Vec<u8>)) {
         .into_iter()
         .enumerate()
         {
-            add(
+            watch(
+                add,
                 format!("a {name} with releases {n}"),
                 &releases(kind, list),
-                watched(8),
+                8,
             );
         }
         for last in [7, 8, 9] {
             for carried in [on, off] {
                 let mut list: Vec<(i32, Carried)> = (1..=8).map(|n| (n, off)).collect();
                 list.push((last, carried));
-                add(
+                watch(
+                    add,
                     format!("a {name} with eight nulls, then {carried:?} after {last}"),
                     &releases(kind, &list),
-                    watched(3),
+                    3,
                 );
             }
         }
     }
     for (x, y) in [(TOP, 1), (-1, 0), (TOP, 0), (8, 0), (0, 0)] {
-        add(
+        watch(
+            add,
             format!("a null after {x} + {y}, eight pending"),
             &null_after(x, y),
-            watched(3),
+            3,
         );
     }
 }
@@ -872,10 +939,11 @@ fn null_sessions(add: &mut impl FnMut(String, &Builder, Vec<u8>)) {
 fn inertial_sessions(add: &mut impl FnMut(String, &Builder, Vec<u8>)) {
     for (ty, kind) in [(INTEGER, PLAIN), (LOGIC, PLAIN), (LOGIC, REGISTER)] {
         for (width, delay) in [(0, 0), (0, 1), (1, 1), (2, 1), (2, 3), (3, 3), (4, 3)] {
-            add(
+            watch(
+                add,
                 format!("a pulse of {width}, delay {delay}, type {ty}, kind {kind}"),
                 &pulse(ty, kind, width, delay),
-                watched(8),
+                8,
             );
         }
     }
@@ -906,23 +974,24 @@ fn inertial_sessions(add: &mut impl FnMut(String, &Builder, Vec<u8>)) {
         let many = values.len() as i32;
         for delay in [0, many - 1, many, many + 1, many + 2] {
             let last = Act::Inertial(3, delay.max(0));
-            add(
+            watch(
+                add,
                 format!("an inertial one after {delay} behind row {n}"),
                 &acts(LOGIC, BUS, &[row(values), vec![last]].concat()),
-                watched(4),
+                4,
             );
         }
     }
     for (old, new) in [(-7, 7), (0, 256), (1, 65_537), (-1, TOP)] {
         let list = [Act::Transport(old, 1), Act::Inertial(new, 2)];
         let name = format!("an inertial {new} behind {old}");
-        add(name, &acts(INTEGER, PLAIN, &list), watched(4));
+        watch(add, name, &acts(INTEGER, PLAIN, &list), 4);
     }
     for (value, delay, _) in scheduled_faults() {
         let mut model = scheduled(value, delay);
         model.m.statements[0].kind = 7;
         let name = format!("an inertial one of {value:?} after {delay:?}");
-        add(name, &model, watched(3));
+        watch(add, name, &model, 3);
     }
 }
 
@@ -944,29 +1013,30 @@ fn failing_sessions(add: &mut impl FnMut(String, &Builder, Vec<u8>)) {
         picks(2),
     );
     let name = "conditions fail in a delta step".into();
-    add(name, &failing_conditions(), [watched(3), picks(2)].concat());
+    let b = failing_conditions();
+    add(name, &b, [watched(&b, 3), picks(2)].concat());
 }
 
 /// Delays of 0 in statements and in conditions.
 fn delay_zero_sessions(add: &mut impl FnMut(String, &Builder, Vec<u8>)) {
     for drivers in 0..4 {
         let name = format!("first values of - with {drivers} drivers");
-        add(name, &first_reads(drivers), watched(1));
+        watch(add, name, &first_reads(drivers), 1);
     }
     for (n, list) in PULSES.iter().enumerate() {
         for k in 0..3 {
             let name = format!("pulses {n} sampled, delayed by {k}");
-            add(name, &sampled(list, k), watched(14));
+            watch(add, name, &sampled(list, k), 14);
         }
         let name = format!("rising edges of pulses {n}");
-        add(name, &rising_edges(list), watched(14));
+        watch(add, name, &rising_edges(list), 14);
     }
     for time in [0, 3] {
         for k in 0..3 {
             let name = format!("it was {k}, asked after {time}");
-            add(name, &asked_equal(time, k), watched(4));
+            watch(add, name, &asked_equal(time, k), 4);
             let name = format!("it fails if it was {k}, asked after {time}");
-            add(name, &asked_quotient(time, k), watched(4));
+            watch(add, name, &asked_quotient(time, k), 4);
         }
     }
 }
@@ -985,7 +1055,7 @@ pub fn sessions() -> Vec<Case> {
     };
     add("inverter".into(), &inverter(), inverter_orders());
     add("no orders".into(), &inverter(), vec![]);
-    let read = orders(&[(SETTLE, 0, 9), (ADVANCE, 0, 0), (READ, 0, 0)]);
+    let read = orders(&[(SETTLE, 0, 9), (DELTA, 0, 0), (READ, 0, 0)]);
     for letters in ["01", "LH", "ZL", "W0", "U1", "-", "--"] {
         add(
             format!("drivers {letters}"),
@@ -1011,12 +1081,12 @@ pub fn sessions() -> Vec<Case> {
     for kind in [QUOTIENT, MOD, REM] {
         for role in Role::ALL {
             let name = format!("{role:?} with node kind {kind} and a divisor of 0");
-            add(name, &by_zero(kind, role), watched(3));
+            watch(&mut add, name, &by_zero(kind, role), 3);
         }
     }
     for (value, delay, _) in scheduled_faults() {
         let name = format!("a transaction of {value:?} after {delay:?}");
-        add(name, &scheduled(value, delay), watched(3));
+        watch(&mut add, name, &scheduled(value, delay), 3);
     }
     add(
         "settle of no picks".into(),
@@ -1037,16 +1107,16 @@ pub fn sessions() -> Vec<Case> {
     delay_zero_sessions(&mut add);
     dumps::sessions(&mut add);
     pick_set::sessions(&mut add);
+    two_orders::sessions(&mut add);
     for turns in [998, 999, 1_000, 1_001, 1_002] {
-        add(
-            format!("{turns} delta steps"),
-            &delta_turns(turns),
-            rounds(1_003, 1),
-        );
+        let model = delta_turns(turns);
+        let list = rounds(&model, 1_003, 1);
+        add(format!("{turns} delta steps"), &model, list);
     }
     for last in [-1, 0, 1] {
         let model = time_turns(2_000_000_000 + last);
-        add(format!("time limit and {last}"), &model, rounds(502, 2));
+        let list = rounds(&model, 502, 2);
+        add(format!("time limit and {last}"), &model, list);
     }
     for kind in 6..=9 {
         for row in 0..if kind == 6 { 1 } else { 9 } {
@@ -1059,17 +1129,13 @@ pub fn sessions() -> Vec<Case> {
         }
     }
     for row in 0..9 {
-        let advance = orders(&[(SETTLE, 0, 30), (ADVANCE, 0, 0)]);
-        add(
-            format!("resolution, row {row}"),
-            &resolution_row(row),
-            advance,
-        );
+        let step = orders(&[(SETTLE, 0, 30), (DELTA, 0, 0)]);
+        add(format!("resolution, row {row}"), &resolution_row(row), step);
     }
     add(
         "4,096 orders".into(),
         &inverter(),
-        order(ADVANCE, 0, 0).repeat(4_096),
+        order(DELTA, 0, 0).repeat(4_096),
     );
     add(
         "65,535 picks".into(),
@@ -1080,7 +1146,7 @@ pub fn sessions() -> Vec<Case> {
         add(
             format!("{length} bytes of orders"),
             &inverter(),
-            vec![2; length],
+            vec![DELTA; length],
         );
     }
     for length in [0usize, 4, 8, 16_384] {
@@ -1096,7 +1162,7 @@ pub fn sessions() -> Vec<Case> {
             right + 16,
         ] {
             let name = format!("{length} bytes of orders, {room} of answers");
-            let orders = order(ADVANCE, 0, 0).repeat(length / 4);
+            let orders = order(DELTA, 0, 0).repeat(length / 4);
             list.push(Case {
                 name,
                 model: inverter().encode(),

@@ -1,4 +1,4 @@
-//! Configuration, pick, advance, settle, read and pick of a set.
+//! Configuration, pick, settle, read, pick of a set, delta step and time step.
 
 use crate::integers;
 use crate::model::{driver_of, Model, StatementRecord, ABSENT, BOOLEAN, BUS, INTEGER, REGISTER};
@@ -148,11 +148,20 @@ impl Value {
     }
 }
 
-/// What a done advance was.
+/// The two steps: orders 6 and 7.
 #[derive(Clone, Copy, Debug, PartialEq, Eq)]
 pub enum Step {
     Delta,
     Time,
+}
+
+impl Step {
+    pub fn other(self) -> Step {
+        match self {
+            Step::Delta => Step::Time,
+            Step::Time => Step::Delta,
+        }
+    }
 }
 
 /// The current values of a signal's drivers; one that is null adds none.
@@ -437,7 +446,7 @@ impl Config {
     }
 
     /// The earliest time at which a transaction or a deadline is due.
-    fn earliest(&self) -> Option<u64> {
+    pub(crate) fn earliest(&self) -> Option<u64> {
         let transactions = self.drivers.iter().flat_map(|d| d.wave.iter().map(|t| t.0));
         let deadlines = self
             .processes
@@ -447,33 +456,48 @@ impl Config {
         transactions.chain(deadlines).min()
     }
 
-    /// Advance: the refusal, or which step was done.
-    pub fn advance(&mut self, m: &Model) -> Result<Step, u32> {
-        if self.processes.iter().any(|p| p.standing == READY) {
-            return Err(14);
+    /// The step that is not refused by what is due now.
+    pub fn fitting(&self) -> Step {
+        match self.earliest() == Some(self.time) {
+            true => Step::Delta,
+            false => Step::Time,
         }
-        if self.processes.iter().any(|p| p.standing == STOPPED) {
-            return Err(15);
-        }
-        let earliest = self.earliest();
-        if earliest == Some(self.time) {
-            if self.delta >= DELTA_LIMIT {
-                return Err(16);
+    }
+
+    /// A delta step or a time step; Err is the refusal.
+    pub fn step(&mut self, m: &Model, step: Step) -> Result<(), u32> {
+        self.rested()?;
+        let (earliest, now) = (self.earliest(), self.time);
+        match (step, earliest) {
+            (Step::Delta, due) if due != Some(now) => Err(22),
+            (Step::Delta, _) if self.delta >= DELTA_LIMIT => Err(16),
+            (Step::Delta, _) => {
+                self.do_delta_step(m);
+                Ok(())
             }
-            self.delta_step(m);
-            return Ok(Step::Delta);
-        }
-        match earliest {
-            None => Err(17),
-            Some(due) if due > TIME_LIMIT => Err(18),
-            Some(due) => {
-                self.time_step(due);
-                Ok(Step::Time)
+            (Step::Time, due) if due == Some(now) => Err(23),
+            (Step::Time, None) => Err(17),
+            (Step::Time, Some(due)) if due > TIME_LIMIT => Err(18),
+            (Step::Time, Some(due)) => {
+                self.do_time_step(due);
+                Ok(())
             }
         }
     }
 
-    fn delta_step(&mut self, m: &Model) {
+    /// Err where a process is ready, or one is stopped.
+    pub(crate) fn rested(&self) -> Result<(), u32> {
+        let any = |standing: u8| self.processes.iter().any(|p| p.standing == standing);
+        if any(READY) {
+            return Err(14);
+        }
+        if any(STOPPED) {
+            return Err(15);
+        }
+        Ok(())
+    }
+
+    pub(crate) fn do_delta_step(&mut self, m: &Model) {
         let now = self.time;
         self.delta += 1;
         self.earlier = self.current();
@@ -532,7 +556,7 @@ impl Config {
         }
     }
 
-    fn time_step(&mut self, due: u64) {
+    pub(crate) fn do_time_step(&mut self, due: u64) {
         let units = due - self.time;
         for values in &mut self.signals {
             let old = *values;

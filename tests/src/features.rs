@@ -9,13 +9,14 @@ pub mod failing_node;
 pub mod inertial;
 pub mod nulls;
 pub mod pick_set;
+pub mod two_orders;
 
 use crate::cycle::{Config, Process, Step, Value, READY, WAITING};
 use crate::damage::{self, Ways};
 use crate::model::{assigns_signal, expressions, operands};
 use crate::model::{DriverRecord, Model, NodeRecord, Role, ABSENT};
 use crate::rng::Rng;
-use crate::session::{self, ADVANCE, ANSWER, ORDER, PICK, PICK_SET, SETTLE};
+use crate::session::{self, ANSWER, DELTA, ORDER, PICK, PICK_SET, SETTLE, TIME};
 use std::collections::BTreeSet;
 
 /// Names of what was seen.
@@ -92,6 +93,15 @@ pub const FEATURES: &[Feature] = &[
         of_model: |_| Seen::new(),
         of_session: pick_set::of_session,
     },
+    Feature {
+        name: "delta and time as two orders",
+        damages: Ways::NONE,
+        model: Vec::new,
+        session: two_orders::in_sessions,
+        fault: two_orders::others,
+        of_model: |_| Seen::new(),
+        of_session: two_orders::of_session,
+    },
 ];
 
 /// The damages of the features that have some.
@@ -164,7 +174,7 @@ fn decides(m: &Model, c: &Config, n: &NodeRecord) -> bool {
 pub trait Player {
     fn config(&self) -> &Config;
     fn pick(&mut self, process: usize);
-    fn advance(&mut self);
+    fn step(&mut self, step: Step);
 
     /// A pick that is an order of its own.
     fn pick_ordered(&mut self, process: usize) {
@@ -182,7 +192,8 @@ pub fn replay(player: &mut impl Player, orders: &[u8]) {
     for order in orders.chunks_exact(4) {
         match *order {
             [PICK, p, 0, 0] => player.pick_ordered(p as usize),
-            [ADVANCE, 0, 0, 0] => player.advance(),
+            [DELTA, 0, 0, 0] => player.step(Step::Delta),
+            [TIME, 0, 0, 0] => player.step(Step::Time),
             [SETTLE, 0, low, high] => {
                 for _ in 0..u16::from_le_bytes([low, high]) {
                     let Some(p) = player.config().lowest_ready() else {
@@ -219,13 +230,13 @@ fn play(m: &Model, orders: &[u8]) -> (Vec<u8>, Config) {
     (answers, c)
 }
 
-/// Advances; gives the conditions that a delta step asked for.
-fn advance_asking(m: &Model, c: &mut Config) -> Vec<u16> {
+/// Makes a step; gives the conditions that a delta step asked for.
+fn step_asking(m: &Model, c: &mut Config, step: Step) -> Vec<u16> {
     let (now, old) = (c.time, c.current());
     let asleep = |p: &&Process| p.standing == WAITING && p.deadline != Some(now);
     let asleep = c.processes.iter().filter(asleep);
     let waits: Vec<usize> = asleep.map(|p| p.place as usize).collect();
-    if c.advance(m) != Ok(Step::Delta) {
+    if c.step(m, step).is_err() || step == Step::Time {
         return vec![];
     }
     let new = c.current();

@@ -7,14 +7,15 @@ mod pulses;
 mod waves;
 
 use crate::builder::Builder;
-use crate::cycle::{Config, READY, STOPPED, WAITING};
+use crate::cycle::{Config, DELTA_LIMIT, READY, STOPPED, WAITING};
 use crate::damage;
 use crate::features;
 use crate::integers::*;
 use crate::model::*;
+use crate::moves::ADVANCE;
 use crate::numbers;
 use crate::rng::Rng;
-use crate::session;
+use crate::session::{self, DELTA, TIME};
 
 /// Operators on constants that have a fault.
 const FAULTS: [(u8, i32, i32); 5] = [
@@ -850,9 +851,9 @@ fn settle_count(rng: &mut Rng) -> u16 {
 fn damaged_order(rng: &mut Rng) -> [u8; 4] {
     let byte = |rng: &mut Rng| 1 + rng.below(255) as u8;
     match rng.below(6) {
-        0 => [rng.choose(&[0, 6, 7, 128, 255]), 0, 0, 0],
+        0 => [rng.choose(&[0, 2, 2, 8, 128, 255]), 0, 0, 0],
         1 => [
-            6 + rng.below(250) as u8,
+            8 + rng.below(248) as u8,
             rng.below(4) as u8,
             rng.below(3) as u8,
             0,
@@ -863,7 +864,7 @@ fn damaged_order(rng: &mut Rng) -> [u8; 4] {
             o
         }
         3 => {
-            let mut o = [2, 0, 0, 0];
+            let mut o = [rng.choose(&[2, 6, 7]), 0, 0, 0];
             o[1 + rng.below(3)] = byte(rng);
             o
         }
@@ -919,6 +920,58 @@ fn odd_set(rng: &mut Rng, c: &Config, ready: &[usize]) -> [u8; 4] {
     order(5, argument, set)
 }
 
+/// The step that fits, now and then the other one, the order that is withdrawn or an
+/// unused byte; where both are refused each is as likely.
+fn step_order(rng: &mut Rng, c: &Config) -> [u8; 4] {
+    let fits = c.fitting();
+    let refused = c.processes.iter().any(|p| p.standing != WAITING);
+    match rng.weighted(&[86, if refused { 80 } else { 9 }, 2, 3]) {
+        0 => fits.order(),
+        1 => fits.other().order(),
+        2 => order(ADVANCE, 0, 0),
+        _ => {
+            let mut order = fits.order();
+            order[1 + rng.below(3)] = 1 + rng.below(255) as u8;
+            order
+        }
+    }
+}
+
+/// A list that is made as it is played.
+pub struct Played<'m> {
+    pub m: &'m Model,
+    pub c: Config,
+    pub orders: Vec<u8>,
+}
+
+impl Played<'_> {
+    pub fn new(m: &Model) -> Played<'_> {
+        Played {
+            m,
+            c: Config::first(m),
+            orders: vec![],
+        }
+    }
+
+    /// Plays an order; gives its refusal.
+    pub fn order(&mut self, order: [u8; 4]) -> u8 {
+        let mut answer = [0; 16];
+        session::play(self.m, &mut self.c, &order, &mut answer);
+        self.orders.extend(order);
+        answer[0]
+    }
+
+    /// The step that fits.
+    pub fn step(&mut self) -> u8 {
+        self.order(self.c.fitting().order())
+    }
+
+    /// The other one, which is refused.
+    pub fn wrong_step(&mut self) -> u8 {
+        self.order(self.c.fitting().other().order())
+    }
+}
+
 /// Where a process is ready, the weights of settles and of sets beside 39 for the other
 /// orders.
 type Habit = (usize, usize);
@@ -951,7 +1004,7 @@ fn next_order(rng: &mut Rng, c: &Config, (settle, sets): Habit) -> [u8; 4] {
     }
     if ready.is_empty() {
         match rng.weighted(&[90, 5, 5]) {
-            0 => order(2, 0, 0),
+            0 => step_order(rng, c),
             1 => order(3, 0, settle_count(rng)),
             _ => order(1, some_process, 0),
         }
@@ -963,7 +1016,7 @@ fn next_order(rng: &mut Rng, c: &Config, (settle, sets): Habit) -> [u8; 4] {
             }
             1 => order(3, 0, settle_count(rng)),
             2 => order(5, 0, some_of(rng, &ready)),
-            _ => order(2, 0, 0),
+            _ => step_order(rng, c),
         }
     }
 }
@@ -977,35 +1030,31 @@ pub fn orders(rng: &mut Rng, m: &Model, most: usize) -> Vec<u8> {
 }
 
 fn orders_by(rng: &mut Rng, m: &Model, most: usize, habit: Habit) -> Vec<u8> {
-    let mut c = Config::first(m);
-    let mut list = Vec::new();
-    let mut answer = [0; 16];
+    let mut list = Played::new(m);
     for _ in 0..most {
-        let order = next_order(rng, &c, habit);
-        session::play(m, &mut c, &order, &mut answer);
-        list.extend_from_slice(&order);
-        let stuck =
-            answer[0] == 17 || answer[0] == 15 || c.processes.iter().all(|p| p.standing == STOPPED);
+        let refusal = list.order(next_order(rng, &list.c, habit));
+        let stopped = || list.c.standing(STOPPED).len() == list.c.processes.len();
+        let stuck = refusal == 17 || refusal == 15 || stopped();
         if stuck && rng.chance(1, 4) {
             break;
         }
     }
-    list
+    list.orders
 }
 
-/// A list of about `most` orders that settles all before each advance, now and then with
+/// A list of about `most` orders that settles all before each step, now and then with
 /// another order between.
 fn straight(rng: &mut Rng, m: &Model, most: usize) -> Vec<u8> {
     let first = Config::first(m);
-    let mut list = Vec::new();
+    let mut list = Played::new(m);
     for _ in 0..most.div_ceil(2) {
-        list.extend(order(3, 0, 65_535));
-        list.extend(order(2, 0, 0));
+        list.order(order(3, 0, 65_535));
+        list.step();
         if rng.chance(1, 20) {
-            list.extend(next_order(rng, &first, SETTLES));
+            list.order(next_order(rng, &first, SETTLES));
         }
     }
-    list
+    list.orders
 }
 
 fn list_length(rng: &mut Rng) -> usize {
@@ -1103,15 +1152,25 @@ fn delta_marathon(rng: &mut Rng) -> (Model, Vec<u8>) {
         b.wait(3, condition, if rng.chance(1, 3) { soon } else { ABSENT });
     }
     let rounds = rng.range(990, 1_020) as usize;
-    let mut list = Vec::new();
+    let mut list = Played::new(&b.m);
     for _ in 0..rounds {
-        list.extend(order(3, 0, rng.range(5, 12) as u16));
-        list.extend(order(2, 0, 0));
+        let at_limit = list.c.delta == DELTA_LIMIT;
+        if let (true, Some(p)) = (at_limit, list.c.lowest_ready()) {
+            // Something may be due then, and a process ready all the same.
+            list.order(order(1, p as u8, 0));
+            list.step();
+        }
+        list.order(order(3, 0, rng.range(5, 12) as u16));
+        if list.c.delta == DELTA_LIMIT || rng.chance(1, 100) {
+            list.wrong_step();
+        }
+        list.step();
         if rng.chance(1, 100) {
-            list.extend(next_order(rng, &Config::first(&b.m), SETTLES));
+            list.order(next_order(rng, &Config::first(&b.m), SETTLES));
         }
     }
-    (b.m, list)
+    let orders = list.orders;
+    (b.m, orders)
 }
 
 /// A model that comes to the last time in few steps, and orders for it.
@@ -1161,16 +1220,19 @@ fn time_marathon(rng: &mut Rng) -> (Model, Vec<u8>) {
         b.wait(1, ABSENT, if rng.chance(1, 2) { step } else { ABSENT });
     }
     let rounds = steps as usize + 2 + rng.below(3);
-    let mut list = Vec::new();
+    let mut list = Played::new(&b.m);
     for _ in 0..rounds {
-        list.extend(order(3, 0, 12));
-        list.extend(order(2, 0, 0));
-        list.extend(order(2, 0, 0));
+        list.order(order(3, 0, 12));
+        list.step();
+        if list.step() == 18 || rng.chance(1, 100) {
+            list.wrong_step();
+        }
         if rng.chance(1, 100) {
-            list.extend(next_order(rng, &Config::first(&b.m), SETTLES));
+            list.order(next_order(rng, &Config::first(&b.m), SETTLES));
         }
     }
-    (b.m, list)
+    let orders = list.orders;
+    (b.m, orders)
 }
 
 /// The input of one session.
@@ -1187,6 +1249,7 @@ pub struct SessionCase {
 /// steps, calculations, edges, pulses, waves, crowds.
 type Forms = [usize; 11];
 const SESSIONS: Forms = [680, 90, 13, 13, 13, 9, 140, 88, 90, 0, 70];
+const MOVES: Forms = [620, 90, 25, 35, 45, 20, 110, 70, 70, 0, 60];
 const DUMPS: Forms = [260, 170, 30, 0, 10, 40, 50, 40, 80, 320, 20];
 
 /// The session of a seed.
@@ -1197,6 +1260,33 @@ pub fn session_case(seed: u64) -> SessionCase {
 /// The run of a seed that is to be dumped.
 pub fn dump_case(seed: u64) -> SessionCase {
     session_of(&DUMPS, &mut Rng::new(seed))
+}
+
+/// The stored list of a seed, of the orders of before item 9 of document 02; its room is
+/// that for the moved list.
+pub fn move_case(seed: u64) -> SessionCase {
+    let rng = &mut Rng::new(seed);
+    let mut case = session_of(&MOVES, rng);
+    // Steps were advances; some lists keep orders 6 and 7, which were unknown, or only
+    // those with an unused byte set, which give 11 still.
+    let (kept, odd) = (rng.choose(&[0, 0, 0, 1]), rng.chance(1, 4));
+    for order in case.orders.chunks_exact_mut(4) {
+        let stays = rng.chance(kept, 6) || (odd && order[1..] != [0; 3]);
+        if [DELTA, TIME].contains(&order[0]) && !stays {
+            order[0] = ADVANCE;
+        }
+    }
+    let length = case.orders.len();
+    case.room = match rng.below(6) {
+        _ if case.room == 4 * length => length,
+        0 if length > 0 => 0,
+        1 if length > 0 => length - 1,
+        2 if length > 4 => length - 4,
+        3 if length > 0 => 4 * length,
+        4 => length + 1,
+        _ => length + 4,
+    };
+    case
 }
 
 /// A model and a list of orders that is to be arranged otherwise; every other one settles
@@ -1306,8 +1396,8 @@ fn session_of(forms: &Forms, rng: &mut Rng) -> SessionCase {
     if form == 2 {
         // Orders of a wrong length.
         match rng.below(4) {
-            0 => orders.resize(16_388, 2),
-            1 => orders.resize(16_384 + rng.below(40_000) + 1, 2),
+            0 => orders.resize(16_388, DELTA),
+            1 => orders.resize(16_384 + rng.below(40_000) + 1, DELTA),
             _ => {
                 let off = 1 + rng.below(3);
                 orders.resize(orders.len() + off, 0);

@@ -12,10 +12,13 @@ pub mod folder;
 pub mod gen;
 pub mod integers;
 pub mod model;
+pub mod moves;
 pub mod numbers;
 pub mod operands;
 #[cfg(feature = "proved")]
 pub mod proved;
+#[cfg(feature = "moves")]
+pub mod proved_moves;
 pub mod rng;
 pub mod session;
 pub mod tally;

@@ -12,9 +12,12 @@ pub const ANSWERS: u32 = 10;
 /// Refusal of a dump whose model and orders are accepted: its output buffer.
 pub const OUTPUT: u32 = 21;
 /// Refusals of an order.
-pub const ORDER: &[u32] = &[11, 12, 13, 14, 15, 16, 17, 18, 19];
+pub const ORDER: &[u32] = &[11, 12, 13, 14, 15, 16, 17, 18, 19, 22, 23];
 /// Those of them that a pick can have, of one process or of a set.
 pub const PICK: &[u32] = &[11, 12, 13];
+/// Those that a delta step and a time step can have, in checking order.
+pub const DELTA: &[u32] = &[11, 14, 15, 22, 16];
+pub const TIME: &[u32] = &[11, 14, 15, 23, 17, 18];
 /// Faults that stop a process.
 pub const FAULT: &[u32] = &[1, 2, 3, 4];
 /// Those of them that an expression has.
@@ -90,7 +93,7 @@ mod tests {
     #[test]
     fn every_number_is_listed_once() {
         let mut all = [session(), ORDER.to_vec(), vec![OUTPUT]].concat();
-        assert!((1..=21).all(|n| all.contains(&n)));
+        assert!((1..=23).all(|n| all.contains(&n)));
         let at = |n: u32| session().iter().position(|&m| m == n);
         assert!(at(8) < at(20) && at(20) < at(9) && at(9) < at(10));
         let many = all.len();

@@ -6,12 +6,23 @@ use crate::model::{self, Model};
 pub const ORDER: usize = 4;
 pub const ANSWER: usize = 16;
 
-/// Kinds of orders.
+/// Kinds of orders; 2 is withdrawn.
 pub const PICK: u8 = 1;
-pub const ADVANCE: u8 = 2;
 pub const SETTLE: u8 = 3;
 pub const READ: u8 = 4;
 pub const PICK_SET: u8 = 5;
+pub const DELTA: u8 = 6;
+pub const TIME: u8 = 7;
+
+impl Step {
+    /// The order that does it.
+    pub fn order(self) -> [u8; ORDER] {
+        match self {
+            Step::Delta => [DELTA, 0, 0, 0],
+            Step::Time => [TIME, 0, 0, 0],
+        }
+    }
+}
 
 /// The model, where neither it nor the orders' length is refused; Err is the number.
 pub fn accepted(model: &[u8], orders: &[u8]) -> Result<Model, u32> {
@@ -25,6 +36,16 @@ pub fn accepted(model: &[u8], orders: &[u8]) -> Result<Model, u32> {
 /// Plays the orders over the model. A refused session writes no answer and
 /// returns the empty configuration.
 pub fn session(model: &[u8], orders: &[u8], answers: &mut [u8]) -> (u32, Config) {
+    session_by(carry_out, model, orders, answers)
+}
+
+/// A session by what its orders do: the answer to one, or its refusal.
+pub(crate) fn session_by(
+    carry_out: impl Fn(&Model, &mut Config, &[u8]) -> Result<Done, u32>,
+    model: &[u8],
+    orders: &[u8],
+    answers: &mut [u8],
+) -> (u32, Config) {
     let m = match accepted(model, orders) {
         Ok(m) => m,
         Err(number) => return (number, Config::default()),
@@ -37,22 +58,47 @@ pub fn session(model: &[u8], orders: &[u8], answers: &mut [u8]) -> (u32, Config)
         .chunks_exact(ORDER)
         .zip(answers.chunks_exact_mut(ANSWER))
     {
-        play(&m, &mut config, order, answer);
+        play_by(&carry_out, &m, &mut config, order, answer);
     }
     (0, config)
 }
 
 /// What a done order answers.
 #[derive(Default)]
-struct Done {
+pub(crate) struct Done {
     byte: u8,
     picks: u16,
     /// Bytes 4-7: the value read, or a pick's fault and its node.
     value: [u8; 4],
 }
 
+impl Done {
+    /// A delta step has byte 1, a time step 2.
+    pub(crate) fn step(step: Step) -> Done {
+        let byte = match step {
+            Step::Delta => 1,
+            Step::Time => 2,
+        };
+        Done {
+            byte,
+            ..Done::default()
+        }
+    }
+}
+
 /// Plays one order of 4 bytes and writes its answer of 16 bytes.
 pub fn play(m: &Model, config: &mut Config, order: &[u8], answer: &mut [u8]) {
+    play_by(carry_out, m, config, order, answer);
+}
+
+/// The same by what the order does.
+pub(crate) fn play_by(
+    carry_out: impl Fn(&Model, &mut Config, &[u8]) -> Result<Done, u32>,
+    m: &Model,
+    config: &mut Config,
+    order: &[u8],
+    answer: &mut [u8],
+) {
     let (refusal, done) = match carry_out(m, config, order) {
         Ok(done) => (0, done),
         Err(number) => (number as u8, Done::default()),
@@ -64,12 +110,12 @@ pub fn play(m: &Model, config: &mut Config, order: &[u8], answer: &mut [u8]) {
     answer[8..16].copy_from_slice(&config.time.to_le_bytes());
 }
 
-fn carry_out(m: &Model, config: &mut Config, order: &[u8]) -> Result<Done, u32> {
+pub(crate) fn carry_out(m: &Model, config: &mut Config, order: &[u8]) -> Result<Done, u32> {
     let argument = order[1];
     let count = u16::from_le_bytes([order[2], order[3]]);
     let unused_clear = match order[0] {
         PICK | READ => count == 0,
-        ADVANCE => argument == 0 && count == 0,
+        DELTA | TIME => argument == 0 && count == 0,
         SETTLE | PICK_SET => argument == 0,
         _ => false,
     };
@@ -86,16 +132,10 @@ fn carry_out(m: &Model, config: &mut Config, order: &[u8]) -> Result<Done, u32> 
                 value: [process.fault, 0, low, high],
             })
         }
-        ADVANCE => {
-            let byte = match config.advance(m)? {
-                Step::Delta => 1,
-                Step::Time => 2,
-            };
-            Ok(Done {
-                byte,
-                ..Done::default()
-            })
-        }
+        DELTA => config
+            .step(m, Step::Delta)
+            .map(|()| Done::step(Step::Delta)),
+        TIME => config.step(m, Step::Time).map(|()| Done::step(Step::Time)),
         SETTLE => {
             let (picks, ready) = config.settle(m, count);
             Ok(Done {

@@ -4,6 +4,7 @@
 //! feature is.
 
 mod dumps;
+mod moves;
 mod schedules;
 
 use crate::cases;
@@ -13,10 +14,13 @@ use crate::dump::{dump, DUMP};
 use crate::features::{self, failing_node, FEATURES};
 use crate::gen;
 use crate::model::{judge, load, ABSENT};
+use crate::moves::ADVANCE;
 use crate::numbers::{self, Counts};
-use crate::session::{session, ADVANCE, PICK, PICK_SET, SETTLE};
+use crate::session::{session, DELTA, PICK, PICK_SET, SETTLE, TIME};
 pub use dumps::Dump;
 use dumps::DumpTally;
+pub use moves::Move;
+use moves::{as_before, MoveTally, Stored};
 use std::collections::{BTreeMap, BTreeSet};
 
 /// Another kernel's judge: the number of a model.
@@ -24,6 +28,25 @@ pub type Judge<'a> = &'a dyn Fn(&[u8]) -> u32;
 /// Another kernel's session: model, orders, answers and dump to its number, or
 /// why there is no dump.
 pub type Session<'a> = &'a dyn Fn(&[u8], &[u8], &mut [u8], &mut [u8]) -> Result<u32, String>;
+
+/// Another kernel, as far as it is given.
+#[derive(Clone, Copy, Default)]
+pub struct Other<'a> {
+    pub judge: Option<Judge<'a>>,
+    pub session: Option<Session<'a>>,
+    pub dump: Option<Dump<'a>>,
+    pub move_over: Option<Move<'a>>,
+}
+
+impl Other<'_> {
+    /// Err where there is another kernel, but not this part of it.
+    fn has<T>(&self, part: Option<T>, what: &str) -> Result<(), String> {
+        match self.judge.is_some() && part.is_none() {
+            true => Err(format!("this build has no {what} to compare")),
+            false => Ok(()),
+        }
+    }
+}
 
 /// How often a run must have met each thing.
 #[derive(Clone, Copy, Default)]
@@ -58,17 +81,15 @@ const FEATURE_SESSIONS: u64 = 200;
 const CONDITION_SESSIONS: u64 = 100;
 /// Each number and each thing of a dump, 200 times among the 20,000 of `make test`.
 const DUMPS: u64 = 100;
+/// Each thing that stored lists show, 100 times among the 20,000 of `make test`.
+const MOVES: u64 = 200;
 /// Each thing that schedules show.
 const SCHEDULES: u64 = 100;
 
 /// What `tally` and `compare` do: `models N SEED`, `sessions N SEED`, `schedules N SEED`,
-/// `dumps N SEED` or `limits`, in this kernel and in the other one where it is given.
-pub fn run(
-    name: &str,
-    judge: Option<Judge>,
-    session: Option<Session>,
-    dump: Option<Dump>,
-) -> Result<(), String> {
+/// `moves N SEED`, `dumps N SEED` or `limits`, in this kernel and in the other one where it is
+/// given.
+pub fn run(name: &str, other: Other) -> Result<(), String> {
     let arguments: Vec<String> = std::env::args().skip(1).collect();
     let number = |n: usize, name: &str| {
         let text = arguments.get(n).ok_or(format!("{name} is missing"))?;
@@ -78,43 +99,47 @@ pub fn run(
     let cases = match arguments.first().map(String::as_str) {
         Some("models") => {
             let (n, seed) = (number(1, "N")?, number(2, "SEED")?);
-            let counts = models(n, seed, judge)?;
+            let counts = models(n, seed, other.judge)?;
             counts.print();
             counts.require(least(n, FEATURE_MODELS))?;
             format!("{n} judged models from seed {seed} on")
         }
         Some("sessions") => {
             let (n, seed) = (number(1, "N")?, number(2, "SEED")?);
-            if judge.is_some() && session.is_none() {
-                return Err("this build has no sessions to compare".into());
-            }
-            let counts = sessions(n, seed, session)?;
+            other.has(other.session, "sessions")?;
+            let counts = sessions(n, seed, other.session)?;
             counts.print();
             counts.require(least(n, FEATURE_SESSIONS))?;
             format!("{n} sessions from seed {seed} on")
         }
         Some("dumps") => {
             let (n, seed) = (number(1, "N")?, number(2, "SEED")?);
-            if judge.is_some() && dump.is_none() {
-                return Err("this build has no dumps to compare".into());
-            }
-            let counts = dumps::dumps(n, seed, dump)?;
+            other.has(other.dump, "dumps")?;
+            let counts = dumps::dumps(n, seed, other.dump)?;
             counts.print();
             counts.require(least(n, DUMPS).feature)?;
             format!("the dumps of {n} runs from seed {seed} on")
         }
         Some("schedules") => {
             let (n, seed) = (number(1, "N")?, number(2, "SEED")?);
-            if judge.is_some() && session.is_none() {
-                return Err("this build has no sessions to compare".into());
-            }
-            let counts = schedules::schedules(n, seed, session)?;
+            other.has(other.session, "sessions")?;
+            let counts = schedules::schedules(n, seed, other.session)?;
             counts.print();
             counts.require(n / SCHEDULES)?;
             format!("the schedules of {n} models from seed {seed} on")
         }
+        Some("moves") => {
+            let (n, seed) = (number(1, "N")?, number(2, "SEED")?);
+            other.has(other.session, "sessions")?;
+            other.has(other.move_over, "moves")?;
+            let counts = moves::moves(n, seed, other.move_over, other.session)?;
+            counts.print();
+            let least = least(n, MOVES);
+            counts.require(least.number, least.feature)?;
+            format!("{n} lists moved over from seed {seed} on")
+        }
         Some("limits") => {
-            let counts = limits(judge, session, dump)?;
+            let counts = limits(other)?;
             counts.print();
             counts.require()?;
             format!(
@@ -124,11 +149,11 @@ pub fn run(
         }
         _ => {
             return Err(format!(
-                "use: {name} models N SEED | sessions N SEED | schedules N SEED | dumps N SEED | limits"
+                "use: {name} models N SEED | sessions N SEED | schedules N SEED | moves N SEED | dumps N SEED | limits"
             ))
         }
     };
-    if judge.is_some() {
+    if other.judge.is_some() {
         println!("no difference in {cases}");
     }
     Ok(())
@@ -279,8 +304,9 @@ pub struct LimitTally {
     /// Judged models and played sessions by number.
     pub models: Counts,
     pub sessions: Counts,
-    /// The dumps of these sessions.
+    /// The dumps of these sessions, and their lists as stored before, moved over.
     pub dumps: DumpTally,
+    pub moves: MoveTally,
 }
 
 impl LimitTally {
@@ -294,7 +320,8 @@ impl LimitTally {
         let own = [numbers::ORDERS, numbers::OUTPUT];
         self.dumps
             .numbers
-            .require("a limit dump's refusal", &own, 1)
+            .require("a limit dump's refusal", &own, 1)?;
+        self.moves.require_limits()
     }
 
     pub fn print(&self) {
@@ -309,22 +336,19 @@ impl LimitTally {
         println!(
             "their dumps: {whole} whole, {short} refused with 21; the longest {longest} bytes"
         );
+        self.moves.print_limits();
     }
 }
 
 /// Judges the limit models, plays the bench cases and dumps them.
-pub fn limits(
-    other: Option<Judge>,
-    session: Option<Session>,
-    dump: Option<Dump>,
-) -> Result<LimitTally, String> {
+pub fn limits(other: Other) -> Result<LimitTally, String> {
     let mut t = LimitTally::default();
     for (name, bytes, expected) in damage::limits() {
         let number = judge(&bytes);
         if number != expected {
             return Err(format!("limits: `{name}` is {number}, not {expected}"));
         }
-        if let Some(other) = other {
+        if let Some(other) = other.judge {
             let theirs = other(&bytes);
             if theirs != number {
                 return Err(format!(
@@ -337,10 +361,22 @@ pub fn limits(
     for case in cases::sessions() {
         let different = |found| format!("limits: first difference at `{}`: {found}", case.name);
         let (number, _) =
-            play(&case.model, &case.orders, case.room, 0xA5, session).map_err(different)?;
+            play(&case.model, &case.orders, case.room, 0xA5, other.session).map_err(different)?;
         t.sessions.add(number);
         let (dumps, model, orders) = (&mut t.dumps, &case.model, &case.orders);
-        dumps.run(model, orders, 0, dump).map_err(different)?;
+        dumps.run(model, orders, 0, other.dump).map_err(different)?;
+        let before = as_before(orders);
+        let stored = Stored {
+            model,
+            orders: &before,
+            room: match case.room == 4 * orders.len() {
+                true => orders.len(),
+                false => case.room,
+            },
+        };
+        t.moves
+            .run(&stored, 0xA5, other.move_over, other.session)
+            .map_err(different)?;
     }
     Ok(t)
 }
@@ -391,13 +427,24 @@ impl Refusals {
     }
 
     fn print(&self, title: &str, numbers: &[u32]) {
-        println!("{title:19}answers   sessions");
+        println!("{title:24}answers   sessions");
         for &n in numbers {
             let (answers, sessions) = (self.answers.of(n), self.sessions.of(n));
-            println!("{n:13} {answers:12} {sessions:10}");
+            println!("{n:18} {answers:12} {sessions:10}");
         }
     }
 }
+
+/// Whose refusals are counted, of which kind, if not of all, and the numbers that they can
+/// have.
+const REFUSED: [(&str, Option<u8>, &[u32]); 6] = [
+    ("refusal", None, numbers::ORDER),
+    ("a pick's refusal", Some(PICK), numbers::PICK),
+    ("a set's refusal", Some(PICK_SET), numbers::PICK),
+    ("a delta step's refusal", Some(DELTA), numbers::DELTA),
+    ("a time step's refusal", Some(TIME), numbers::TIME),
+    ("order 2's refusal", Some(ADVANCE), &[11]),
+];
 
 #[derive(Default)]
 pub struct SessionTally {
@@ -406,10 +453,8 @@ pub struct SessionTally {
     pub picks: u64,
     /// Sessions by number.
     pub numbers: Counts,
-    /// Refused orders, and of them picks and set orders.
-    pub refused: Refusals,
-    pub refused_picks: Refusals,
-    pub refused_sets: Refusals,
+    /// Refused orders, for each row of `REFUSED`.
+    pub refused: [Refusals; 6],
     /// Faults by processes and by sessions.
     pub faults: Counts,
     pub faulted: Counts,
@@ -530,7 +575,7 @@ impl SessionTally {
             }
             match order[0] {
                 PICK => self.done_picks[answer[1] as usize] += 1,
-                ADVANCE => self.steps[answer[1] as usize] += 1,
+                DELTA | TIME => self.steps[answer[1] as usize] += 1,
                 SETTLE => self.settles[answer[1] as usize] += 1,
                 PICK_SET => {
                     self.sets[answer[1] as usize] += 1;
@@ -539,13 +584,12 @@ impl SessionTally {
                 _ => self.reads += 1,
             }
         }
-        let of = |is: &dyn Fn(u8) -> bool| -> Vec<u32> {
-            let such = refused.iter().filter(|r| is(r.0));
-            such.map(|r| r.1).collect()
-        };
-        self.refused.add(&of(&|_| true));
-        self.refused_picks.add(&of(&|kind| kind == PICK));
-        self.refused_sets.add(&of(&|kind| kind == PICK_SET));
+        for ((_, kind, _), counts) in REFUSED.iter().zip(&mut self.refused) {
+            let such = refused
+                .iter()
+                .filter(|r| kind.is_none_or(|kind| kind == r.0));
+            counts.add(&such.map(|r| r.1).collect::<Vec<u32>>());
+        }
         let depth = match self.steps[2] - before {
             0 => 0,
             1 => 1,
@@ -583,11 +627,7 @@ impl SessionTally {
     pub fn require(&self, least: Least) -> Result<(), String> {
         self.numbers
             .require("session number", &numbers::session(), least.number)?;
-        for (what, refused, numbers) in [
-            ("refusal", &self.refused, numbers::ORDER),
-            ("a pick's refusal", &self.refused_picks, numbers::PICK),
-            ("a set's refusal", &self.refused_sets, numbers::PICK),
-        ] {
+        for ((what, _, numbers), refused) in REFUSED.iter().zip(&self.refused) {
             let what = format!("sessions: {what}");
             refused.sessions.require(&what, numbers, least.number)?;
         }
@@ -610,9 +650,9 @@ impl SessionTally {
         for n in with_none(&numbers::session()) {
             println!("{n:14} {:11}", self.numbers.of(n));
         }
-        self.refused.print("order refusal", numbers::ORDER);
-        self.refused_picks.print("a pick's refusal", numbers::PICK);
-        self.refused_sets.print("a set's refusal", numbers::PICK);
+        for ((what, _, numbers), refused) in REFUSED.iter().zip(&self.refused) {
+            refused.print(what, numbers);
+        }
         println!("fault            processes   sessions");
         for &n in numbers::FAULT {
             let (processes, sessions) = (self.faults.of(n), self.faulted.of(n));
@@ -654,6 +694,7 @@ impl SessionTally {
 #[cfg(test)]
 mod tests {
     use super::*;
+    use crate::moves::move_over;
     use crate::vcd::write::write;
 
     /// This kernel, as another one.
@@ -668,11 +709,32 @@ mod tests {
         Ok(number)
     }
 
+    const OWN: Other = Other {
+        judge: Some(&judge),
+        session: Some(&own),
+        dump: Some(&write),
+        move_over: Some(&move_over),
+    };
+
+    fn judged_by<'a>(judge: Judge<'a>) -> Other<'a> {
+        Other {
+            judge: Some(judge),
+            ..OWN
+        }
+    }
+
+    fn played_by<'a>(session: Session<'a>) -> Other<'a> {
+        Other {
+            session: Some(session),
+            ..OWN
+        }
+    }
+
     #[test]
     fn agreement() {
         assert!(models(2_000, 5, Some(&judge)).is_ok());
         assert!(sessions(1_000, 5, Some(&own)).is_ok());
-        assert!(limits(Some(&judge), Some(&own), Some(&write)).is_ok());
+        assert!(limits(OWN).is_ok());
     }
 
     #[test]
@@ -683,12 +745,12 @@ mod tests {
             message.contains("second kernel 8, proved kernel 0"),
             "{message}"
         );
-        assert!(limits(Some(&wrong), Some(&own), None).is_err());
+        assert!(limits(judged_by(&wrong)).is_err());
         let wrong = |b: &[u8]| if judge(b) == 20 { 5 } else { judge(b) };
         let message = models(2_000, 5, Some(&wrong)).err().unwrap();
         let found = "second kernel 20, proved kernel 5";
         assert!(message.contains(found), "{message}");
-        assert!(limits(Some(&wrong), Some(&own), None).is_err());
+        assert!(limits(judged_by(&wrong)).is_err());
     }
 
     #[test]
@@ -698,7 +760,7 @@ mod tests {
             n => Ok(n),
         };
         assert!(sessions(1_000, 5, Some(&number)).is_err());
-        assert!(limits(Some(&judge), Some(&number), None).is_err());
+        assert!(limits(played_by(&number)).is_err());
         let time = told_of(|number, _, answers, _| {
             let played = answers.chunks_exact_mut(16).filter(|_| number == 0);
             played.filter(|x| x[0] == 18).for_each(|x| x[8] ^= 1);
@@ -772,7 +834,7 @@ mod tests {
         assert_eq!(due(100_000, FEATURE_SESSIONS), (200, 500, 1_000));
         let judged = models(6_000, 5, None).unwrap();
         assert_eq!(judged.require(at_least(12, 10)), Ok(()));
-        assert_eq!(limits(None, None, None).unwrap().require(), Ok(()));
+        assert_eq!(limits(Other::default()).unwrap().require(), Ok(()));
         let played = sessions(6_000, 5, None).unwrap();
         let least = Least {
             condition: 60,
@@ -795,19 +857,13 @@ mod tests {
         assert!(few.require(at_least(0, 0)).is_ok() && few.require(at_least(6, 0)).is_err());
         let mut played = sessions(2_000, 5, None).unwrap();
         assert_eq!(played.require(at_least(1, 0)), Ok(()));
-        type Part = fn(&mut SessionTally) -> &mut Refusals;
-        let parts: [(Part, &str, &[u32]); 3] = [
-            (|t| &mut t.refused, "sessions: refusal", numbers::ORDER),
-            (|t| &mut t.refused_picks, "a pick's refusal", numbers::PICK),
-            (|t| &mut t.refused_sets, "a set's refusal", numbers::PICK),
-        ];
-        for (part, what, numbers) in parts {
-            let counted = std::mem::take(part(&mut played));
+        for (n, (what, _, numbers)) in REFUSED.iter().enumerate() {
+            let counted = std::mem::take(&mut played.refused[n]);
             let message = played.require(at_least(1, 0)).unwrap_err();
-            for n in numbers {
-                assert!(message.contains(&format!("{what} {n} ")), "{message}");
+            for number in *numbers {
+                assert!(message.contains(&format!("{what} {number} ")), "{message}");
             }
-            *part(&mut played) = counted;
+            played.refused[n] = counted;
         }
         played.faulted = Counts::default();
         let message = played.require(at_least(1, 0)).unwrap_err();

@@ -7,3 +7,4 @@ pub mod Guarded
 pub mod Claims
 pub mod Delays
 pub mod Waves
+pub mod Moves

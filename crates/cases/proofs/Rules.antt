@@ -18,7 +18,7 @@ use Rattle.rules.specs.Evaluation.{ranged, negateOf, sumOf, differenceOf, equal
 use Rattle.rules.specs.Failing.{orderBy, nextOrder, evaluationOrder}
 use Rattle.rules.specs.Statements.{withDelay, effectBy, effectOf, kept, before, added, equalValue, marked, leftBy, scheduled, overflows, nextPlace, driverAfter, applied, stepped}
 use Rattle.rules.specs.Steps.{transactionDue, taken, deadlineDue, active, undriven, signalAfter, signalsAfter, earlierAfter, inSet, changedIn, wokenIf, wokenAt, processAfterDelta, deltaStep, shifted, timeStep}
-use Rattle.rules.specs.Orders.{isReady, isStopped, picked, dueTimes, dueNow, advanced, lowestReady, settledFrom, settled, someMember, membersBelow, steppedBelow, pickedSet, readOf}
+use Rattle.rules.specs.Orders.{isReady, isStopped, picked, dueTimes, dueNow, deltaStepped, timeStepped, lowestReady, settledFrom, settled, someMember, membersBelow, steppedBelow, pickedSet, readOf}
 use Rattle.session.specs.Lists.{orderOf, ordersOf, isKnown, performed, answerOf, played}
 
 -- a list of orders is read and played
@@ -31,7 +31,7 @@ unfolding anyBelow sumBelow joinBelow listBelow upTo course firstWith
     withDelay effectBy effectOf kept before added equalValue marked leftBy scheduled overflows nextPlace driverAfter applied stepped
     transactionDue taken deadlineDue active undriven signalAfter signalsAfter earlierAfter inSet changedIn wokenIf wokenAt processAfterDelta deltaStep
     shifted timeStep
-    isReady isStopped picked dueTimes dueNow advanced lowestReady settledFrom settled someMember membersBelow steppedBelow pickedSet readOf
+    isReady isStopped picked dueTimes dueNow deltaStepped timeStepped lowestReady settledFrom settled someMember membersBelow steppedBelow pickedSet readOf
     orderOf ordersOf isKnown performed answerOf played
 the-orders = 0
 

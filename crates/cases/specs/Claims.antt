@@ -14,12 +14,12 @@ use Rattle.model.specs.Rules.{refusalOf}
 use Rattle.rules.specs.declared.driven.Driven.the-variants.{Null}
 use Rattle.rules.specs.Configuration.{Configuration, first}
 use Rattle.rules.specs.Orders.{Outcome, refused}
-use Rattle.session.specs.Lists.{performed, answered, played, after}
+use Rattle.session.specs.Lists.{orderBytes, performed, answered, played, after}
 use Rattle.session.specs.Sessions.{sessionOf}
 use Rattle.session.specs.Demand3.{Bytes, kernelOf, tallyOf, Determinate}
 use Rattle.session.specs.ListLaws.{ListLaws}
 use Rattle.session.specs.SetLaws.{member, setOrder, singlePicks, SameEnd, SetLaws}
-use Rattle.cases.specs.Forms.{pickOrder, advanceOrder, settleOrder, orderBytes, asBytes}
+use Rattle.cases.specs.Forms.{pickOrder, settleOrder, deltaStepOrder, timeStepOrder, asBytes}
 use Rattle.cases.specs.Inverter.{inverter, inverterBytes, inverterOrders, inverterOrderBytes}
 use Rattle.cases.specs.Guarded.{shared, sharedBytes, disconnected, swapped, carried}
 use Rattle.cases.specs.Inertial.{due, filtered, filteredBytes, waveforms}
@@ -39,9 +39,9 @@ picking =
     asBytes
     (orderBytes
     (pickOrder 1 ∷ pickOrder 0 ∷ pickOrder 1 ∷ pickOrder 0
-    ∷ advanceOrder ∷ advanceOrder ∷ advanceOrder
+    ∷ deltaStepOrder ∷ timeStepOrder ∷ deltaStepOrder
     ∷ pickOrder 0 ∷ pickOrder 0
-    ∷ advanceOrder
+    ∷ deltaStepOrder
     ∷ []))
     refl
 
@@ -51,18 +51,18 @@ inStep =
     asBytes
     (orderBytes
     (setOrder 3 ∷ setOrder 3
-    ∷ advanceOrder ∷ advanceOrder ∷ advanceOrder
+    ∷ deltaStepOrder ∷ timeStepOrder ∷ deltaStepOrder
     ∷ setOrder 1 ∷ pickOrder 0 ∷ setOrder 0 ∷ settleOrder 10
-    ∷ advanceOrder
+    ∷ deltaStepOrder
     ∷ []))
     refl
 
 -- the bench's list up to the second settle, and without it
 abbrev pub woken : Bytes
-woken = asBytes (orderBytes (settleOrder 10 ∷ advanceOrder ∷ advanceOrder ∷ advanceOrder ∷ settleOrder 10 ∷ [])) refl
+woken = asBytes (orderBytes (settleOrder 10 ∷ deltaStepOrder ∷ timeStepOrder ∷ deltaStepOrder ∷ settleOrder 10 ∷ [])) refl
 
 abbrev pub waking : Bytes
-waking = asBytes (orderBytes (settleOrder 10 ∷ advanceOrder ∷ advanceOrder ∷ advanceOrder ∷ [])) refl
+waking = asBytes (orderBytes (settleOrder 10 ∷ deltaStepOrder ∷ timeStepOrder ∷ deltaStepOrder ∷ [])) refl
 
 -- on the model of the bytes m, a list comes to p picks and a done advances
 pub record Comes (m : List ℕ) (xs : Bytes) (p a : ℕ) : Type 0 where
@@ -133,10 +133,10 @@ pub record SharedDetermined : Type 0 where
 
 -- the orders of the line with two drivers, and the same with process 1 picked first
 abbrev pub filtering : Bytes
-filtering = asBytes (orderBytes (settleOrder 10 ∷ advanceOrder ∷ [])) refl
+filtering = asBytes (orderBytes (settleOrder 10 ∷ timeStepOrder ∷ [])) refl
 
 abbrev pub filteringLast : Bytes
-filteringLast = asBytes (orderBytes (pickOrder 1 ∷ pickOrder 0 ∷ pickOrder 1 ∷ settleOrder 10 ∷ advanceOrder ∷ [])) refl
+filteringLast = asBytes (orderBytes (pickOrder 1 ∷ pickOrder 0 ∷ pickOrder 1 ∷ settleOrder 10 ∷ timeStepOrder ∷ [])) refl
 
 -- Demand 3 on inertial assignments: the order of picks does not change what is pending
 pub record FilteredDetermined : Type 0 where
@@ -149,9 +149,9 @@ pub record FilteredDetermined : Type 0 where
       by alike demand3 accepted filtering filteringLast filtering-ends last-ends .same-end
   pub pending : waveforms (tallyOf (modelOf filteredBytes) filtering .end) ≡ (due ‘0’ 3 ∷ []) ∷ (due Z 2 ∷ []) ∷ []
 
--- an advance before any pick
+-- a delta step before any pick
 abbrev pub early : Outcome
-early = performed inverter advanceOrder (first inverter)
+early = performed inverter deltaStepOrder (first inverter)
 
 -- Laws of lists of orders
 pub record InverterLaws : Type 0 where
@@ -160,11 +160,11 @@ pub record InverterLaws : Type 0 where
   -- it is refused with 14
   pub refusal : early .refusal ≡ 14
   pub not-done : early .refusal ≢ 0
-  pub kept : early ≡ refused (early .refusal) (first inverter) by laws .refused-kept inverter advanceOrder (first inverter) not-done
+  pub kept : early ≡ refused (early .refusal) (first inverter) by laws .refused-kept inverter deltaStepOrder (first inverter) not-done
   pub played-on :
-      played inverter (advanceOrder ∷ inverterOrders) (first inverter)
+      played inverter (deltaStepOrder ∷ inverterOrders) (first inverter)
       ≡ answered (refused (early .refusal) (first inverter)) (played inverter inverterOrders (first inverter))
-      by laws .after-refused inverter advanceOrder inverterOrders (first inverter) not-done
+      by laws .after-refused inverter deltaStepOrder inverterOrders (first inverter) not-done
   pub no-orders : sessionOf inverterBytes [] [] ≡ record { number = 0; end = first (modelOf inverterBytes); buffer = [] }
       by laws .no-orders inverterBytes accepted
 

@@ -16,7 +16,7 @@ use Rattle.rules.specs.Steps.{deltaStep}
 use Rattle.rules.specs.Delays.{NoDelayOfZero, formerEnvironment, withEarlier, SameButEarlier}
 use Rattle.session.specs.Lists.{Order, after}
 use Rattle.session.specs.DelayLaws.{SamePlay, DelayLaws}
-use Rattle.cases.specs.Forms.{signal, variable, process, driver, node, statement, pickOrder, advanceOrder, settleOrder}
+use Rattle.cases.specs.Forms.{signal, variable, process, driver, node, statement, pickOrder, settleOrder, deltaStepOrder, timeStepOrder}
 use Rattle.cases.specs.Answers.{answerTo, picksIn}
 use Rattle.cases.specs.Claims.{_by_}
 use Rattle.cases.specs.Inverter.{inverter, inverterOrders}
@@ -57,16 +57,16 @@ detector =
 
 -- up to the delta step in which signal 0 rises, the picks after it, the time step and the delta step in which signal 1 alone rises
 abbrev pub risen : List Order
-risen = settleOrder 10 ∷ advanceOrder ∷ []
+risen = settleOrder 10 ∷ deltaStepOrder ∷ []
 
 abbrev pub detected : List Order
 detected = risen ++ (settleOrder 10 ∷ [])
 
 abbrev pub timed : List Order
-timed = detected ++ (advanceOrder ∷ [])
+timed = detected ++ (timeStepOrder ∷ [])
 
 abbrev pub steady : List Order
-steady = timed ++ (advanceOrder ∷ [])
+steady = timed ++ (deltaStepOrder ∷ [])
 
 abbrev pub currentIn : List Order → ℕ → ℕ
 currentIn os s = currentOf (after detector os .signals) s

@@ -19,7 +19,7 @@ use Rattle.rules.specs.Invariant.{Stopping}
 use Rattle.rules.specs.Orders.{Outcome, picked}
 use Rattle.session.specs.Lists.{Order, answerOf, after}
 use Rattle.session.specs.FaultLaws.{FaultLaws}
-use Rattle.cases.specs.Forms.{signal, variable, process, driver, node, statement, pickOrder, advanceOrder, settleOrder}
+use Rattle.cases.specs.Forms.{signal, variable, process, driver, node, statement, pickOrder, settleOrder, deltaStepOrder}
 use Rattle.cases.specs.Answers.{answerTo, faultIn, nodeIn}
 use Rattle.cases.specs.Arithmetic.{minus, most, failing, worker}
 use Rattle.cases.specs.Bench.{adder, scheduler}
@@ -112,10 +112,10 @@ waiter =
     }
 
 abbrev pub woken : List Order
-woken = settleOrder 10 ∷ advanceOrder ∷ []
+woken = settleOrder 10 ∷ deltaStepOrder ∷ []
 
 -- "A process keeps the node (0 without a fault) beside its fault, in the configuration, for a wait's condition too." The answers to the
--- settle and to the advance tell nothing of it.
+-- settle and to the delta step tell nothing of it.
 unfoldable pub keptRows : List Row
 keptRows =
     (processIn (first waiter .processes) 1 .node gives 0)

@@ -2,7 +2,7 @@
 use mathlib.Core.Path.{_≡_}
 use mathlib.Core.Bool.{Bool, true, _&&_}
 use mathlib.Core.List.{List, [], _∷_, _++_}
-use Prim.Native.Nat.{ℕ, zero, suc, _*_, _-_, _/_, _%_, _<_}
+use Prim.Native.Nat.{ℕ, zero, suc, _*_, _-_, _<_}
 use native.Mathlib.Omega.{arith}
 use borrow.Author.Tests.{ltb-true}
 use lib.Dec.{ltb}
@@ -40,23 +40,21 @@ statement kind a b c set = record { kind = kind; a = a; b = b; c = c; set = set;
 abbrev pub pickOrder : ℕ → Order
 pickOrder p = record { kind = 1; argument = p; count = 0 }
 
-abbrev pub advanceOrder : Order
-advanceOrder = record { kind = 2; argument = 0; count = 0 }
-
 abbrev pub settleOrder : ℕ → Order
 settleOrder n = record { kind = 3; argument = 0; count = n }
 
 abbrev pub readOrder : ℕ → Order
 readOrder s = record { kind = 4; argument = s; count = 0 }
 
+abbrev pub deltaStepOrder : Order
+deltaStepOrder = record { kind = 6; argument = 0; count = 0 }
+
+abbrev pub timeStepOrder : Order
+timeStepOrder = record { kind = 7; argument = 0; count = 0 }
+
 -- a block: its number, its kind, its records, and the two bytes of its sum
 abbrev pub block : ℕ → ℕ → ℕ → List ℕ → ℕ → ℕ → List ℕ
 block n kind count records low high = n ∷ 0 ∷ kind ∷ count ∷ records ++ (replicate (506 - 12 * count) 0 ++ (low ∷ high ∷ []))
-
--- the bytes of some orders
-abbrev pub orderBytes : List Order → List ℕ
-orderBytes [] = []
-orderBytes (o ∷ os) = o .kind ∷ o .argument ∷ o .count % 256 ∷ o .count / 256 ∷ orderBytes os
 
 -- bytes: each number is below 256
 abbrev pub areBytes : List ℕ → Bool

@@ -16,7 +16,7 @@ use Rattle.rules.specs.declared.driven.Driven.{Driven}
 use Rattle.rules.specs.declared.driven.Driven.the-variants.{To, Null}
 use Rattle.rules.specs.Configuration.{DriverState, Configuration, currentOf}
 use Rattle.session.specs.Lists.{Order, after}
-use Rattle.cases.specs.Forms.{signal, process, driver, node, statement, block, pickOrder, advanceOrder, settleOrder}
+use Rattle.cases.specs.Forms.{signal, process, driver, node, statement, block, pickOrder, settleOrder, deltaStepOrder, timeStepOrder}
 
 -- signal 0 is a bus and 1 a register, both starting at '0'; 2 is a bus without a driver, starting at '1'.
 -- Process 0: 0 and 1 <= '1' after 0; both <= null after 1; wait. Process 1: both <= null after 0; wait.
@@ -99,15 +99,15 @@ sharedBytes = flatten sharedBlocks
 
 -- up to the delta step in which process 0 drives and the drivers of process 1 turn off, and up to that in which all are off
 abbrev pub driven : List Order
-driven = settleOrder 10 ∷ advanceOrder ∷ []
+driven = settleOrder 10 ∷ deltaStepOrder ∷ []
 
 abbrev pub disconnected : List Order
-disconnected = driven ++ (advanceOrder ∷ advanceOrder ∷ [])
+disconnected = driven ++ (timeStepOrder ∷ deltaStepOrder ∷ [])
 
 -- the same with process 1 picked first
 abbrev pub swapped : List Order
 swapped =
-    pickOrder 1 ∷ pickOrder 1 ∷ pickOrder 0 ∷ pickOrder 1 ∷ settleOrder 10 ∷ advanceOrder ∷ advanceOrder ∷ advanceOrder ∷ []
+    pickOrder 1 ∷ pickOrder 1 ∷ pickOrder 0 ∷ pickOrder 1 ∷ settleOrder 10 ∷ deltaStepOrder ∷ timeStepOrder ∷ deltaStepOrder ∷ []
 
 -- one process: signal 0, of the kind, <= null after 0; wait
 abbrev pub assigningNull : ℕ → List DriverRecord → Model

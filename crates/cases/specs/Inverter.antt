@@ -13,7 +13,7 @@ use Rattle.session.specs.Sessions.{sessionOf}
 use Rattle.numerals.specs.Numerals.{lineFeed}
 use Rattle.text.specs.Text.{ended, textOf}
 use Rattle.vcd.specs.Lines.{wordOf}
-use Rattle.cases.specs.Forms.{signal, process, driver, node, statement, block, advanceOrder, settleOrder, readOrder}
+use Rattle.cases.specs.Forms.{signal, process, driver, node, statement, block, settleOrder, readOrder, deltaStepOrder, timeStepOrder}
 
 -- "Inverter: signals 0 = i, 1 = o, logic, both starting at value 0 (code 2). Process 0: o <= not i after 0; wait on i. Process
 -- 1: i <= 1 after 1; wait."
@@ -80,21 +80,22 @@ inverterBlocks = signalBlock ∷ processBlock ∷ driverBlock ∷ nodeBlock ∷ 
 unfoldable pub inverterBytes : List ℕ
 inverterBytes = flatten inverterBlocks
 
--- "Orders: settle 10, advance three times, settle 10, advance twice, read 1."
+-- "Orders: settle 10, advance three times, settle 10, advance twice, read 1." Document 02, item 9: "the bench case has 6, 7, 6 and then
+-- 6, 7"
 unfoldable pub inverterOrders : List Order
 inverterOrders =
-    settleOrder 10 ∷ advanceOrder ∷ advanceOrder ∷ advanceOrder ∷ settleOrder 10 ∷ advanceOrder ∷ advanceOrder ∷ readOrder 1 ∷ []
+    settleOrder 10 ∷ deltaStepOrder ∷ timeStepOrder ∷ deltaStepOrder ∷ settleOrder 10 ∷ deltaStepOrder ∷ timeStepOrder ∷ readOrder 1 ∷ []
 
 -- the same as bytes
 abbrev pub inverterOrderBytes : List ℕ
 inverterOrderBytes =
     3 ∷ 0 ∷ 10 ∷ 0
-    ∷ 2 ∷ 0 ∷ 0 ∷ 0
-    ∷ 2 ∷ 0 ∷ 0 ∷ 0
-    ∷ 2 ∷ 0 ∷ 0 ∷ 0
+    ∷ 6 ∷ 0 ∷ 0 ∷ 0
+    ∷ 7 ∷ 0 ∷ 0 ∷ 0
+    ∷ 6 ∷ 0 ∷ 0 ∷ 0
     ∷ 3 ∷ 0 ∷ 10 ∷ 0
-    ∷ 2 ∷ 0 ∷ 0 ∷ 0
-    ∷ 2 ∷ 0 ∷ 0 ∷ 0
+    ∷ 6 ∷ 0 ∷ 0 ∷ 0
+    ∷ 7 ∷ 0 ∷ 0 ∷ 0
     ∷ 4 ∷ 1 ∷ 0 ∷ 0
     ∷ []
 

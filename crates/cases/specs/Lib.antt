@@ -8,5 +8,6 @@ pub mod Inverter
 pub mod Guarded
 pub mod Claims
 pub mod Delays
+pub mod Moves
 pub mod Table
 pub mod Waves

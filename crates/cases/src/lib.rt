@@ -8,6 +8,7 @@ ghost use Rattle.cases.specs.Table.{rows, TableWhole};
 ghost use Rattle.cases.specs.Arithmetic.{DivisionUsed};
 ghost use Rattle.cases.specs.Faults.{FaultsUsed};
 ghost use Rattle.cases.specs.Inverter.{inverterLines, InverterPlayed};
+ghost use Rattle.cases.specs.Moves.{InverterMoved};
 ghost use Rattle.cases.specs.Waves.{inverterDump, InverterDumped};
 ghost use Rattle.cases.specs.Guarded.{guardedRows, GuardedPlayed};
 ghost use Rattle.cases.specs.Delays.{delayRows, DelaysPlayed, DelaysUsed};
@@ -25,11 +26,13 @@ pub fn bench_rows() -> usize
     129
 }
 
-// How many lines are printed of the inverter; that it is accepted and these are printed, and what refused orders leave of it.
+// How many lines are printed of the inverter; that it is accepted and these are printed, what refused orders leave of it, and that the
+// list of before moves over to its orders.
 pub fn inverter_lines() -> usize
     ensures { λ r. ⌜ r ≡ length inverterLines ⌝ }
     ensures { λ r. ⌜ InverterPlayed ⌝ }
     ensures { λ r. ⌜ InverterLaws ⌝ }
+    ensures { λ r. ⌜ InverterMoved ⌝ }
 {
     8
 }

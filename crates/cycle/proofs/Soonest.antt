@@ -23,7 +23,7 @@ use Rattle.rules.proofs.Earliest.{none-earlier}
 use Rattle.rules.proofs.DueTimes.{Within, driver-within, process-within, each-within, due-within, due-after}
 use Rattle.waveforms.specs.Pending.{never, firstTime, pendingOf, noDriver, NoneBefore}
 use Rattle.steps.specs.Entries.{deadlineOf}
-use Rattle.steps.specs.Due.{soonestOf, someIs}
+use Rattle.due.specs.Due.{soonestOf, someIs}
 use Rattle.cycle.specs.View.{viewOf, Valid}
 use Rattle.cycle.specs.declared.config.Config.{Config}
 use Rattle.cycle.proofs.ViewLaws.{nprocesses-is, ndrivers-is, pending-in, deadline-in, standing-in}

@@ -7,7 +7,7 @@ use lib.ListN.{getD}
 use Rattle.base.specs.Cases.{_∣_, _⇒_}
 use Rattle.rules.specs.Configuration.{ready}
 use Rattle.rules.specs.Orders.{faultAndNode}
-use Rattle.steps.specs.Due.{someIs}
+use Rattle.due.specs.Due.{someIs}
 use Rattle.members.specs.Members.{pickRefusal, setRefusal, stoppedIn}
 use Rattle.cycle.specs.View.{refusedAnswer}
 use Rattle.cycle.specs.declared.orders.Answer.{Answer}

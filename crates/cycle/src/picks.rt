@@ -9,6 +9,7 @@ use crate::config::Config;
 use crate::orders::Answer;
 use crate::orders::Answered;
 use blocks::index::Index;
+use due::any_standing;
 use expressions::effect::effect_of;
 use expressions::effect::next_place;
 use members::any_stopped;
@@ -19,7 +20,6 @@ use rules::READY;
 use rules::STOPPED;
 use rules::WAITING;
 use rules::effect::Effect;
-use steps::due::any_standing;
 use steps::sets::has;
 ghost use Rattle.cycle.specs.Turns.{picksRefusal, turnsOf, Tellable, Named, replyOf};
 

@@ -6,7 +6,7 @@ use mathlib.Core.List.{List, [], _∷_, _++_, map}
 use mathlib.Core.Option.{Option, none, some}
 use Prim.Native.Nat.{ℕ, zero, suc, _+_, _-_, _/_, _≤_, _<_, min}
 use native.Mathlib.Omega.{arith}
-use borrow.Author.Tests.{eqb-true, eqb-false}
+use borrow.Author.Tests.{eqb-true, eqb-false, ne-eqb}
 use lib.Dec.{eqb, ltb}
 use lib.ListN.{length, getD, replicate}
 use lib.Seq.{getD-take}
@@ -18,12 +18,12 @@ use Rattle.blocks.specs.Records.{Model}
 use Rattle.model.specs.Facts.{Facts}
 use Rattle.rules.specs.Configuration.{Transaction, Configuration, currentOf, driverIn, processIn, empty, lastTime}
 use Rattle.rules.specs.Invariant.{Reachable}
-use Rattle.rules.specs.Orders.{Outcome, Settled, refused, picked, timesIn, optional, earliest, dueTimes, dueNow, advanced, lowestReady, settledFrom, settled, setBits, pickedSet, readOf}
+use Rattle.rules.specs.Orders.{Outcome, Settled, refused, picked, timesIn, optional, earliest, dueTimes, dueNow, deltaStepped, timeStepped, lowestReady, settledFrom, settled, setBits, pickedSet, readOf}
 use Rattle.rules.specs.Statements.{applied, stepped}
 use Rattle.rules.specs.Steps.{dueIn, transactionDue, deadlineAt, deadlineDue, deltaStep, shifted, timeStep}
 use Rattle.rules.proofs.DueTimes.{no-transaction, no-deadline, due-after}
 use Rattle.rules.proofs.Earliest.{earliest-is, due-each}
-use Rattle.rules.proofs.Outcomes.{Pick, pick-refused, pick-done, pick-is, Advance, advance-refused, delta-done, time-done, advance-is, PickSet, set-refused, set-done, pick-set-is, Read, read-refused, read-done, read-is}
+use Rattle.rules.proofs.Outcomes.{Refusal, Pick, pick-refused, pick-done, pick-is, Delta, delta-refused, delta-done, delta-is, Time, time-refused, time-done, time-is, PickSet, set-refused, set-done, pick-set-is, Read, read-refused, read-done, read-is}
 use Rattle.rules.proofs.Sets.{by-members}
 use Rattle.session.specs.Lists.{Order, isKnown, performed}
 use Rattle.session.proofs.InTime.{performed-reachable}
@@ -71,12 +71,12 @@ module _ (M : Model) (o : Order) (c : Configuration) (r : Reachable M c) where
   abbrev Moving : Outcome → Type 0
   Moving x = Moves M c (stepsTime o x) (x .after)
 
-  -- an order of another kind than 2 keeps the time
-  other-moves : eqb (o .kind) 2 ≡ false → (x : Outcome) → x .after .time ≡ c .time → Moving x
+  -- an order of another kind than 7 keeps the time
+  other-moves : eqb (o .kind) 7 ≡ false → (x : Outcome) → x .after .time ≡ c .time → Moving x
   other-moves k x e = rw k (stays (x .after) e)
 
-  refused-moves : (n : ℕ) → Moving (refused n c)
-  refused-moves n = rw (and-true-false (eqb n 0) false refl, and-true-false (eqb (o .kind) 2) false refl) (stays c refl)
+  refused-moves : (n : ℕ) → Refusal n → Moving (refused n c)
+  refused-moves n h = rw (ne-eqb n 0 (λ z. omega arith), and-true-false (eqb (o .kind) 7) false refl) (stays c refl)
 
   pick-time : (p : ℕ) (x : Outcome) → Pick M c p x → x .after .time ≡ c .time
   pick-time p x (pick-refused n h) = refl
@@ -91,24 +91,29 @@ module _ (M : Model) (o : Order) (c : Configuration) (r : Reachable M c) where
   read-time s x (read-refused n h) = refl
   read-time s x (read-done there) = refl
 
-  advance-moves : eqb (o .kind) 2 ≡ true → (x : Outcome) → Advance M c x → Moving x
-  advance-moves k x (advance-refused n h) = refused-moves n
-  advance-moves k x (delta-done quiet due few) = rw (and-true-false (eqb (o .kind) 2) false refl) (stays (deltaStep M c) (unfold deltaStep in refl))
-  advance-moves k x (time-done t quiet due e low) = rw k (leaves t (due-after M c r t e due) due (due-then M c t e))
+  delta-time : (x : Outcome) → Delta M c x → x .after .time ≡ c .time
+  delta-time x (delta-refused n h) = refl
+  delta-time x (delta-done quiet due few) = unfold deltaStep in refl
+
+  time-moves : eqb (o .kind) 7 ≡ true → (x : Outcome) → Time M c x → Moving x
+  time-moves k x (time-refused n h) = refused-moves n h
+  time-moves k x (time-done t quiet due e low) = rw k (leaves t (due-after M c r t e due) due (due-then M c t e))
 
   pub performed-moves : Moves M c (stepsTime o (performed M o c)) (performed M o c .after)
   unfolding performed
   performed-moves =
-      by-test Moving (not (isKnown o)) _ _ (λ e. refused-moves 11)
+      by-test Moving (not (isKnown o)) _ _ (λ e. refused-moves 11 (omega arith))
       (λ e. by-test Moving (eqb (o .kind) 1) _ _
       (λ k. other-moves (rw (eqb-true (o .kind) 1 k)) (picked M (o .argument) c) (pick-time (o .argument) _ (pick-is M c (o .argument))))
-      (λ e. by-test Moving (eqb (o .kind) 2) _ _
-      (λ k. advance-moves k (advanced M c) (advance-is M c))
-      (λ k. by-test Moving (eqb (o .kind) 3) _ _
-      (λ e. other-moves k (settled M (o .count) c) (unfold settled in settled-time M (o .count) 0 c))
+      (λ e. by-test Moving (eqb (o .kind) 3) _ _
+      (λ k. other-moves (rw (eqb-true (o .kind) 3 k)) (settled M (o .count) c) (unfold settled in settled-time M (o .count) 0 c))
       (λ e. by-test Moving (eqb (o .kind) 5) _ _
-      (λ e. other-moves k (pickedSet M (o .count) c) (set-time (o .count) _ (pick-set-is M c (o .count))))
-      (λ e. other-moves k (readOf M (o .argument) c) (read-time (o .argument) _ (read-is M c (o .argument))))))))
+      (λ k. other-moves (rw (eqb-true (o .kind) 5 k)) (pickedSet M (o .count) c) (set-time (o .count) _ (pick-set-is M c (o .count))))
+      (λ e. by-test Moving (eqb (o .kind) 6) _ _
+      (λ k. other-moves (rw (eqb-true (o .kind) 6 k)) (deltaStepped M c) (delta-time _ (delta-is M c)))
+      (λ e. by-test Moving (eqb (o .kind) 7) _ _
+      (λ k. time-moves k (timeStepped M c) (time-is M c))
+      (λ k. other-moves k (readOf M (o .argument) c) (read-time (o .argument) _ (read-is M c (o .argument)))))))))
 
 -- a time step alters no current value
 front-same : (m : ℕ) (h : List ℕ) → getD (replicate m (getD h 0 0) ++ h) 0 0 ≡ getD h 0 0

@@ -14,9 +14,9 @@ use Rattle.session.specs.Lists.{Order, ordersOf, performed}
 use Rattle.vcd.specs.Vcd.{Row}
 use Rattle.vcd.specs.Writing.{rowsOf}
 
--- an order that came to r is a done time step: "for an advance 1 delta or 2 time"
+-- an order that came to r is a done time step: order 7 (document 02, item 9)
 abbrev pub stepsTime : Order → Outcome → Bool
-stepsTime o r = eqb (o .kind) 2 && (eqb (r .refusal) 0 && eqb (r .byte) 2)
+stepsTime o r = eqb (o .kind) 7 && eqb (r .refusal) 0
 
 -- the configurations just before a time step, and the one at the end: "Settled means the value just before a time step, or at the end."
 unfoldable pub settledIn : Model → List Order → Configuration → List Configuration

@@ -21,7 +21,7 @@ use Rattle.rules.specs.Configuration.{Configuration, processIn, lastTime
 use Rattle.rules.specs.Evaluation.{environmentOf, nextValue, evalOf}
 use Rattle.rules.specs.Statements.{effectBy, effectOf, applied, stepped}
 use Rattle.rules.specs.Steps.{signalAfter, signalsAfter, earlierAfter, wokenAt, processAfterDelta, deltaStep, timeStep, inSet}
-use Rattle.rules.specs.Orders.{Outcome, isReady, isStopped, pickDone, picked, dueTimes, earliest, dueNow, advanceDone, timeOrder, advanced, lowestReady, Settled, settledFrom, settleDone, settled, setBits, someMember, steppedBelow, setDone, pickedSet, readOf}
+use Rattle.rules.specs.Orders.{Outcome, isReady, isStopped, pickDone, picked, dueTimes, earliest, dueNow, advanceDone, advancing, deltaOrder, timeOrder, deltaStepped, timeStepped, lowestReady, Settled, settledFrom, settleDone, settled, setBits, someMember, steppedBelow, setDone, pickedSet, readOf}
 use Rattle.rules.specs.Delays.{NoDelayOfZero, formerEnvironment, withoutEarlier}
 use Rattle.rules.proofs.Evaluation.{read-same}
 
@@ -45,7 +45,7 @@ module _ (M : Model) (free : NoDelayOfZero M) (vs : List ℕ) (ss : List (List �
 abbrev pub bare : Outcome → Outcome
 bare o = record { refusal = o .refusal; byte = o .byte; picks = o .picks; value = o .value; after = withoutEarlier (o .after) }
 
--- an advance looks at no earlier value
+-- a delta step and a time step look at no earlier value
 module _ (M : Model) (c : Configuration) where
   abbrev c₀ : Configuration
   c₀ = withoutEarlier c
@@ -54,19 +54,28 @@ module _ (M : Model) (c : Configuration) where
   unfolding deltaStep signalsAfter signalAfter earlierAfter processAfterDelta wokenAt
   delta-bare = refl
 
+  delta-order-bare : bare (deltaOrder M c) ≡ bare (deltaOrder M c₀)
+  delta-order-bare =
+      choices-by bare (leb deltaLimit (c .deltas)) _ _ _ _ (λ b. refl) (λ b. ap (λ (d : Configuration). bare (advanceDone 1 d)) delta-bare)
+
   time-bare : (t : Option ℕ) → bare (timeOrder t c) ≡ bare (timeOrder t c₀)
   unfolding timeStep
   time-bare none = refl
   time-bare (some t) = choices-by bare (ltb lastTime t) _ _ _ _ (λ b. refl) (λ b. refl)
 
-  pub advance-bare : bare (advanced M c) ≡ bare (advanced M c₀)
-  unfolding advanced isReady isStopped dueNow dueTimes
-  advance-bare =
+  advancing-bare : (r r₀ : Outcome) → bare r ≡ bare r₀ → bare (advancing M c r) ≡ bare (advancing M c₀ r₀)
+  unfolding isReady isStopped
+  advancing-bare r r₀ e =
       choices-by bare (anyBelow (λ p. isReady p c) (length (M .processes))) _ _ _ _ (λ b. refl)
-      (λ b. choices-by bare (anyBelow (λ p. isStopped p c) (length (M .processes))) _ _ _ _ (λ b. refl)
-      (λ b. choices-by bare (dueNow M c) _ _ _ _
-      (λ b. choices-by bare (leb deltaLimit (c .deltas)) _ _ _ _ (λ b. refl) (λ b. ap (λ (d : Configuration). bare (advanceDone 1 d)) delta-bare))
-      (λ b. time-bare (earliest (dueTimes M c)))))
+      (λ b. choices-by bare (anyBelow (λ p. isStopped p c) (length (M .processes))) _ _ _ _ (λ b. refl) (λ b. e))
+
+  pub delta-step-bare : bare (deltaStepped M c) ≡ bare (deltaStepped M c₀)
+  unfolding deltaStepped dueNow
+  delta-step-bare = advancing-bare _ _ (choices-by bare (not (dueNow M c)) _ _ _ _ (λ b. refl) (λ b. delta-order-bare))
+
+  pub time-step-bare : bare (timeStepped M c) ≡ bare (timeStepped M c₀)
+  unfolding timeStepped dueNow dueTimes
+  time-step-bare = advancing-bare _ _ (choices-by bare (dueNow M c) _ _ _ _ (λ b. refl) (λ b. time-bare (earliest (dueTimes M c))))
 
   pub read-bare : (s : ℕ) → bare (readOf M s c) ≡ bare (readOf M s c₀)
   unfolding readOf

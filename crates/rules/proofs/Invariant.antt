@@ -14,10 +14,10 @@ use Rattle.model.specs.Facts.{Facts}
 use Rattle.rules.specs.declared.value.Failure.{Failure}
 use Rattle.rules.specs.Configuration.{ProcessState, Configuration}
 use Rattle.rules.specs.Statements.{stepped}
-use Rattle.rules.specs.Orders.{Outcome, isReady, picked, advanced, lowestReady, Settled, settledFrom, settled, setBits, pickedSet, readOf}
+use Rattle.rules.specs.Orders.{Outcome, isReady, picked, deltaStepped, timeStepped, lowestReady, Settled, settledFrom, settled, setBits, pickedSet, readOf}
 use Rattle.rules.specs.Evaluation.{failure, noNode}
 use Rattle.rules.specs.Invariant.{Stopping, ProcessValid, Reachable}
-use Rattle.rules.proofs.Outcomes.{Pick, pick-refused, pick-done, pick-is, Advance, advance-refused, delta-done, time-done, advance-is, PickSet, set-refused, set-done, pick-set-is, Read, read-refused, read-done, read-is}
+use Rattle.rules.proofs.Outcomes.{Pick, pick-refused, pick-done, pick-is, Delta, delta-refused, delta-done, delta-is, Time, time-refused, time-done, time-is, PickSet, set-refused, set-done, pick-set-is, Read, read-refused, read-done, read-is}
 use Rattle.rules.proofs.Sets.{by-members}
 use Rattle.rules.proofs.StepReachable.{stepped-reachable}
 use Rattle.rules.proofs.AdvanceReachable.{delta-reachable, time-reachable}
@@ -61,13 +61,19 @@ module _ (M : Model) (fs : Facts M) (c : Configuration) (r : Reachable M c) wher
   pub picked-reachable : (p : ℕ) → Keeps (picked M p c)
   picked-reachable p = pick-keeps p (picked M p c) (pick-is M c p)
 
-  advance-keeps : (o : Outcome) → Advance M c o → Keeps o
-  advance-keeps o (advance-refused n f) = r
-  advance-keeps o (delta-done quiet due few) = delta-reachable M fs c r few
-  advance-keeps o (time-done t quiet due e low) = time-reachable M c r t e low
+  delta-keeps : (o : Outcome) → Delta M c o → Keeps o
+  delta-keeps o (delta-refused n f) = r
+  delta-keeps o (delta-done quiet due few) = delta-reachable M fs c r few
 
-  pub advanced-reachable : Keeps (advanced M c)
-  advanced-reachable = advance-keeps (advanced M c) (advance-is M c)
+  pub delta-step-reachable : Keeps (deltaStepped M c)
+  delta-step-reachable = delta-keeps (deltaStepped M c) (delta-is M c)
+
+  time-keeps : (o : Outcome) → Time M c o → Keeps o
+  time-keeps o (time-refused n f) = r
+  time-keeps o (time-done t quiet due e low) = time-reachable M c r t e low
+
+  pub time-step-reachable : Keeps (timeStepped M c)
+  time-step-reachable = time-keeps (timeStepped M c) (time-is M c)
 
   pub settled-reachable : (n : ℕ) → Keeps (settled M n c)
   unfolding settled

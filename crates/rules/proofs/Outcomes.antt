@@ -1,27 +1,27 @@
 -- What each order comes to, a case for each way in which the tests of its definition fall.
 -- Assumes nothing.
-use mathlib.Core.Path.{_≡_, refl}
-use mathlib.Core.Bool.{true, false, not}
+use mathlib.Core.Path.{_≡_, refl, sym}
+use mathlib.Core.Bool.{true, false, true≢false, not}
 use mathlib.Core.Option.{Option, none, some}
 use Prim.Native.Nat.{ℕ, _≤_, _<_}
 use native.Mathlib.Omega.{arith}
 use borrow.Author.Tests.{ltb-false, leb-false, lt-leb, not-false}
-use lib.Dec.{ltb, leb}
+use lib.Dec.{eqb, ltb, leb}
 use lib.ListN.{length}
 use Rattle.base.specs.Below.{anyBelow}
 use Rattle.base.proofs.Below.{any-none}
-use Rattle.base.proofs.Cases.{by-test}
+use Rattle.base.proofs.Cases.{by-test, either-way}
 use Rattle.blocks.specs.Records.{Model}
 use Rattle.rules.specs.Configuration.{Configuration, currentOf, lastTime}
 use Rattle.rules.specs.Statements.{stepped}
 use Rattle.rules.specs.Steps.{deltaStep, timeStep}
-use Rattle.rules.specs.Orders.{Outcome, refused, isReady, isStopped, pickDone, picked, dueTimes, earliest, dueNow, advanceDone, timeOrder, advanced, setBits, someMember, steppedBelow, setDone, pickedSet, readOf}
+use Rattle.rules.specs.Orders.{Outcome, refused, isReady, isStopped, pickDone, picked, dueTimes, earliest, dueNow, advanceDone, advancing, timeOrder, deltaStepped, timeStepped, setBits, someMember, steppedBelow, setDone, pickedSet, readOf}
 use Rattle.rules.proofs.Sets.{Chosen, chosen}
 
--- the number of an order's refusal: 11 to 19
+-- the number of an order's refusal: 11 to 19, 22 and 23 (20 and 21 are no order's)
 pub record Refusal (n : ℕ) : Type 0 where
   pub least : 11 ≤ n
-  pub most : n ≤ 19
+  pub most : n ≤ 23
 
 module _ (M : Model) (c : Configuration) where
   -- a pick of process p
@@ -42,36 +42,65 @@ module _ (M : Model) (c : Configuration) where
   unfolding picked
   pick-of-ready p there ready = rw (lt-leb _ _ there, ready)
 
-  -- an advance
   abbrev pub NoneReady : Type 0
   NoneReady = (p : ℕ) → p < length (M .processes) → isReady p c ≡ false
 
-  pub data Advance : Outcome → Type 0 where
-    advance-refused : (n : ℕ) → Refusal n → Advance (refused n c)
-    delta-done : NoneReady → dueNow M c ≡ true → c .deltas < 1000 → Advance (advanceDone 1 (deltaStep M c))
-    time-done : (t : ℕ) → NoneReady → dueNow M c ≡ false → earliest (dueTimes M c) ≡ some t → t ≤ lastTime
-        → Advance (advanceDone 2 (timeStep t c))
+  -- 14 and 15, or what comes after them
+  advancing-is : (P : Outcome → Type 0) → ((n : ℕ) → Refusal n → P (refused n c)) → (r : Outcome) → (NoneReady → P r) → P (advancing M c r)
+  advancing-is P refuses r f =
+      by-test P (anyBelow (λ p. isReady p c) (length (M .processes))) _ _
+      (λ e. refuses 14 (omega arith))
+      (λ quiet. by-test P (anyBelow (λ p. isStopped p c) (length (M .processes))) _ _
+      (λ e. refuses 15 (omega arith))
+      (λ e. f (any-none (λ p. isReady p c) (length (M .processes)) quiet)))
 
-  time-is : NoneReady → dueNow M c ≡ false → (o : Option ℕ) → earliest (dueTimes M c) ≡ o → Advance (timeOrder o c)
-  time-is quiet due none e = advance-refused 17 (omega arith)
-  time-is quiet due (some t) e =
-      by-test Advance (ltb lastTime t) _ _
-      (λ late. advance-refused 18 (omega arith))
+  -- a delta step
+  pub data Delta : Outcome → Type 0 where
+    delta-refused : (n : ℕ) → Refusal n → Delta (refused n c)
+    delta-done : NoneReady → dueNow M c ≡ true → c .deltas < 1000 → Delta (advanceDone 1 (deltaStep M c))
+
+  pub delta-is : Delta (deltaStepped M c)
+  unfolding deltaStepped
+  delta-is =
+      advancing-is Delta delta-refused _
+      (λ quiet. by-test Delta (not (dueNow M c)) _ _
+      (λ e. delta-refused 22 (omega arith))
+      (λ due. by-test Delta (leb 1000 (c .deltas)) _ _
+      (λ e. delta-refused 16 (omega arith))
+      (λ few. delta-done quiet (not-false _ due) (leb-false _ _ few))))
+
+  -- a time step
+  pub data Time : Outcome → Type 0 where
+    time-refused : (n : ℕ) → Refusal n → Time (refused n c)
+    time-done : (t : ℕ) → NoneReady → dueNow M c ≡ false → earliest (dueTimes M c) ≡ some t → t ≤ lastTime
+        → Time (advanceDone 2 (timeStep t c))
+
+  time-order : NoneReady → dueNow M c ≡ false → (o : Option ℕ) → earliest (dueTimes M c) ≡ o → Time (timeOrder o c)
+  time-order quiet due none e = time-refused 17 (omega arith)
+  time-order quiet due (some t) e =
+      by-test Time (ltb lastTime t) _ _
+      (λ late. time-refused 18 (omega arith))
       (λ low. time-done t quiet due e (ltb-false _ _ low))
 
-  pub advance-is : Advance (advanced M c)
-  unfolding advanced
-  advance-is =
-      by-test Advance _ _ _
-      (λ e. advance-refused 14 (omega arith))
-      (λ quiet. let none-ready = any-none (λ p. isReady p c) (length (M .processes)) quiet in
-      by-test Advance (anyBelow (λ p. isStopped p c) (length (M .processes))) _ _
-      (λ e. advance-refused 15 (omega arith))
-      (λ e. by-test Advance (dueNow M c) _ _
-      (λ due. by-test Advance (leb 1000 (c .deltas)) _ _
-      (λ e. advance-refused 16 (omega arith))
-      (λ few. delta-done none-ready due (leb-false _ _ few)))
-      (λ due. time-is none-ready due (earliest (dueTimes M c)) refl)))
+  pub time-is : Time (timeStepped M c)
+  unfolding timeStepped
+  time-is =
+      advancing-is Time time-refused _
+      (λ quiet. by-test Time (dueNow M c) _ _ (λ e. time-refused 23 (omega arith)) (λ due. time-order quiet due (earliest (dueTimes M c)) refl))
+
+  -- where a time step is done, a delta step is refused
+  advancing-one : (r s : Outcome) → (eqb (r .refusal) 0 ≡ true → eqb (s .refusal) 0 ≡ false)
+      → eqb (advancing M c r .refusal) 0 ≡ true → eqb (advancing M c s .refusal) 0 ≡ false
+  advancing-one r s f =
+      either-way (anyBelow (λ p. isReady p c) (length (M .processes)))
+      (λ e. rw e (λ h. refl))
+      (λ q. either-way (anyBelow (λ p. isStopped p c) (length (M .processes))) (λ e. rw (q, e) (λ h. refl)) (λ e. rw (q, e) f))
+
+  pub one-step : eqb (timeStepped M c .refusal) 0 ≡ true → eqb (deltaStepped M c .refusal) 0 ≡ false
+  unfolding deltaStepped timeStepped
+  one-step =
+      advancing-one _ _
+      (either-way (dueNow M c) (λ due. rw due (λ h. absurd (true≢false (sym h)))) (λ due. rw due (λ h. refl)))
 
   -- a pick of a set
   pub data PickSet (set : ℕ) : Outcome → Type 0 where

@@ -1,4 +1,4 @@
--- Pick, advance, settle, pick of a set and read: what each answers and the configuration it hands back.
+-- Pick, settle, pick of a set, delta step, time step and read: what each answers and the configuration it hands back.
 use mathlib.Core.Bool.{Bool, not, _&&_, _||_}
 use mathlib.Core.List.{List, [], _∷_, _++_}
 use mathlib.Core.Option.{Option, none, some}
@@ -79,9 +79,16 @@ dueNow M c =
     anyBelow (λ k. transactionDue (c .time) (driverIn (c .drivers) k)) (length (M .drivers))
     || anyBelow (λ p. deadlineDue (c .time) (processIn (c .processes) p)) (length (M .processes))
 
--- "for an advance 1 delta or 2 time"
+-- "order 6 does a delta step (byte 1 is 1), order 7 a time step (2)": a done one of the two is an advance
 abbrev pub advanceDone : ℕ → Configuration → Outcome
 advanceDone n c = record { refusal = 0; byte = n; picks = 0; value = 0; after = c }
+
+-- 14. "Advance: a process is ready." 15. "Advance: one is stopped." Document 02, item 9: "14 and 15 hold for both", order 6 and order 7
+abbrev pub advancing : Model → Configuration → Outcome → Outcome
+advancing M c r =
+    anyBelow (λ p. isReady p c) (length (M .processes)) ⇒ refused 14 c
+    ∣ anyBelow (λ p. isStopped p c) (length (M .processes)) ⇒ refused 15 c
+    ∣ r
 
 -- 16. "Something due now after 1,000 delta steps at this time."
 abbrev pub deltaOrder : Model → Configuration → Outcome
@@ -92,13 +99,13 @@ abbrev pub timeOrder : Option ℕ → Configuration → Outcome
 timeOrder none c = refused 17 c
 timeOrder (some t) c = ltb lastTime t ⇒ refused 18 c ∣ advanceDone 2 (timeStep t c)
 
--- 14. "Advance: a process is ready." 15. "Advance: one is stopped."
-unfoldable pub advanced : Model → Configuration → Outcome
-advanced M c =
-    anyBelow (λ p. isReady p c) (length (M .processes)) ⇒ refused 14 c
-    ∣ anyBelow (λ p. isStopped p c) (length (M .processes)) ⇒ refused 15 c
-    ∣ dueNow M c ⇒ deltaOrder M c
-    ∣ timeOrder (earliest (dueTimes M c)) c
+-- order 6: "22, order 6 with nothing due now, after 15"
+unfoldable pub deltaStepped : Model → Configuration → Outcome
+deltaStepped M c = advancing M c (not (dueNow M c) ⇒ refused 22 c ∣ deltaOrder M c)
+
+-- order 7: "23, order 7 with something due now, after 15"
+unfoldable pub timeStepped : Model → Configuration → Outcome
+timeStepped M c = advancing M c (dueNow M c ⇒ refused 23 c ∣ timeOrder (earliest (dueTimes M c)) c)
 
 -- the lowest ready process, or the number of processes where none is ready
 unfoldable pub lowestReady : Model → Configuration → ℕ

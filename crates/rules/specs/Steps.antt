@@ -1,4 +1,4 @@
--- The delta step and the time step of an advance.
+-- The delta step and the time step.
 use mathlib.Core.Bool.{Bool, false, not, _&&_}
 use mathlib.Core.List.{List, [], _∷_, _++_, map}
 use mathlib.Core.Option.{Option, none, some}

@@ -1,16 +1,16 @@
--- What the bytes of an answer and of an order say: the refusal, the picks made, the fault and its node, the count.
+-- What the bytes of an answer and of an order say: the refusal, the picks made, the fault and its node, the fields.
 -- Assumes nothing.
-use mathlib.Core.Path.{_≡_}
+use mathlib.Core.Path.{_≡_, refl, ap, _∙_}
 use mathlib.Core.List.{List, [], _∷_}
-use Prim.Native.Nat.{ℕ, zero, suc, _*_, _≤_, _<_}
+use Prim.Native.Nat.{ℕ, suc, _*_, _/_, _≤_, _<_}
 use native.Mathlib.Omega.{arith}
-use lib.ListN.{take, drop}
+use lib.ListN.{length, take, drop}
 use lib.Seq.{getD-take, getD-drop}
 use Rattle.base.specs.Below.{listBelow, All}
 use Rattle.base.specs.Bytes.{byteAt, wordAt}
+use Rattle.base.proofs.Below.{list-all, list-first, list-same}
 use Rattle.rules.specs.Orders.{Outcome, faultAndNode}
-use Rattle.base.proofs.All.{all-append}
-use Rattle.session.specs.Lists.{Order, orderOf, ordersOf, answerOf}
+use Rattle.session.specs.Lists.{Order, orderOf, ordersOf, orderBytes, answerOf}
 use Rattle.session.specs.Demand3.{Bytes}
 
 -- byte 0 is the refusal
@@ -37,23 +37,44 @@ module _ (r : Outcome) {f n : ℕ} (e : r .value ≡ faultAndNode f n) (small : 
   unfolding answerOf
   node-word = omega arith
 
--- the count of an order is 16 bits
-abbrev pub Small : List Order → Type 0
-Small = All (λ o. o .count < 65536)
+-- an order's kind and argument are 8 bits, its count 16
+pub record Narrow (o : Order) : Type 0 where
+  pub kind : o .kind < 256
+  pub argument : o .argument < 256
+  pub count : o .count < 65536
 
-small-below : (f : ℕ → Order) → ((i : ℕ) → f i .count < 65536) → (n : ℕ) → Small (listBelow f n)
-unfolding listBelow
-small-below f h zero = tt
-small-below f h (suc n) = all-append (λ o. o .count < 65536) (listBelow f n) (f n ∷ []) (small-below f h n) (h n, tt)
+abbrev pub Small : List Order → Type 0
+Small = All Narrow
 
 -- byte j of order i
 byte-small : (xs : Bytes) (i j : ℕ) → j < 4 → byteAt (take 4 (drop (4 * i) (xs .bytes))) j < 256
 byte-small xs i j h = rw (getD-take 4 (drop (4 * i) (xs .bytes)) j 0 h, getD-drop) (xs .small _)
 
-count-small : (xs : Bytes) (i : ℕ) → orderOf (take 4 (drop (4 * i) (xs .bytes))) .count < 65536
+order-narrow : (xs : Bytes) (i : ℕ) → Narrow (orderOf (take 4 (drop (4 * i) (xs .bytes))))
 unfolding orderOf
-count-small xs i = omega (arith, byte-small xs i 2 (omega arith), byte-small xs i 3 (omega arith))
+order-narrow xs i =
+    record {
+      kind = byte-small xs i 0 (omega arith);
+      argument = byte-small xs i 1 (omega arith);
+      count = omega (arith, byte-small xs i 2 (omega arith), byte-small xs i 3 (omega arith));
+    }
 
 pub orders-small : (xs : Bytes) → Small (ordersOf (xs .bytes))
 unfolding ordersOf
-orders-small xs = small-below _ (count-small xs) _
+orders-small xs = list-all Narrow _ _ (λ i h. order-narrow xs i)
+
+-- the orders of the bytes of some orders are these
+first-order : (o : Order) (os : List Order) → Narrow o → orderOf (take 4 (orderBytes (o ∷ os))) ≡ o
+unfolding orderOf
+first-order o os n = let e : wordAt (take 4 (orderBytes (o ∷ os))) 2 ≡ o .count = omega (arith, n .count) in rw e
+
+pub orders-of-bytes : (os : List Order) → Small os → ordersOf (orderBytes os) ≡ os
+unfolding ordersOf listBelow
+orders-of-bytes [] n = refl
+orders-of-bytes (o ∷ os) n =
+    let rest = orderBytes os in
+    let e : length (orderBytes (o ∷ os)) / 4 ≡ suc (length rest / 4) = omega arith in
+    rw (e, list-first (λ i. orderOf (take 4 (drop (4 * i) (orderBytes (o ∷ os))))) (length rest / 4), first-order o os (n .0))
+    (ap (λ (r : List Order). o ∷ r)
+    (list-same _ (λ i. orderOf (take 4 (drop (4 * i) rest))) (length rest / 4) (λ i h. let m : 4 * suc i ≡ suc (suc (suc (suc (4 * i)))) = omega arith in rw m)
+    ∙ orders-of-bytes os (n .1)))

@@ -9,7 +9,7 @@ use Rattle.rules.specs.Configuration.{Configuration}
 use Rattle.rules.specs.Orders.{Outcome}
 use Rattle.rules.specs.Steps.{deltaStep}
 use Rattle.rules.specs.Delays.{NoDelayOfZero, withoutEarlier, SameButEarlier}
-use Rattle.rules.proofs.Delays.{former-value, bare, delta-bare, advance-bare, read-bare, pick-bare, settle-bare, pick-set-bare}
+use Rattle.rules.proofs.Delays.{former-value, bare, delta-bare, delta-step-bare, time-step-bare, read-bare, pick-bare, settle-bare, pick-set-bare}
 use Rattle.session.specs.Lists.{Order, Played, isKnown, performed, answerOf, answered, played}
 use Rattle.session.specs.DelayLaws.{SamePlay, DelayLaws}
 
@@ -19,10 +19,11 @@ module _ (M : Model) (free : NoDelayOfZero M) where
   order-bare o c =
       either-way (not (isKnown o)) (λ u. rw u)
       (λ u. either-way (eqb (o .kind) 1) (λ k. rw (u, k) (pick-bare M free c (o .argument)))
-      (λ no1. either-way (eqb (o .kind) 2) (λ k. rw (u, no1, k) (advance-bare M c))
-      (λ no2. either-way (eqb (o .kind) 3) (λ k. rw (u, no1, no2, k) (settle-bare M free (o .count) c))
-      (λ no3. either-way (eqb (o .kind) 5) (λ k. rw (u, no1, no2, no3, k) (pick-set-bare M free (o .count) c))
-      (λ no5. rw (u, no1, no2, no3, no5) (read-bare M c (o .argument)))))))
+      (λ no1. either-way (eqb (o .kind) 3) (λ k. rw (u, no1, k) (settle-bare M free (o .count) c))
+      (λ no3. either-way (eqb (o .kind) 5) (λ k. rw (u, no1, no3, k) (pick-set-bare M free (o .count) c))
+      (λ no5. either-way (eqb (o .kind) 6) (λ k. rw (u, no1, no3, no5, k) (delta-step-bare M c))
+      (λ no6. either-way (eqb (o .kind) 7) (λ k. rw (u, no1, no3, no5, no6, k) (time-step-bare M c))
+      (λ no7. rw (u, no1, no3, no5, no6, no7) (read-bare M c (o .argument))))))))
 
   -- what a list gives, but for the earlier values at its end
   abbrev barePlayed : Played → Played

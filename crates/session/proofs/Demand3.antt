@@ -8,6 +8,7 @@ use native.Mathlib.Omega.{arith}
 use borrow.Author.Tests.{ne-eqb}
 use lib.Dec.{eqb}
 use lib.ListN.{length}
+use Rattle.base.proofs.Cases.{by-test, either-way}
 use Rattle.determinacy.specs.Kernel.{Laws, NormalForm}
 use Rattle.determinacy.specs.Determinacy.{Determinacy}
 use Rattle.determinacy.proofs.Run.{determinate as by-runs}
@@ -18,10 +19,10 @@ use Rattle.model.proofs.Facts.{facts}
 use Rattle.rules.specs.Configuration.{Configuration, first}
 use Rattle.rules.specs.Statements.{stepped}
 use Rattle.rules.specs.Invariant.{Reachable}
-use Rattle.rules.specs.Orders.{Outcome, isReady, picked}
-use Rattle.rules.proofs.Outcomes.{Pick, pick-refused, pick-done, pick-is, pick-of-ready, NoneReady, Advance, advance-refused, delta-done, time-done, advance-is}
+use Rattle.rules.specs.Orders.{Outcome, isReady, picked, deltaStepped}
+use Rattle.rules.proofs.Outcomes.{Pick, pick-refused, pick-done, pick-is, pick-of-ready, NoneReady, Delta, delta-refused, delta-done, delta-is, Time, time-refused, time-done, time-is}
 use Rattle.rules.proofs.FirstReachable.{first-reachable}
-use Rattle.rules.proofs.Invariant.{picked-reachable, advanced-reachable}
+use Rattle.rules.proofs.Invariant.{picked-reachable, delta-step-reachable, time-step-reachable}
 use Rattle.rules.proofs.Picks.{steps-commute, standing-stays}
 use Rattle.session.specs.Demand3.{kernelOf, tallyOf, Determinate}
 use Rattle.session.proofs.Answers.{orders-small}
@@ -49,11 +50,25 @@ module _ (M : Model) (facts : Facts M) where
   normal : (c : Configuration) → NoneReady M c → NormalForm (kernelOf M) c
   normal c quiet p = none-by p c quiet (pick-is M c p)
 
-  -- an advance that is done finds no process ready
-  quiet-by : (c : Configuration) {r : Outcome} → Advance M c r → eqb (r .refusal) 0 ≡ true → NoneReady M c
-  quiet-by c (advance-refused n h) done = absurd (true≢false (sym done ∙ ne-eqb n 0 (λ z. omega arith)))
-  quiet-by c (delta-done quiet due few) done = quiet
-  quiet-by c (time-done t quiet due at low) done = quiet
+  -- a step that is done finds no process ready
+  delta-quiet : (c : Configuration) {r : Outcome} → Delta M c r → eqb (r .refusal) 0 ≡ true → NoneReady M c
+  delta-quiet c (delta-refused n h) done = absurd (true≢false (sym done ∙ ne-eqb n 0 (λ z. omega arith)))
+  delta-quiet c (delta-done quiet due few) done = quiet
+
+  time-quiet : (c : Configuration) {r : Outcome} → Time M c r → eqb (r .refusal) 0 ≡ true → NoneReady M c
+  time-quiet c (time-refused n h) done = absurd (true≢false (sym done ∙ ne-eqb n 0 (λ z. omega arith)))
+  time-quiet c (time-done t quiet due at low) done = quiet
+
+  -- an advance is a delta step, or a time step where no delta step is done
+  quiet : (c : Configuration) → kernelOf M .can-advance c ≡ true → NoneReady M c
+  quiet c =
+      either-way (eqb (deltaStepped M c .refusal) 0)
+      (λ d h. delta-quiet c (delta-is M c) d)
+      (λ d h. time-quiet c (time-is M c) (rw d at h))
+
+  advanced-sound : (c : Configuration) → Reachable M c → Reachable M (kernelOf M .advanced c)
+  advanced-sound c s =
+      by-test (Reachable M) (eqb (deltaStepped M c .refusal) 0) _ _ (λ d. delta-step-reachable M facts c s) (λ d. time-step-reachable M facts c s)
 
   -- the diamond
   stays-ready : (p q : ℕ) (c : Configuration) → p ≢ q → Ready p c → Ready q c → kernelOf M .ready q (kernelOf M .step p c) ≡ true
@@ -76,8 +91,8 @@ module _ (M : Model) (facts : Facts M) where
       record {
         Sound = Reachable M;
         step-sound = λ p c s r. picked-reachable M facts c s p;
-        advanced-sound = λ c s r. advanced-reachable M facts c s;
-        advances-normal = λ c s r. normal c (quiet-by c (advance-is M c) r);
+        advanced-sound = λ c s r. advanced-sound c s;
+        advances-normal = λ c s r. normal c (quiet c r);
         stays-ready = λ p q c s other rp rq. stays-ready p q c other (ready-of p c rp) (ready-of q c rq);
         commutes = λ p q c s other rp rq. commutes p q c s other (ready-of p c rp) (ready-of q c rq);
       }

@@ -17,7 +17,7 @@ use Rattle.rules.specs.Configuration.{Configuration, first, lastTime}
 use Rattle.rules.specs.Invariant.{Reachable}
 use Rattle.rules.specs.Orders.{Outcome}
 use Rattle.rules.proofs.FirstReachable.{first-reachable}
-use Rattle.rules.proofs.Invariant.{picked-reachable, advanced-reachable, settled-reachable, pickedSet-reachable, read-reachable}
+use Rattle.rules.proofs.Invariant.{picked-reachable, settled-reachable, pickedSet-reachable, delta-step-reachable, time-step-reachable, read-reachable}
 use Rattle.session.specs.Lists.{Order, isKnown, ordersOf, performed, played}
 use Rattle.session.specs.Sessions.{Session, numberOf, sessionOf}
 use Rattle.session.proofs.SessionLaws.{model-refused}
@@ -31,10 +31,11 @@ module _ (M : Model) (fs : Facts M) where
   performed-reachable o c r =
       by-test Keeps (not (isKnown o)) _ _ (λ e. r)
       (λ e. by-test Keeps (eqb (o .kind) 1) _ _ (λ k. picked-reachable M fs c r (o .argument))
-      (λ e. by-test Keeps (eqb (o .kind) 2) _ _ (λ k. advanced-reachable M fs c r)
       (λ e. by-test Keeps (eqb (o .kind) 3) _ _ (λ k. settled-reachable M fs c r (o .count))
       (λ e. by-test Keeps (eqb (o .kind) 5) _ _ (λ k. pickedSet-reachable M fs c r (o .count))
-      (λ e. read-reachable M fs c r (o .argument))))))
+      (λ e. by-test Keeps (eqb (o .kind) 6) _ _ (λ k. delta-step-reachable M fs c r)
+      (λ e. by-test Keeps (eqb (o .kind) 7) _ _ (λ k. time-step-reachable M fs c r)
+      (λ e. read-reachable M fs c r (o .argument)))))))
 
   pub played-reachable : (os : List Order) (c : Configuration) → Reachable M c → Reachable M (played M os c .end)
   unfolding played

@@ -11,7 +11,7 @@ use Rattle.blocks.specs.Records.{Model, modelOf}
 use Rattle.model.specs.Rules.{refusalOf}
 use Rattle.rules.specs.Configuration.{Configuration, first}
 use Rattle.rules.specs.Orders.{Outcome, refused, settled}
-use Rattle.rules.proofs.Outcomes.{Pick, pick-refused, pick-done, pick-is, Advance, advance-refused, delta-done, time-done, advance-is, PickSet, set-refused, set-done, pick-set-is, Read, read-refused, read-done, read-is}
+use Rattle.rules.proofs.Outcomes.{Pick, pick-refused, pick-done, pick-is, Delta, delta-refused, delta-done, delta-is, Time, time-refused, time-done, time-is, PickSet, set-refused, set-done, pick-set-is, Read, read-refused, read-done, read-is}
 use Rattle.session.specs.Lists.{Order, isKnown, performed, answered, ordersOf, played}
 use Rattle.session.specs.Sessions.{ordersOk, bufferOk, numberOf, sessionOf}
 use Rattle.session.specs.ListLaws.{ListLaws}
@@ -26,10 +26,13 @@ module _ (M : Model) (c : Configuration) where
   pick-kept p (pick-refused n h) = λ z. refl
   pick-kept p (pick-done there ready) = λ z. absurd (z refl)
 
-  advance-kept : {r : Outcome} → Advance M c r → Kept r
-  advance-kept (advance-refused n h) = λ z. refl
-  advance-kept (delta-done quiet due few) = λ z. absurd (z refl)
-  advance-kept (time-done t quiet due at low) = λ z. absurd (z refl)
+  delta-kept : {r : Outcome} → Delta M c r → Kept r
+  delta-kept (delta-refused n h) = λ z. refl
+  delta-kept (delta-done quiet due few) = λ z. absurd (z refl)
+
+  time-kept : {r : Outcome} → Time M c r → Kept r
+  time-kept (time-refused n h) = λ z. refl
+  time-kept (time-done t quiet due at low) = λ z. absurd (z refl)
 
   settle-kept : (n : ℕ) → Kept (settled M n c)
   unfolding settled
@@ -48,10 +51,11 @@ module _ (M : Model) (c : Configuration) where
   refused-kept o =
       by-test Kept (not (isKnown o)) _ _ (λ e z. refl)
       (λ e. by-test Kept (eqb (o .kind) 1) _ _ (λ k. pick-kept (o .argument) (pick-is M c (o .argument)))
-      (λ e. by-test Kept (eqb (o .kind) 2) _ _ (λ k. advance-kept (advance-is M c))
       (λ e. by-test Kept (eqb (o .kind) 3) _ _ (λ k. settle-kept (o .count))
       (λ e. by-test Kept (eqb (o .kind) 5) _ _ (λ k. set-kept (o .count) (pick-set-is M c (o .count)))
-      (λ e. read-kept (o .argument) (read-is M c (o .argument)))))))
+      (λ e. by-test Kept (eqb (o .kind) 6) _ _ (λ k. delta-kept (delta-is M c))
+      (λ e. by-test Kept (eqb (o .kind) 7) _ _ (λ k. time-kept (time-is M c))
+      (λ e. read-kept (o .argument) (read-is M c (o .argument))))))))
 
   -- "After a refused order the next is played all the same", from the configuration that the refused one took
   after-refused : (o : Order) (os : List Order) → (performed M o c .refusal ≡ 0 → ⊥)

@@ -18,7 +18,7 @@ use Rattle.base.specs.Cases.{_∣_, _⇒_}
 use Rattle.base.proofs.Below.{list-length, list-at}
 use Rattle.blocks.specs.Records.{Model}
 use Rattle.rules.specs.Configuration.{Configuration}
-use Rattle.rules.specs.Orders.{refused, picked, advanced, settled, pickedSet, readOf}
+use Rattle.rules.specs.Orders.{refused, picked, settled, pickedSet, deltaStepped, timeStepped, readOf}
 use Rattle.cycle.specs.View.{Valid, Answers, Keeps, ReadTo, viewOf, outcomeOf, pickedBy, refusedAnswer}
 use Rattle.cycle.specs.declared.config.Config.{Config}
 use Rattle.cycle.specs.declared.orders.Answer.{Answer}
@@ -34,11 +34,11 @@ use Rattle.session.specs.Sessions.{bytesOf}
 pub all-written : (a t : List ℕ) (n : ℕ) → length a ≤ n → take n a ++ [] ≡ t → a ≡ t
 all-written a t n h e = rw (append-nil, take-all n a h) at e
 
--- the 16 bytes at place i are written, with rest behind them
-written : (a e rest : List ℕ) (i : ℕ) → length e ≡ 16 → 16 * i + 16 ≤ length a → take (16 * (i + 1)) (take (16 * i) a ++ (e ++ rest)) ≡ take (16 * i) a ++ e
-written a e rest i h l =
-    let k : length (take (16 * i) a ++ e) ≡ 16 * (i + 1) = simp (length-append, length-take) (omega arith) in
-    rw (← append-assoc) (take-at (take (16 * i) a ++ e) rest (16 * (i + 1)) k)
+-- the bytes from n up to k are written, with rest behind them
+pub written : (a e rest : List ℕ) (n k : ℕ) → k ≡ n + length e → n ≤ length a → take k (take n a ++ (e ++ rest)) ≡ take n a ++ e
+written a e rest n k h l =
+    let long : length (take n a ++ e) ≡ k = simp (length-append, length-take) (omega arith) in
+    rw (← append-assoc) (take-at (take n a ++ e) rest k long)
 
 module _ (os : List ℕ) (i : ℕ) where
   -- no order is left
@@ -58,7 +58,7 @@ module _ (os : List ℕ) (i : ℕ) where
     byte-read j l = rw (getD-take, getD-drop)
 
     -- the fields, read from the bytes
-    order-read : orderOf (take 4 (drop (4 * i) os)) ≡ order (byteAt os (4 * i)) (byteAt os (4 * i + 1)) (wordAt os (4 * i + 2))
+    pub order-read : orderOf (take 4 (drop (4 * i) os)) ≡ order (byteAt os (4 * i)) (byteAt os (4 * i + 1)) (wordAt os (4 * i + 2))
     unfolding orderOf
     order-read =
         let e0 = byte-read 0 (omega arith) in
@@ -113,13 +113,17 @@ module _ {M : Model} {os : List ℕ} {c₀ : Configuration} {i : ℕ} {at : Conf
         (λ (is : kind ≡ 1). pick-order is ∙ rw (e, is))
         (λ (is : (kind ≡ 3) ⊎ (kind ≡ 5)). ⊎-elim (λ (is : kind ≡ 3). settle-order is ∙ rw (e, is)) (λ (is : kind ≡ 5). set-order is ∙ rw (e, is)) is)
 
-    advance-order : kind ≡ 2 → performed M (order kind argument count) (viewOf at) ≡ advanced M (viewOf at)
+    delta-order : kind ≡ 6 → performed M (order kind argument count) (viewOf at) ≡ deltaStepped M (viewOf at)
     unfolding performed
-    advance-order is = rw (← (t .known), k, is)
+    delta-order is = rw (← (t .known), k, is)
 
-    read-order : (kind ≡ 1 → ⊥) → (kind ≡ 2 → ⊥) → (kind ≡ 3 → ⊥) → (kind ≡ 5 → ⊥) → performed M (order kind argument count) (viewOf at) ≡ readOf M argument (viewOf at)
+    time-order : kind ≡ 7 → performed M (order kind argument count) (viewOf at) ≡ timeStepped M (viewOf at)
     unfolding performed
-    read-order no1 no2 no3 no5 = rw (← (t .known), k, ne-eqb kind 1 no1, ne-eqb kind 2 no2, ne-eqb kind 3 no3, ne-eqb kind 5 no5)
+    time-order is = rw (← (t .known), k, is)
+
+    read-order : (kind ≡ 1 → ⊥) → (kind ≡ 3 → ⊥) → (kind ≡ 5 → ⊥) → (kind ≡ 6 → ⊥) → (kind ≡ 7 → ⊥) → performed M (order kind argument count) (viewOf at) ≡ readOf M argument (viewOf at)
+    unfolding performed
+    read-order no1 no3 no5 no6 no7 = rw (← (t .known), k, ne-eqb kind 1 no1, ne-eqb kind 3 no3, ne-eqb kind 5 no5, ne-eqb kind 6 no6, ne-eqb kind 7 no7)
 
   -- what each way of the order's choice says of the answer and the configuration that it leaves
   abbrev Gives : Answer → Config → Type 0
@@ -132,12 +136,15 @@ module _ {M : Model} {os : List ℕ} {c₀ : Configuration} {i : ℕ} {at : Conf
     pub picks-give : (w : Picks) → w ≡ (eqb kind 1 ⇒ One argument ∣ eqb kind 3 ⇒ Settle count ∣ Set count) → (kind ≡ 1) ⊎ ((kind ≡ 3) ⊎ (kind ≡ 5)) → (r : Answered) → Answers M r (pickedBy M w (viewOf at)) → Gives (r .answer) (r .config)
     picks-give w e is r a = rw (picks-order k w e is) a
 
-    pub advance-gives : kind ≡ 2 → (r : Answered) → Answers M r (advanced M (viewOf at)) → Gives (r .answer) (r .config)
-    advance-gives is r a = rw (advance-order k is) a
+    pub delta-gives : kind ≡ 6 → (r : Answered) → Answers M r (deltaStepped M (viewOf at)) → Gives (r .answer) (r .config)
+    delta-gives is r a = rw (delta-order k is) a
 
-    pub read-gives : ((kind ≡ 1) ⊎ ((kind ≡ 3) ⊎ (kind ≡ 5)) → ⊥) → (kind ≡ 2 → ⊥) → (r : Answered) → ReadTo argument at r → Keeps at r → Gives (r .answer) (r .config)
-    read-gives none no2 r a f =
-        rw (read-order k (λ e. none (inl e)) no2 (λ e. none (inr (inl e))) (λ e. none (inr (inr e)))) (record { is = a M (sym (nsignals-is M at (t .playing .valid .reachable))); valid = f M (t .playing .valid) })
+    pub time-gives : kind ≡ 7 → (r : Answered) → Answers M r (timeStepped M (viewOf at)) → Gives (r .answer) (r .config)
+    time-gives is r a = rw (time-order k is) a
+
+    pub read-gives : ((kind ≡ 1) ⊎ ((kind ≡ 3) ⊎ (kind ≡ 5)) → ⊥) → (kind ≡ 6 → ⊥) → (kind ≡ 7 → ⊥) → (r : Answered) → ReadTo argument at r → Keeps at r → Gives (r .answer) (r .config)
+    read-gives none no6 no7 r a f =
+        rw (read-order k (λ e. none (inl e)) (λ e. none (inr (inl e))) (λ e. none (inr (inr e))) no6 no7) (record { is = a M (sym (nsignals-is M at (t .playing .valid .reachable))); valid = f M (t .playing .valid) })
 
   -- it is done: r is what it gave, and its answer is written into its own part of the buffer
   module _ {r : Answered} (a : Answers M r (performed M (order kind argument count) (viewOf at))) where
@@ -153,7 +160,8 @@ module _ {M : Model} {os : List ℕ} {c₀ : Configuration} {i : ℕ} {at : Conf
           ≡ take (16 * i) answers ++ bytesOf (played M (drop i (ordersOf os)) (viewOf at) .answers)
       unfolding played outcomeOf answerOf viewOf
       bytes-next rest =
-          rw (written answers last rest i (ap length q) (omega (arith, t .playing .room, t .here)), append-assoc, left, ← (a .is), q)
+          let long : length last ≡ 16 = ap length q in
+          rw (written answers last rest (16 * i) (16 * (i + 1)) (omega arith) (omega (arith, t .playing .room, t .here)), append-assoc, left, ← (a .is), q)
 
       room-next : length (putMid (16 * i) (16 * i + 16 - 16 * i) answers last) ≡ length answers
       room-next =

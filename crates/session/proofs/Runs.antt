@@ -1,7 +1,7 @@
 -- Every list of orders plays a run of picks and advances, as many as its answers say.
 -- Assumes nothing.
 use mathlib.Core.Path.{_≡_, refl, sym, _∙_}
-use mathlib.Core.Bool.{true, false, not}
+use mathlib.Core.Bool.{Bool, true, false, not, _||_}
 use mathlib.Core.List.{List, [], _∷_}
 use Prim.Native.Nat.{ℕ, zero, suc, _+_, _≤_, _<_}
 use native.Mathlib.Nat.{add-zero, zero-add, add-suc, suc-add}
@@ -17,8 +17,8 @@ use Rattle.determinacy.proofs.Run.{Run, stay, by-pick, by-advance, join}
 use Rattle.blocks.specs.Records.{Model}
 use Rattle.rules.specs.Configuration.{Configuration}
 use Rattle.rules.specs.Statements.{stepped}
-use Rattle.rules.specs.Orders.{Outcome, refused, isReady, advanced, lowestReady, Settled, settledFrom, settled, setBits, membersBelow, steppedBelow}
-use Rattle.rules.proofs.Outcomes.{Refusal, Pick, pick-refused, pick-done, pick-is, pick-of-ready, Advance, advance-refused, delta-done, time-done, advance-is, PickSet, set-refused, set-done, pick-set-is, Read, read-refused, read-done, read-is}
+use Rattle.rules.specs.Orders.{Outcome, refused, isReady, deltaStepped, timeStepped, lowestReady, Settled, settledFrom, settled, setBits, membersBelow, steppedBelow}
+use Rattle.rules.proofs.Outcomes.{Refusal, Pick, pick-refused, pick-done, pick-is, pick-of-ready, Delta, delta-refused, delta-done, delta-is, Time, time-refused, time-done, time-is, one-step, PickSet, set-refused, set-done, pick-set-is, Read, read-refused, read-done, read-is}
 use Rattle.rules.proofs.Sets.{Chosen, members-none, members-more, members-stay, members-most, by-members}
 use Rattle.session.specs.Lists.{Order, isKnown, answerOf, performed, played}
 use Rattle.session.specs.Demand3.{picksOf, isAdvance, advancesOf, kernelOf}
@@ -38,11 +38,21 @@ module _ (M : Model) where
       let rest : Run (kernelOf M) (kernelOf M .step p c) 0 n e = rw done r in
       by-pick p can rest
 
-  advance-run : (c : Configuration) (r : Outcome) → r ≡ advanced M c → r .refusal ≡ 0 → r .picks ≡ 0 → Ran c 1 r
-  advance-run c r e done none =
-      let can : kernelOf M .can-advance c ≡ true = rw (← e, done) in
-      let rest : Run (kernelOf M) (kernelOf M .advanced c) 0 0 (r .after) = rw (← e) stay in
-      rw none (by-advance can rest)
+  -- a done delta step is an advance, and so is a done time step
+  record Advances (c : Configuration) (r : Outcome) : Type 0 where
+    can : kernelOf M .can-advance c ≡ true
+    to : kernelOf M .advanced c ≡ r .after
+
+  delta-advances : (c : Configuration) → eqb (deltaStepped M c .refusal) 0 ≡ true → Advances c (deltaStepped M c)
+  delta-advances c done = record { can = rw done; to = rw done }
+
+  time-advances : (c : Configuration) → eqb (timeStepped M c .refusal) 0 ≡ true → Advances c (timeStepped M c)
+  time-advances c done = let no = one-step M c done in record { can = rw (no, done); to = rw no }
+
+  advance-run : (c : Configuration) (r : Outcome) → Advances c r → r .picks ≡ 0 → Ran c 1 r
+  advance-run c r a none =
+      let rest : Run (kernelOf M) (kernelOf M .advanced c) 0 0 (r .after) = rw (a .to) stay in
+      rw none (by-advance (a .can) rest)
 
   -- what a settle comes to, k picks having been made: m more, at most n
   record Settles (k n : ℕ) (c : Configuration) (s : Settled) : Type 0 where
@@ -103,38 +113,50 @@ module _ (M : Model) where
   set-does set c (set-done all) =
       record { run = members-run set c all setBits (omega arith); picks = omega (arith, members-most set setBits); refusal = omega arith }
 
-  advance-does : (c : Configuration) (r : Outcome) → r ≡ advanced M c → Advance M c r → Does c (eqb (r .refusal) 0 ⇒ 1 ∣ 0) r
-  advance-does c r e (advance-refused n h) = rw (ne-eqb n 0 (λ z. omega arith)) (refusal-does c n h)
-  advance-does c r e (delta-done quiet due few) = record { run = advance-run c r e refl refl; picks = omega arith; refusal = omega arith }
-  advance-does c r e (time-done t quiet due at low) = record { run = advance-run c r e refl refl; picks = omega arith; refusal = omega arith }
+  -- a step is an advance where it is done
+  abbrev Steps : Configuration → Outcome → Type 0
+  Steps c r = Does c (eqb (r .refusal) 0 ⇒ 1 ∣ 0) r
+
+  refusal-steps : (c : Configuration) (n : ℕ) → Refusal n → Steps c (refused n c)
+  refusal-steps c n h = rw (ne-eqb n 0 (λ z. omega arith)) (refusal-does c n h)
+
+  delta-does : (c : Configuration) (r : Outcome) → (eqb (r .refusal) 0 ≡ true → Advances c r) → Delta M c r → Steps c r
+  delta-does c r a (delta-refused n h) = refusal-steps c n h
+  delta-does c r a (delta-done quiet due few) = record { run = advance-run c r (a refl) refl; picks = omega arith; refusal = omega arith }
+
+  time-does : (c : Configuration) (r : Outcome) → (eqb (r .refusal) 0 ≡ true → Advances c r) → Time M c r → Steps c r
+  time-does c r a (time-refused n h) = refusal-steps c n h
+  time-does c r a (time-done t quiet due at low) = record { run = advance-run c r (a refl) refl; picks = omega arith; refusal = omega arith }
 
   -- the same, by as many advances as the answer to order o says
   module _ (o : Order) (c : Configuration) where
     abbrev Counted : Outcome → Type 0
     Counted r = Does c (isAdvance o (answerOf r) ⇒ 1 ∣ 0) r
 
-    -- an order of another kind than 2 is no advance
-    no-advance : {r : Outcome} → eqb (o .kind) 2 ≡ false → Does c 0 r → Counted r
+    abbrev steps : Bool
+    steps = eqb (o .kind) 6 || eqb (o .kind) 7
+
+    -- an order of another kind than 6 and 7 is no advance
+    no-advance : {r : Outcome} → steps ≡ false → Does c 0 r → Counted r
     no-advance other d = rw other d
 
-    one-advance : eqb (o .kind) 2 ≡ true → Counted (advanced M c)
-    one-advance kind =
-        let d = advance-does c (advanced M c) refl (advance-is M c) in
-        rw (kind, refusal-byte (advanced M c) (d .refusal)) d
+    one-advance : {r : Outcome} → steps ≡ true → Steps c r → Counted r
+    one-advance {r} kind d = rw (kind, refusal-byte r (d .refusal)) d
 
     -- nor is one that is refused with 11
     unknown : Counted (refused 11 c)
-    unknown = rw (refusal-byte (refused 11 c) (omega arith), and-true-false (eqb (o .kind) 2) false refl) (refusal-does c 11 (omega arith))
+    unknown = rw (refusal-byte (refused 11 c) (omega arith), and-true-false steps false refl) (refusal-does c 11 (omega arith))
 
     counted : o .count < 65536 → Counted (performed M o c)
     unfolding performed
     counted small =
         by-test Counted (not (isKnown o)) _ _ (λ e. unknown)
         (λ e. by-test Counted (eqb (o .kind) 1) _ _ (λ k. no-advance (rw (eqb-true (o .kind) 1 k)) (pick-does (o .argument) c (pick-is M c (o .argument))))
-        (λ e. by-test Counted (eqb (o .kind) 2) _ _ one-advance
-        (λ k. by-test Counted (eqb (o .kind) 3) _ _ (λ e. no-advance k (settle-does (o .count) c small))
-        (λ e. by-test Counted (eqb (o .kind) 5) _ _ (λ e. no-advance k (set-does (o .count) c (pick-set-is M c (o .count))))
-        (λ e. no-advance k (read-does (o .argument) c (read-is M c (o .argument))))))))
+        (λ e. by-test Counted (eqb (o .kind) 3) _ _ (λ k. no-advance (rw (eqb-true (o .kind) 3 k)) (settle-does (o .count) c small))
+        (λ e. by-test Counted (eqb (o .kind) 5) _ _ (λ k. no-advance (rw (eqb-true (o .kind) 5 k)) (set-does (o .count) c (pick-set-is M c (o .count))))
+        (λ e. by-test Counted (eqb (o .kind) 6) _ _ (λ k. one-advance (rw k) (delta-does c (deltaStepped M c) (delta-advances c) (delta-is M c)))
+        (λ no6. by-test Counted (eqb (o .kind) 7) _ _ (λ k. one-advance (rw (no6, k)) (time-does c (timeStepped M c) (time-advances c) (time-is M c)))
+        (λ no7. no-advance (rw (no6, no7)) (read-does (o .argument) c (read-is M c (o .argument)))))))))
 
   -- a list of orders, one after the other
   pub played-run : (os : List Order) → Small os → (c : Configuration)
@@ -142,5 +164,5 @@ module _ (M : Model) where
   unfolding played picksOf advancesOf
   played-run [] s c = stay
   played-run (o ∷ os) s c =
-      let d = counted o c (s .0) in
+      let d = counted o c (s .0 .count) in
       rw (picks-word (performed M o c) (d .picks)) (join (kernelOf M) (d .run) (played-run os (s .1) (performed M o c .after)))

@@ -2,7 +2,7 @@
 -- "Every list in it, the empty one too, starts from the model's first configuration [..] An order is done when byte 0 of its
 -- answer is 0. A list's picks are the sum of bytes 2-3 over its answers."
 use mathlib.Core.Path.{_≡_}
-use mathlib.Core.Bool.{Bool, _&&_}
+use mathlib.Core.Bool.{Bool, _&&_, _||_}
 use mathlib.Core.List.{List, [], _∷_}
 use Prim.Native.Nat.{ℕ, _+_, _<_}
 use lib.Dec.{eqb}
@@ -14,7 +14,7 @@ use Rattle.determinacy.specs.Determinacy.{Tally, Determinacy}
 use Rattle.blocks.specs.Records.{Model, modelOf}
 use Rattle.model.specs.Rules.{refusalOf}
 use Rattle.rules.specs.Configuration.{Configuration, first}
-use Rattle.rules.specs.Orders.{picked, advanced}
+use Rattle.rules.specs.Orders.{picked, deltaStepped, timeStepped}
 use Rattle.session.specs.Lists.{Order, Played, ordersOf, played}
 
 -- a list's picks: those of a set are as many as it has processes
@@ -22,9 +22,9 @@ unfoldable pub picksOf : List (List ℕ) → ℕ
 picksOf [] = 0
 picksOf (a ∷ rest) = wordAt a 2 + picksOf rest
 
--- order o was an advance, and done
+-- document 02, item 9: "the done orders 6 and 7, counted together, are its advances"
 abbrev pub isAdvance : Order → List ℕ → Bool
-isAdvance o a = eqb (o .kind) 2 && eqb (byteAt a 0) 0
+isAdvance o a = (eqb (o .kind) 6 || eqb (o .kind) 7) && eqb (byteAt a 0) 0
 
 -- the done advances of a list
 unfoldable pub advancesOf : List Order → List (List ℕ) → ℕ
@@ -43,15 +43,16 @@ tallyOf M xs =
     let r : Played = played M (ordersOf (xs .bytes)) (first M) in
     record { end = r .end; picks = picksOf (r .answers); advances = advancesOf (ordersOf (xs .bytes)) (r .answers) }
 
--- the rules as a kernel of picks and advances: process p is ready when the pick of it is done, an advance can be done when it is
+-- the rules as a kernel of picks and advances: process p is ready when the pick of it is done; an advance is the delta
+-- step or the time step, whichever is done
 abbrev pub kernelOf : Model → Kernel
 kernelOf M =
     record {
       Conf = Configuration;
       ready = λ p c. eqb (picked M p c .refusal) 0;
       step = λ p c. picked M p c .after;
-      can-advance = λ c. eqb (advanced M c .refusal) 0;
-      advanced = λ c. advanced M c .after;
+      can-advance = λ c. eqb (deltaStepped M c .refusal) 0 || eqb (timeStepped M c .refusal) 0;
+      advanced = λ c. eqb (deltaStepped M c .refusal) 0 ⇒ deltaStepped M c .after ∣ timeStepped M c .after;
     }
 
 -- Demand 3: lists that end with no process ready after equally many done advances agree in picks and end configuration; every

@@ -9,7 +9,7 @@ use Rattle.base.specs.Bytes.{byteAt, wordAt}
 use Rattle.base.specs.Cases.{_∣_, _⇒_, _is_⇒_}
 use Rattle.blocks.specs.Records.{Model}
 use Rattle.rules.specs.Configuration.{Configuration, first}
-use Rattle.rules.specs.Orders.{Outcome, refused, picked, advanced, settled, pickedSet, readOf}
+use Rattle.rules.specs.Orders.{Outcome, refused, picked, settled, pickedSet, deltaStepped, timeStepped, readOf}
 
 -- "An order is 4 bytes: kind, argument, 16-bit count."
 pub record Order : Type 0 where
@@ -27,31 +27,39 @@ orderOf r = record { kind = byteAt r 0; argument = byteAt r 1; count = wordAt r 
 unfoldable pub ordersOf : List ℕ → List Order
 ordersOf bytes = listBelow (λ i. orderOf (take 4 (drop (4 * i) bytes))) (length bytes / 4)
 
--- the kind is known, and "Unused bytes are zero": a pick and a read use the argument, a settle and a pick of a set the count, an
--- advance neither
+-- the kind is known, and "Unused bytes are zero": a pick and a read use the argument, a settle and a pick of a set the count, a delta
+-- step and a time step neither
 unfoldable pub isKnown : Order → Bool
 isKnown o =
     o .kind is 1 ⇒ eqb (o .count) 0
-    ∣ o .kind is 2 ⇒ eqb (o .argument) 0 && eqb (o .count) 0
     ∣ o .kind is 3 ⇒ eqb (o .argument) 0
     ∣ o .kind is 4 ⇒ eqb (o .count) 0
     ∣ o .kind is 5 ⇒ eqb (o .argument) 0
+    ∣ o .kind is 6 ⇒ eqb (o .argument) 0 && eqb (o .count) 0
+    ∣ o .kind is 7 ⇒ eqb (o .argument) 0 && eqb (o .count) 0
     ∣ false
 
--- 11. "Unknown kind or unused byte set." Else "1 pick the process named; 2 advance; 3 settle [..]; 4 read the signal named", and 5
--- pick of the set in the count field (document 02, item 8): of the known kinds 4 is the one left.
+-- 11. "Unknown kind or unused byte set." Else "1 pick the process named; [..] 3 settle [..]; 4 read the signal named"; 5 pick of the set
+-- in the count field (document 02, item 8); "Order 2 is withdrawn (it gives 11) and split: order 6 does a delta step [..], order 7 a
+-- time step" (item 9). Of the known kinds 4 is the one left.
 unfoldable pub performed : Model → Order → Configuration → Outcome
 performed M o c =
     not (isKnown o) ⇒ refused 11 c
     ∣ o .kind is 1 ⇒ picked M (o .argument) c
-    ∣ o .kind is 2 ⇒ advanced M c
     ∣ o .kind is 3 ⇒ settled M (o .count) c
     ∣ o .kind is 5 ⇒ pickedSet M (o .count) c
+    ∣ o .kind is 6 ⇒ deltaStepped M c
+    ∣ o .kind is 7 ⇒ timeStepped M c
     ∣ readOf M (o .argument) c
 
 -- byte i of a number, little endian
 abbrev pub byteOf : ℕ → ℕ → ℕ
 byteOf i x = x / 256 ^ i % 256
+
+-- the bytes of some orders
+abbrev pub orderBytes : List Order → List ℕ
+orderBytes [] = []
+orderBytes (o ∷ os) = o .kind ∷ o .argument ∷ byteOf 0 (o .count) ∷ byteOf 1 (o .count) ∷ orderBytes os
 
 -- "Each answer has 16 bytes [..]: 0 refusal or 0; 1 [..]; 2-3 picks made; 4-7 the value read [..]; 8-15 the time after the
 -- order." For a pick 4 to 7 are its fault and node (`rules/specs/Orders`: `faultAndNode`).

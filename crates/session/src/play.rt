@@ -22,10 +22,9 @@ fn known(kind: usize, argument: usize, count: usize) -> bool
     ensures { λ r. ⌜ r ≡ isKnown (order kind argument count) ⌝ }
 {
     match kind {
-        1 => count == 0,
-        2 => (argument == 0) & (count == 0),
+        1 | 4 => count == 0,
         3 | 5 => argument == 0,
-        4 => count == 0,
+        6 | 7 => (argument == 0) & (count == 0),
         _ => false,
     }
 }
@@ -72,8 +71,13 @@ pub fn play<'a>(
                     at = r.config;
                     answer = r.answer;
                 }
-                2 => {
-                    let r = at.advance(m, index);
+                6 => {
+                    let r = at.delta_step(m, index);
+                    at = r.config;
+                    answer = r.answer;
+                }
+                7 => {
+                    let r = at.time_step(m, index);
                     at = r.config;
                     answer = r.answer;
                 }

@@ -1,4 +1,3 @@
 pub mod Delta
-pub mod Due
 pub mod Entries
 pub mod Shift

@@ -77,7 +77,7 @@ fn a_divisor_of_zero_in_every_role() {
         }
         // A wait's condition, asked for when the signal changes: the node is kept,
         // and the rest of the delta step is done.
-        let (a, c) = play(&by_zero(kind, Role::Until), &[SET, ADV, ADV, SET, ADV]);
+        let (a, c) = play(&by_zero(kind, Role::Until), &[SET, TIM, DEL, SET, DEL]);
         assert_eq!(a[2..4], [(0, 1, 0, 0, 0, 1), (0, 0, 1, 0, 0, 1)]);
         assert_eq!(a[4].0, 15);
         assert_eq!(c.processes[0], process(1, STOPPED, (4, 4), Some(5)));

@@ -8,20 +8,21 @@ fn followed(b: &Builder, list: &[(u8, u8, u16)]) -> Vec<Config> {
     ends.collect()
 }
 
-/// Rounds of an advance and a settle, after a settle.
-fn turns(n: usize) -> Vec<(u8, u8, u16)> {
-    [&[SET][..], &[ADV, SET].repeat(n)].concat()
+/// Rounds of a step and a settle, after a settle.
+fn turns(b: &Builder, n: usize) -> Vec<(u8, u8, u16)> {
+    stepped(b, &[&[SET][..], &[STEP, SET].repeat(n)].concat())
 }
 
 #[test]
 fn the_first_value() {
     // The resolution of the drivers, not the start: two - are X.
     for (drivers, first) in [(0, 8), (1, 8), (2, 1), (3, 1)] {
-        for list in [&[][..], &[(PICK, 1, 0)], &[SET], &[SET, ADV]] {
-            let (_, c) = play(&first_reads(drivers), list);
+        let b = first_reads(drivers);
+        for list in [&[][..], &[(PICK, 1, 0)], &[SET], &[SET, STEP]] {
+            let (_, c) = play(&b, &stepped(&b, list));
             assert_eq!(c.earlier, [first], "{drivers} drivers");
         }
-        let (_, c) = play(&first_reads(drivers), &[SET]);
+        let (_, c) = play(&b, &[SET]);
         assert_eq!(c.variables, [first; 3], "{drivers} drivers");
     }
 }
@@ -29,9 +30,9 @@ fn the_first_value() {
 #[test]
 fn a_statement_reads_it() {
     let b = sampled(&[(6, 0), (7, 0), (7, 2), (8, 0)], 0);
-    // After each advance and settle: time and delta steps, the earlier value and the
+    // After each step and settle: time and delta steps, the earlier value and the
     // current one, and both as the process last read them.
-    let seen: Vec<(u64, u32, [i32; 2], [i32; 2])> = followed(&b, &turns(9))
+    let seen: Vec<(u64, u32, [i32; 2], [i32; 2])> = followed(&b, &turns(&b, 9))
         .iter()
         .skip(1)
         .step_by(2)
@@ -58,7 +59,7 @@ fn a_statement_reads_it() {
         ]
     );
     // The next delta step has only a deadline.
-    let (_, c) = play(&b, &turns(10));
+    let (_, c) = play(&b, &turns(&b, 10));
     assert_eq!((c.time, c.delta), (3, 1));
     assert_eq!((c.earlier[0], &c.variables[..]), (8, &[8, 8][..]));
 }
@@ -78,7 +79,8 @@ fn a_delta_step_sets_it_for_every_signal() {
     b.driver(0, s);
     b.driver(0, t);
     let (first, changed) = ([4, 5, 6], [1, 5, 6]);
-    let earlier = |n: usize| play(&b, &[&[SET][..], &vec![ADV; n]].concat()).1.earlier;
+    let list = [SET, TIM, DEL, TIM, DEL, TIM, DEL, TIM];
+    let earlier = |n: usize| play(&b, &list[..n + 1]).1.earlier;
     let steps: Vec<Vec<i32>> = (0..7).map(earlier).collect();
     assert_eq!(
         steps,
@@ -94,7 +96,7 @@ fn other_orders_leave_it() {
     let others = [
         (PICK, 1, 0),
         (PICK, 1, 0),
-        ADV,
+        DEL,
         (PICK, 0, 0),
         (READ, 0, 0),
         (PICK, 9, 0),
@@ -102,10 +104,10 @@ fn other_orders_leave_it() {
         (9, 0, 0),
         (SETTLE, 0, 1),
         SET,
-        ADV,
+        TIM,
         (READ, 0, 0),
     ];
-    let list = [&[SET, ADV][..], &others].concat();
+    let list = [&[SET, DEL][..], &others].concat();
     let (a, _) = play(&b, &list);
     assert_eq!(a.last(), Some(&(0, 0, 0, 6, 0, 1)));
     for c in &followed(&b, &list)[2..] {
@@ -117,10 +119,11 @@ fn other_orders_leave_it() {
 fn a_condition_reads_the_value_before_the_step_under_way() {
     // 0, then 1, and 2 when it is asked: in the next delta step, or after a time step.
     for time in [0, 3] {
-        let list = turns(if time == 0 { 2 } else { 3 });
-        let asked = &list[..list.len() - 1];
         for k in 0..3 {
-            let (a, c) = play(&asked_equal(time, k), asked);
+            let b = asked_equal(time, k);
+            let list = turns(&b, if time == 0 { 2 } else { 3 });
+            let asked = &list[..list.len() - 1];
+            let (a, c) = play(&b, asked);
             assert_eq!(a.last(), Some(&(0, 1, 0, 0, 0, time as u64)));
             assert_eq!((c.earlier[0], c.signals[0][0]), (1, 2));
             let standing = if k == 1 { READY } else { WAITING };
@@ -137,10 +140,11 @@ fn rising_edges_are_counted() {
     // '1' from '0' counts, in delta steps and at later times; '1' from X or H does not,
     // nor does a '1' that is none anew.
     for (list, edges) in PULSES.iter().zip([0, 2, 2, 3, 0]) {
-        let (_, c) = play(&rising_edges(list), &turns(20));
+        let b = rising_edges(list);
+        let (_, c) = play(&b, &turns(&b, 20));
         assert_eq!(c.variables, [edges], "{list:?}");
     }
-    let (_, c) = play(&rising_edges(&[(3, 0), (2, 0)]), &turns(1));
+    let (_, c) = play(&rising_edges(&[(3, 0), (2, 0)]), &[SET, DEL, SET]);
     assert_eq!((c.signals[0][0], c.earlier[0], c.variables[0]), (3, 2, 1));
 }
 
@@ -148,7 +152,7 @@ fn rising_edges_are_counted() {
 fn only_a_delay_of_0_reads_it() {
     for (k, value) in [(0, 5), (1, 7), (2, 7), (31, 7)] {
         let b = sampled(&[(6, 1)], k);
-        let mut c = play(&b, &[SET, ADV]).1;
+        let mut c = play(&b, &[SET, DEL]).1;
         assert_eq!((c.earlier[0], c.signals[0][0]), (5, 6));
         // The past apart from both.
         c.signals[0][1..].fill(7);

@@ -1,6 +1,6 @@
 //! Dumps (document 02, item 7), written out by hand.
 
-use super::{ADV, SET};
+use super::{DEL, SET, TIM};
 use crate::builder::Builder;
 use crate::cases::*;
 use crate::integers::{QUOTIENT, TOP};
@@ -17,9 +17,9 @@ fn header(variables: &str) -> String {
     )
 }
 
-/// What comes after the header.
+/// What comes after the header; the list may have steps.
 fn changes(b: &Builder, list: &[(u8, u8, u16)]) -> String {
-    let text = print(&b.encode(), &orders(list));
+    let text = print(&b.encode(), &orders(&stepped(b, list)));
     let (_, changes) = text.split_once("$enddefinitions $end\n").unwrap();
     changes.to_string()
 }
@@ -53,7 +53,7 @@ fn a_dump_by_hand() {
         "{}#0\nb101 !\nx\"\n#3\nb{ones} !\n0\"\n#6\nb0 !\nz\"\n#7\n1\"\n",
         header(variables)
     );
-    let list = [vec![SET; 2], vec![ADV; 30]].concat();
+    let list = stepped(&b, &[vec![SET; 2], vec![STEP; 30]].concat());
     assert_eq!(print(&b.encode(), &orders(&list)), text);
     // The inverter of document 01.
     let variables = "$var wire 1 ! s0 $end\n$var wire 1 \" s1 $end\n";
@@ -105,18 +105,18 @@ fn thirty_two_signals() {
 #[test]
 fn no_signals_at_all() {
     let text = header("") + "#0\n";
-    for rounds in [0, 1, 30] {
-        let list = [SET, ADV].repeat(rounds);
-        assert_eq!(print(&no_signals().encode(), &orders(&list)), text);
+    for n in [0, 1, 30] {
+        let list = rounds(&no_signals(), n, 1);
+        assert_eq!(print(&no_signals().encode(), &list), text);
     }
 }
 
 #[test]
 fn settled_is_just_before_a_time_step_or_at_the_end() {
-    // One value at each time from 0 on. A round settles all and advances: to the
+    // One value at each time from 0 on. A round settles all and makes a step: to the
     // value, to the next time, to the deadline there.
     let b = in_turn(LOGIC, 2, &[3, 3, 2, 1, 5, 2]);
-    let rounds = |n: usize| [SET, ADV].repeat(n);
+    let rounds = |n: usize| [SET, STEP].repeat(n);
     // No order, or no delta step yet: the first values.
     assert_eq!(changes(&b, &[]), "#0\n0!\n");
     assert_eq!(changes(&b, &[SET, (READ, 0, 0)]), "#0\n0!\n");
@@ -129,8 +129,23 @@ fn settled_is_just_before_a_time_step_or_at_the_end() {
     let text = "#0\n1!\n#2\n0!\n#3\nx!\n#5\n0!\n";
     assert_eq!(changes(&b, &rounds(60)), text);
     let others = [(9, 9, 9), SET, (READ, 0, 0), (PICK, 7, 0), (READ, 9, 0)];
-    let busy = [&others[..], &[ADV]].concat();
+    let busy = [&others[..], &[STEP]].concat();
     assert_eq!(changes(&b, &busy.repeat(60)), text);
+}
+
+#[test]
+fn a_refused_step_ends_no_time() {
+    let text = changes(&inverter(), &[SET, DEL, TIM, DEL, SET, DEL]);
+    assert_eq!(text, "#0\n0!\n1\"\n#1\n1!\n0\"\n");
+    // 14 and 23 before the values of a time are there, 22 and 17 behind them; order 2 at
+    // each place.
+    let old = (2, 0, 0);
+    let refused = [
+        TIM, old, SET, TIM, DEL, DEL, old, TIM, TIM, DEL, TIM, old, SET, TIM, DEL, DEL, TIM, old,
+    ];
+    assert_eq!(print(&inverter().encode(), &orders(&refused)), {
+        print(&inverter().encode(), &inverter_orders())
+    });
 }
 
 #[test]
@@ -146,7 +161,7 @@ fn a_pulse_within_a_time_is_not_seen() {
     b.schedule(s, low, zero);
     // Rounds to the next time, to the deadline, to 1 and to 0 again.
     for (rounds, text) in [(2, ""), (3, "#1\n1!\n"), (4, ""), (40, "")] {
-        let list = [SET, ADV].repeat(rounds);
+        let list = [SET, STEP].repeat(rounds);
         assert_eq!(changes(&b, &list), format!("#0\n0!\n{text}"));
     }
 }
@@ -165,7 +180,7 @@ fn a_stopped_process_ends_it() {
         set: 0,
     };
     let text = "#0\nb1 !\n#1\nb10 !\n";
-    assert_eq!(changes(&b, &[SET, ADV].repeat(40)), text);
+    assert_eq!(changes(&b, &[SET, STEP].repeat(40)), text);
 }
 
 #[test]
@@ -191,7 +206,7 @@ fn rooms_of_output() {
         assert_eq!(write(&model[1..], &orders, out), (1, 0));
         assert_eq!(write(&model[1..], &orders[1..], out), (1, 0));
         assert_eq!(write(&model, &orders[1..], out), (9, 0));
-        assert_eq!(write(&model, &[2; 16_388], out), (9, 0));
+        assert_eq!(write(&model, &[DELTA; 16_388], out), (9, 0));
         assert!(out.iter().all(|&b| b == b'?'));
     }
     assert_eq!(print(&model[1..], &orders), "1\n");
@@ -219,7 +234,7 @@ fn the_longest_dump() {
 #[test]
 fn changes_between_values() {
     let b = nine_in_turn();
-    let list = orders(&[SET, ADV].repeat(250));
+    let list = rounds(&b, 250, 1);
     let run = settled(&b.m, &list);
     let text = print(&b.encode(), &list);
     // A change is written where the two states differ.

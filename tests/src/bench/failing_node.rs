@@ -37,7 +37,7 @@ fn the_bytes_of_an_answer() {
     // 399 is 1 times 256 and 143.
     assert_eq!(bytes(&model, [1, 0, 0, 0]), [0, 2, 1, 0, 4, 0, 143, 1]);
     assert_eq!(bytes(&model, [3, 0, 9, 0]), [0, 0, 1, 0, 0, 0, 0, 0]);
-    assert_eq!(bytes(&model, [2, 0, 0, 0]), [14, 0, 0, 0, 0, 0, 0, 0]);
+    assert_eq!(bytes(&model, [6, 0, 0, 0]), [14, 0, 0, 0, 0, 0, 0, 0]);
     let mut b = Builder::new();
     let minus = b.integer(-1);
     b.signal(INTEGER, -2);
@@ -101,7 +101,7 @@ fn one_node_in_several_trees() {
 #[test]
 fn conditions_that_fail_in_a_delta_step() {
     let b = failing_conditions();
-    let list = [SET, ADV, ADV, pick(1), pick(2), pick(3), SET, ADV];
+    let list = [SET, TIM, DEL, pick(1), pick(2), pick(3), SET, DEL];
     let (a, c) = play(&b, &list[..3]);
     assert_eq!(a[2], (0, 1, 0, 0, 0, 1));
     let deadline = Some(TOP as u64);
@@ -130,13 +130,13 @@ fn conditions_that_fail_in_a_delta_step() {
 #[test]
 fn value_and_node_in_the_text() {
     let text = |b: &Builder, list: &[(u8, u8, u16)]| print(&b.encode(), &orders(list));
-    let list = [pick(0), pick(0), pick(1), SET, ADV, (READ, 0, 0), (6, 0, 0)];
+    let list = [pick(0), pick(0), pick(1), SET, DEL, (READ, 0, 0), (2, 0, 0)];
     assert_eq!(
         text(&shared_node(), &list),
         "0 2 1 4 2 0\n13 0 0 0 0 0\n0 2 1 4 2 0\n0 0 1 0 0 0\n15 0 0 0 0 0\n\
          19 0 0 0 0 0\n11 0 0 0 0 0\n"
     );
-    let list = [pick(0), SET, ADV, ADV, (READ, 0, 0), pick(1)];
+    let list = [pick(0), SET, TIM, DEL, (READ, 0, 0), pick(1)];
     assert_eq!(
         text(&failing_conditions(), &list),
         "0 0 1 0 0 0\n0 0 4 0 0 0\n0 2 0 0 0 1\n0 1 0 0 0 1\n0 0 0 -1 0 1\n13 0 0 0 0 1\n"

@@ -26,9 +26,9 @@ fn equal(many: u64, last: u64) -> Vec<Pending> {
 }
 
 /// The times at which signal 0 changes, and its values then.
-fn changes(b: &Builder, advances: usize) -> Vec<(u64, i32)> {
-    let rounds = [ADV, (READ, 0, 0), SET].repeat(advances);
-    let (a, _) = play(b, &[&[SET][..], &rounds].concat());
+fn changes(b: &Builder, steps: usize) -> Vec<(u64, i32)> {
+    let rounds = [STEP, (READ, 0, 0), SET].repeat(steps);
+    let (a, _) = play(b, &stepped(b, &[&[SET][..], &rounds].concat()));
     let mut seen = vec![(0, 2)];
     for answer in a[1..].chunks(3) {
         if seen.last().is_some_and(|last| last.1 != answer[1].3) {
@@ -51,7 +51,7 @@ fn short_pulses_vanish() {
             let b = pulse(ty, kind, width, delay);
             assert_eq!(changes(&b, 8), [(0, 2)], "{width} of {delay}");
             // The end of the pulse alone is left.
-            let (_, c) = play(&b, &[SET, ADV, ADV, SET]);
+            let (_, c) = play(&b, &stepped(&b, &[SET, STEP, STEP, SET]));
             let end = (c.time + delay as u64, OTHER);
             assert_eq!(c.drivers[0].wave, [end], "{width} of {delay}");
         }
@@ -230,7 +230,7 @@ fn the_current_transaction_is_none_of_them() {
     assert_eq!(behind(&[], 2, 3), [(3, OTHER)]);
     assert_eq!(behind(&[ONE], 2, 3), [(3, OTHER)]);
     let list = [Null(0), Wait(0), Transport(2, 1), Inertial(3, 2)];
-    let (_, c) = play(&acts(LOGIC, BUS, &list), &[ALL, ADV, ALL]);
+    let (_, c) = play(&acts(LOGIC, BUS, &list), &[ALL, DEL, ALL]);
     assert_eq!(c.drivers[0].current, None);
     assert_eq!(c.drivers[0].wave, equal(1, 2));
 }

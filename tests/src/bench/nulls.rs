@@ -6,14 +6,14 @@ use crate::values::LETTERS;
 
 const LINES: [u8; 2] = [BUS, REGISTER];
 
-/// The value of signal 0 at first and after each of so many advances, as
+/// The value of signal 0 at first and after each of so many steps, as
 /// letters, and how often another process woke.
-fn followed(b: &Builder, advances: usize) -> (String, u16) {
+fn followed(b: &Builder, steps: usize) -> (String, u16) {
     let letter = |value: i32| LETTERS[value as usize] as char;
     let first = Config::first(&b.m).signals[0][0];
     let mut text = String::from(letter(first));
     let mut picks = 0;
-    let bytes = watched(advances);
+    let bytes = watched(b, steps);
     let mut answers = vec![0; 4 * bytes.len()];
     assert_eq!(session(&b.encode(), &bytes, &mut answers).0, 0);
     for (order, answer) in bytes.chunks(4).zip(answers.chunks(16)).skip(1) {
@@ -46,9 +46,9 @@ fn drivers_turn_off_in_turn() {
             let values = values.as_bytes();
             values.windows(2).filter(|w| w[0] != w[1]).count() as u16
         };
-        let advances = 2 * letters.len() + 1;
+        let steps = 2 * letters.len() + 1;
         for (kind, values) in LINES.into_iter().zip([bus, register]) {
-            let (text, picks) = followed(&turned_off(kind, letters), advances);
+            let (text, picks) = followed(&turned_off(kind, letters), steps);
             assert_eq!(text, values, "kind {kind}, {letters}");
             assert_eq!(picks, changes(values), "kind {kind}, {letters}");
         }
@@ -60,7 +60,7 @@ fn without_drivers_a_bus_keeps_its_start() {
     for kind in LINES {
         let mut b = turned_off(kind, "");
         b.m.signals[0].start = 6;
-        let (a, c) = play(&b, &[SET, (READ, 0, 0), ADV]);
+        let (a, c) = play(&b, &[SET, (READ, 0, 0), TIM]);
         assert_eq!((a[1].3, a[2].0), (6, 17));
         assert_eq!(c.signals, [[6; 32]]);
     }
@@ -82,7 +82,7 @@ fn a_null_makes_its_signal_active() {
     // Each null is a delta step, also where the value stays.
     let list = [(0, None), (1, None)];
     for kind in LINES {
-        let (a, c) = play(&releases(kind, &list), &[SET, ADV, ADV, ADV, ADV]);
+        let (a, c) = play(&releases(kind, &list), &[SET, DEL, TIM, DEL, TIM]);
         let numbers: Vec<(u8, u8)> = a.iter().map(|x| (x.0, x.1)).collect();
         assert_eq!(numbers, [(0, 0), (0, 1), (0, 2), (0, 1), (17, 0)]);
         assert_eq!((c.time, c.delta), (1, 1));
@@ -121,7 +121,7 @@ fn null_and_value_at_once() {
         b.driver(0, s);
         b.driver(1, s);
         assert_eq!(followed(&b, 3).0, "Z001");
-        let (_, c) = play(&b, &[SET, ADV, ADV, ADV]);
+        let (_, c) = play(&b, &[SET, DEL, TIM, DEL]);
         let current: Vec<Carried> = c.drivers.iter().map(|d| d.current).collect();
         assert_eq!(current, [None, Some(3)]);
     }
@@ -196,7 +196,7 @@ fn fault_order_of_a_null() {
 fn the_past_of_a_line() {
     let list = [(1, Some(3)), (3, None)];
     for (kind, past) in LINES.into_iter().zip([[4, 3, 3, 2], [3, 3, 3, 2]]) {
-        let (_, c) = play(&releases(kind, &list), &[SET, ADV, ADV, ADV, ADV]);
+        let (_, c) = play(&releases(kind, &list), &[SET, TIM, DEL, TIM, DEL]);
         assert_eq!((c.time, &c.signals[0][..4]), (3, &past[..]));
     }
 }
@@ -327,7 +327,7 @@ fn eight_and_lower_before_twenty() {
     let mut b = rich_line();
     b.m.signals[2].kind = PLAIN;
     let model = b.encode();
-    assert_eq!(session(&model, &[2, 0, 0], &mut [0; 5]).0, 20);
-    assert_eq!(session(&model, &[2, 0, 0, 0], &mut [0; 5]).0, 20);
-    assert_eq!(print(&model, &[2, 0, 0, 0]), "20\n");
+    assert_eq!(session(&model, &[6, 0, 0], &mut [0; 5]).0, 20);
+    assert_eq!(session(&model, &[6, 0, 0, 0], &mut [0; 5]).0, 20);
+    assert_eq!(print(&model, &[6, 0, 0, 0]), "20\n");
 }

@@ -15,13 +15,13 @@ fn the_inverter_by_sets() {
     let list = [
         (PICK_SET, 0, 3),
         (PICK_SET, 0, 3),
-        ADV,
-        ADV,
-        ADV,
+        DEL,
+        TIM,
+        DEL,
         (PICK_SET, 0, 1),
         (PICK_SET, 0, 1),
-        ADV,
-        ADV,
+        DEL,
+        TIM,
         (READ, 1, 0),
     ];
     let text = "0 0 2 0 0 0\n0 0 2 0 0 0\n0 1 0 0 0 0\n0 2 0 0 0 1\n0 1 0 0 0 1\n\
@@ -53,7 +53,7 @@ fn the_empty_set() {
     let (a, c) = play(&inverter(), &[empty]);
     assert_eq!((a, c), (vec![(0, 0, 0, 0, 0, 0)], play(&inverter(), &[]).1));
     // With none ready, at a later time, and behind a fault.
-    let (a, _) = play(&inverter(), &[SET, empty, ADV, ADV, empty]);
+    let (a, _) = play(&inverter(), &[SET, empty, DEL, TIM, empty]);
     assert_eq!((a[1], a[4]), ((0, 0, 0, 0, 0, 0), (0, 0, 0, 0, 0, 1)));
     let (a, _) = play(&team(&[Fail(1)]), &[SET, empty]);
     assert_eq!(a[1], (0, 0, 0, 0, 0, 0));
@@ -94,7 +94,7 @@ fn those_not_ready() {
         assert_eq!(a[2], (0, 0, picks, 0, 0, 0), "set {set}");
     }
     // At a later time: process 1 of the inverter waits.
-    let front = [SET, ADV, ADV, ADV];
+    let front = [SET, DEL, TIM, DEL];
     let list = [2, 3].map(|set| (PICK_SET, 0, set));
     assert_eq!(refusals(&inverter(), &front, &list), [13; 2]);
 }
@@ -209,15 +209,15 @@ fn members_drive_one_line() {
     // 1 and 0 by two members make X, Z and H of two others H.
     for (codes, value) in [([3, 2], 1), ([4, 7], 7)] {
         let b = team(&codes.map(Drive));
-        let (a, c) = play(&b, &[(PICK_SET, 0, 3), (PICK_SET, 0, 3), ADV, (READ, 0, 0)]);
+        let (a, c) = play(&b, &[(PICK_SET, 0, 3), (PICK_SET, 0, 3), DEL, (READ, 0, 0)]);
         assert_eq!(a[3].3, value);
         assert_eq!(c.drivers.len(), 2);
     }
 }
 
 #[test]
-fn kinds_above_five_are_unknown() {
-    for kind in [0, 6, 7, 128, 255] {
+fn unknown_kinds() {
+    for kind in [0, 2, 8, 9, 128, 255] {
         assert_eq!(
             refusals(&inverter(), &[], &[(kind, 0, 0), (kind, 0, 3)]),
             [11; 2]

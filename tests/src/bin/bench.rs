@@ -214,8 +214,8 @@ struct List {
     advances: u64,
 }
 
-/// Settles where a process is ready, advances otherwise, up to `most` orders
-/// or until an advance would be refused.
+/// Settles where a process is ready, the step that fits otherwise, up to `most` orders
+/// or until a step would be refused.
 fn list(b: &Builder, most: usize) -> List {
     let mut c = Config::first(&b.m);
     let mut l = List {
@@ -228,11 +228,12 @@ fn list(b: &Builder, most: usize) -> List {
             l.picks += c.settle(&b.m, 65_535).0 as u64;
             l.orders.extend([3, 0, 255, 255]);
         } else {
-            if c.advance(&b.m).is_err() {
+            let fits = c.fitting();
+            if c.step(&b.m, fits).is_err() {
                 break;
             }
             l.advances += 1;
-            l.orders.extend([2, 0, 0, 0]);
+            l.orders.extend(fits.order());
         }
     }
     l
@@ -372,7 +373,7 @@ fn work(d: &Design, length: u64) -> [f64; 2] {
         while let (picks @ 1.., _) = c.settle(&b.m, 65_535) {
             done[0] += picks as f64;
         }
-        if c.time > stop || c.advance(&b.m).is_err() {
+        if c.time > stop || c.step(&b.m, c.fitting()).is_err() {
             return done;
         }
         done[1] += 1.0;

@@ -1,9 +1,11 @@
 //! Holds this kernel against the proved one:
-//! `compare models N SEED`, `compare sessions N SEED`, `compare schedules N SEED`, `compare dumps N SEED`,
-//! `compare limits`. Case i has the seed SEED + i, so `compare sessions 1 S` repeats seed S.
-//! Sessions and schedules are compared with the feature `session`, dumps with the feature `dumps`, which ask for libraries that
-//! have them.
+//! `compare models N SEED`, `compare sessions N SEED`, `compare schedules N SEED`, `compare moves N SEED`,
+//! `compare dumps N SEED`, `compare limits`. Case i has the seed SEED + i, so `compare sessions 1 S` repeats seed S.
+//! Sessions and schedules are compared with the feature `session`, dumps with the feature `dumps`, stored lists moved over
+//! with the feature `moves`, which ask for libraries that have them.
 
+#[cfg(feature = "moves")]
+use second_kernel::proved_moves;
 use second_kernel::{end, proved, tally};
 
 #[cfg(feature = "session")]
@@ -16,9 +18,17 @@ const DUMP: Option<tally::Dump> = Some(&proved::dump);
 #[cfg(not(feature = "dumps"))]
 const DUMP: Option<tally::Dump> = None;
 
+#[cfg(feature = "moves")]
+const MOVE: Option<tally::Move> = Some(&proved_moves::move_over);
+#[cfg(not(feature = "moves"))]
+const MOVE: Option<tally::Move> = None;
+
 fn main() -> std::process::ExitCode {
-    end(
-        "compare",
-        tally::run("compare", Some(&proved::judge), SESSION, DUMP),
-    )
+    let other = tally::Other {
+        judge: Some(&proved::judge),
+        session: SESSION,
+        dump: DUMP,
+        move_over: MOVE,
+    };
+    end("compare", tally::run("compare", other))
 }

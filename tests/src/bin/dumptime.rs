@@ -2,9 +2,9 @@
 //! arguments, as processes that write into a file, in turn.
 
 use second_kernel::builder::Builder;
-use second_kernel::cases::{inverter, orders};
+use second_kernel::cases::{inverter, orders, stepped, STEP};
 use second_kernel::model::*;
-use second_kernel::session::{ADVANCE, SETTLE};
+use second_kernel::session::SETTLE;
 use std::fs::{self, File};
 use std::path::Path;
 use std::process::{Command, ExitCode};
@@ -13,10 +13,15 @@ use std::time::Instant;
 const RUNS: usize = 50;
 const ORDERS: usize = 4096;
 
-const ADV: (u8, u8, u16) = (ADVANCE, 0, 0);
 const SET: (u8, u8, u16) = (SETTLE, 0, 1000);
 
 type Session = (Vec<u8>, Vec<u8>);
+
+/// A full session of these orders over and over.
+fn session(b: &Builder, round: &[(u8, u8, u16)]) -> Session {
+    let list: Vec<_> = round.iter().copied().cycle().take(ORDERS).collect();
+    (b.encode(), orders(&stepped(b, &list)))
+}
 
 /// A clock of two time units and fifteen dividers in a row. Each has a logic signal, which the next one divides, and an integer that
 /// counts its changes.
@@ -45,8 +50,7 @@ fn typical() -> Session {
             b.wait(0, ABSENT, one);
         }
     }
-    let list = [SET, ADV].into_iter().cycle().take(ORDERS);
-    (b.encode(), orders(&list.collect::<Vec<_>>()))
+    session(&b, &[SET, STEP])
 }
 
 /// A process that gives all of 32 integers another value of 32 digits for each of the next eight times, as many as a driver holds.
@@ -74,9 +78,7 @@ fn worst() -> Session {
     b.unless(enough, 0);
     b.assign(delay, one);
     b.wait(0, ABSENT, eight);
-    let times = [[ADV, ADV]; 8].concat();
-    let list = [vec![SET], times].concat().into_iter().cycle().take(ORDERS);
-    (b.encode(), orders(&list.collect::<Vec<_>>()))
+    session(&b, &[vec![SET], vec![STEP; 16]].concat())
 }
 
 /// The milliseconds of one process, and what it wrote.

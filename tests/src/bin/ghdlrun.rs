@@ -153,7 +153,12 @@ fn run(m: &Model) -> Run {
         }
         let (time, row) = (c.time, c.current());
         let last = c.delta == DELTA_LIMIT;
-        let step = c.advance(m);
+        let fits = c.fitting();
+        if orders.len() < WITH_SETS && rng.chance(1, 4) {
+            // Refused, so that nothing comes of it.
+            orders.push(fits.other().order());
+        }
+        let step = c.step(m, fits).map(|()| fits);
         if last && step != Err(16) && m.nodes.iter().any(delay_zero::is_delay_zero) {
             // The delayed signals follow in a cycle more.
             cycles = DELTA_LIMIT + 1;
@@ -161,7 +166,7 @@ fn run(m: &Model) -> Run {
         if !matches!(step, Ok(Step::Delta) | Err(15 | 16)) {
             orders.extend(&reads);
         }
-        orders.push([2, 0, 0, 0]);
+        orders.push(fits.order());
         match step {
             Ok(Step::Delta) => {}
             Ok(Step::Time) => {

@@ -1,10 +1,9 @@
 //! What the generated cases come to in this kernel alone:
-//! `tally models N SEED`, `tally sessions N SEED`, `tally schedules N SEED`, `tally dumps N SEED`,
-//! `tally limits`.
+//! `tally models N SEED`, `tally sessions N SEED`, `tally schedules N SEED`, `tally moves N SEED`,
+//! `tally dumps N SEED`, `tally limits`.
+
+use second_kernel::{end, tally};
 
 fn main() -> std::process::ExitCode {
-    second_kernel::end(
-        "tally",
-        second_kernel::tally::run("tally", None, None, None),
-    )
+    end("tally", tally::run("tally", tally::Other::default()))
 }

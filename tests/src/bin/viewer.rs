@@ -72,13 +72,14 @@ fn through(model: &[u8], orders: &[u8]) -> Result<usize, String> {
 
 /// The fixed runs.
 fn fixed() -> Vec<(String, Vec<u8>, Vec<u8>)> {
-    let case = |name: &str, b: Builder, orders| (name.to_string(), b.encode(), orders);
+    let case = |name: &str, b: &Builder, orders| (name.to_string(), b.encode(), orders);
+    let (nine, integers) = (cases::nine_in_turn(), cases::integers_in_turn());
     let (longest, orders) = cases::longest_dump();
     vec![
-        case("the inverter", cases::inverter(), cases::inverter_orders()),
-        case("nine values", cases::nine_in_turn(), rounds(250, 1)),
-        case("integers", cases::integers_in_turn(), rounds(300, 1)),
-        case("the longest dump", longest, orders),
+        case("the inverter", &cases::inverter(), cases::inverter_orders()),
+        case("nine values", &nine, rounds(&nine, 250, 1)),
+        case("integers", &integers, rounds(&integers, 300, 1)),
+        case("the longest dump", &longest, orders),
     ]
 }
 

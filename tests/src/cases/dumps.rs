@@ -1,6 +1,6 @@
 //! Runs for dumps.
 
-use super::{orders, rounds, ADVANCE, SETTLE};
+use super::{orders, rounds, stepped, SETTLE, STEP};
 use crate::builder::Builder;
 use crate::integers::*;
 use crate::model::*;
@@ -48,13 +48,13 @@ pub fn no_signals() -> Builder {
 
 /// A run whose dump is about as long as one can be: 32 integer signals of 32 digits, all
 /// changed at every time. A driver holds eight transactions, so that eight times take a
-/// settle and sixteen advances; steps are as long as that allows.
+/// settle and sixteen steps; times are as far apart as that allows.
 pub fn longest_dump() -> (Builder, Vec<u8>) {
-    const STEP: i32 = TOP / 8;
+    const APART: i32 = TOP / 8;
     let mut b = Builder::new();
     b.process();
     let (delay, value) = (b.variable(INTEGER, 0, 0), b.variable(INTEGER, 0, -1));
-    let (step, last, all) = (b.integer(STEP), b.integer(7 * STEP), b.integer(8 * STEP));
+    let (step, last, all) = (b.integer(APART), b.integer(7 * APART), b.integer(8 * APART));
     let (zero, minus) = (b.integer(0), b.integer(-3));
     let (read_delay, read_value) = (b.read_variable(delay), b.read_variable(value));
     let later = b.binary(SUM, read_delay, step);
@@ -70,23 +70,22 @@ pub fn longest_dump() -> (Builder, Vec<u8>) {
     b.unless(done, 0);
     b.assign(delay, zero);
     b.wait(0, ABSENT, all);
-    let advances = [(ADVANCE, 0, 0); 16];
-    let round = [&[(SETTLE, 0, 65_535)], &advances[..]].concat();
-    let mut list = orders(&round.repeat(241));
-    list.truncate(16_384);
+    let round = [&[(SETTLE, 0, 65_535)], &[STEP; 16][..]].concat();
+    let mut list = round.repeat(241);
+    list.truncate(4_096);
+    let list = orders(&stepped(&b, &list));
     (b, list)
 }
 
 /// All of them as sessions.
 pub fn sessions(add: &mut impl FnMut(String, &Builder, Vec<u8>)) {
-    add(
-        "nine values in turn".into(),
-        &nine_in_turn(),
-        rounds(250, 1),
-    );
-    let integers = integers_in_turn();
-    add("integers in turn".into(), &integers, rounds(300, 1));
-    add("no signals".into(), &no_signals(), rounds(20, 1));
+    for (name, b, n) in [
+        ("nine values in turn", nine_in_turn(), 250),
+        ("integers in turn", integers_in_turn(), 300),
+        ("no signals", no_signals(), 20),
+    ] {
+        add(name.into(), &b, rounds(&b, n, 1));
+    }
     let (longest, orders) = longest_dump();
     add("the longest dump".into(), &longest, orders);
 }

@@ -1,6 +1,6 @@
 //! Runs with picks of sets.
 
-use super::{orders, ADVANCE, PICK, PICK_SET, READ, SETTLE};
+use super::{orders, DELTA, PICK, PICK_SET, READ, SETTLE, TIME};
 use crate::builder::Builder;
 use crate::integers::*;
 use crate::model::*;
@@ -77,12 +77,12 @@ pub fn sessions(add: &mut impl FnMut(String, &Builder, Vec<u8>)) {
     let by_sets = [
         (PICK_SET, 0, 3),
         (PICK_SET, 0, 3),
-        (ADVANCE, 0, 0),
-        (ADVANCE, 0, 0),
-        (ADVANCE, 0, 0),
+        (DELTA, 0, 0),
+        (TIME, 0, 0),
+        (DELTA, 0, 0),
         (PICK_SET, 0, 1),
         (PICK_SET, 0, 1),
-        (ADVANCE, 0, 0),
+        (DELTA, 0, 0),
         (PICK_SET, 0, 0),
         (READ, 1, 0),
     ];
@@ -115,8 +115,9 @@ pub fn sessions(add: &mut impl FnMut(String, &Builder, Vec<u8>)) {
     add("all processes at once".into(), &sixteen, orders(&all));
     let failing = team(&[Turn::Fail(4); 16]);
     add("each process stops".into(), &failing, orders(&each));
-    let unknown = [0].into_iter().chain(6..=255);
-    let unknown: Vec<_> = unknown.map(|kind| (kind, 0, 3)).collect();
+    let unknown = [0, 2].into_iter().chain(8..=255);
+    let unknown = unknown.flat_map(|kind| [(kind, 0, 0), (kind, 0, 3)]);
+    let unknown: Vec<_> = unknown.collect();
     add("unknown kinds".into(), &sixteen, orders(&unknown));
     let ninth = team(&[Turn::Fail(3), Turn::Drive(2)]);
     let list = [(PICK_SET, 0, 1); 10];

@@ -47,14 +47,16 @@ pub const DUMP: Bench = Bench {
     never: "numbers 10 and 21 cannot occur: there is no answer buffer, and the program's own holds every dump",
 };
 
-/// What lines of random sessions show in the columns of value and node, besides 0, and of
-/// sets.
+/// What lines of random sessions show in the columns of value and node, besides 0, of sets
+/// and of steps.
 const NODE: &str = "a pick with a node";
 const NO_NODE: &str = "a pick with node 65535";
 const NEGATIVE: &str = "a read of a negative value";
 const SEVERAL: &str = "a set of several processes";
 const STOPPED: &str = "a set of which one stopped";
-const COLUMNS: [&str; 5] = [NODE, NO_NODE, NEGATIVE, SEVERAL, STOPPED];
+const NOTHING_DUE: &str = "a delta step with nothing due";
+const DUE: &str = "a time step with something due";
+const COLUMNS: [&str; 7] = [NODE, NO_NODE, NEGATIVE, SEVERAL, STOPPED, NOTHING_DUE, DUE];
 
 /// What a played session's lines show.
 fn columns_shown(orders: &[u8], text: &str) -> Seen {
@@ -71,6 +73,8 @@ fn columns_shown(orders: &[u8], text: &str) -> Seen {
                 seen.extend(several.then_some(SEVERAL));
                 seen.extend((columns[1] == "1").then_some(STOPPED));
             }
+            (session::DELTA, ..) if columns[0] == "22" => _ = seen.insert(NOTHING_DUE),
+            (session::TIME, ..) if columns[0] == "23" => _ = seen.insert(DUE),
             _ => {}
         }
     }
@@ -90,6 +94,8 @@ mod tests {
             (session::READ, "0 0 0 -7 0 0", NEGATIVE),
             (session::PICK_SET, "0 0 2 0 0 7", SEVERAL),
             (session::PICK_SET, "0 1 1 0 0 0", STOPPED),
+            (session::DELTA, "22 0 0 0 0 7", NOTHING_DUE),
+            (session::TIME, "23 0 0 0 0 7", DUE),
         ] {
             assert_eq!(shown(order, line), Seen::from([what]), "{line}");
         }
@@ -97,5 +103,7 @@ mod tests {
         assert!(shown(session::READ, "0 0 0 7 0 3").is_empty());
         assert!(shown(session::PICK_SET, "0 0 1 0 0 3").is_empty());
         assert!(shown(session::PICK_SET, "13 0 0 0 0 3").is_empty());
+        assert!(shown(session::DELTA, "0 1 0 0 0 3").is_empty());
+        assert!(shown(session::TIME, "17 0 0 0 0 3").is_empty());
     }
 }

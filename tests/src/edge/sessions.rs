@@ -2,7 +2,9 @@
 
 use super::Bench;
 use crate::builder::Builder;
-use crate::cases::{self, in_64_blocks, inverter, inverter_orders, largest, ADVANCE, READ, SETTLE};
+use crate::cases::{
+    self, in_64_blocks, inverter, inverter_orders, largest, DELTA, READ, SETTLE, TIME,
+};
 use crate::damage;
 use crate::features;
 use crate::model::*;
@@ -141,7 +143,7 @@ pub fn long_lines() -> Case {
     let step = b.integer(2_000_000_000);
     b.process();
     b.wait(0, ABSENT, step);
-    let round = [(SETTLE, 0, 9), (ADVANCE, 0, 0), (ADVANCE, 0, 0)].repeat(500);
+    let round = [(SETTLE, 0, 9), (TIME, 0, 0), (DELTA, 0, 0)].repeat(500);
     let reads = vec![(READ, 0, 0); 4_096 - round.len()];
     let orders = cases::orders(&[round, reads].concat());
     Case::new("4,096 orders, long lines", &b.encode(), &orders, 0)

@@ -2,7 +2,7 @@
 //! session is played again pick by pick; before a statement runs, and when a
 //! wait's condition is asked, the operators of its expressions are looked at.
 
-use super::{advance_asking, decides, in_roles, ready_place, replay, Player, Seen};
+use super::{decides, in_roles, ready_place, replay, step_asking, Player, Seen};
 use crate::cycle::*;
 use crate::integers::*;
 use crate::model::Role::*;
@@ -267,8 +267,8 @@ impl Player for Play<'_> {
         let _ = self.c.pick(self.m, p);
     }
 
-    fn advance(&mut self) {
-        for condition in advance_asking(self.m, &mut self.c) {
+    fn step(&mut self, step: Step) {
+        for condition in step_asking(self.m, &mut self.c, step) {
             self.expression(condition, Until);
         }
     }
@@ -355,7 +355,7 @@ mod tests {
     use crate::cases::*;
 
     fn shown(b: &Builder) -> Seen {
-        of_session(&b.m, &watched(3))
+        of_session(&b.m, &watched(b, 3))
     }
 
     /// What one operator on constants shows.

@@ -2,7 +2,7 @@
 //! pick by pick; the delays of 0 that a statement reads are looked at, and each wait's
 //! condition that has some is asked again by other readings.
 
-use super::{advance_asking, decides, in_roles, play, ready_place, replay, Player, Seen};
+use super::{decides, in_roles, play, ready_place, replay, step_asking, Player, Seen};
 use crate::cycle::*;
 use crate::model::Role::*;
 use crate::model::*;
@@ -214,9 +214,9 @@ impl Player for Play<'_> {
         let _ = self.c.pick(self.m, p);
     }
 
-    fn advance(&mut self) {
+    fn step(&mut self, step: Step) {
         let (former, old) = (self.c.earlier.clone(), self.c.current());
-        let asked = advance_asking(self.m, &mut self.c);
+        let asked = step_asking(self.m, &mut self.c, step);
         for condition in asked {
             if self.trees[condition as usize] {
                 self.condition(condition, &former);
@@ -341,14 +341,14 @@ mod tests {
 
     /// What the orders show on a model, in the order of the names.
     fn shown(b: &Builder, list: &[(u8, u8, u16)]) -> Vec<&'static str> {
-        let seen = of_session(&b.m, &orders(list));
+        let seen = of_session(&b.m, &orders(&stepped(b, list)));
         let all = [in_sessions(), FAULT.to_vec()].concat();
         all.into_iter().filter(|what| seen.contains(what)).collect()
     }
 
-    /// A settle, then so many advances with a settle after each.
+    /// A settle, then so many steps with a settle after each, for `shown`.
     fn turns(n: usize) -> Vec<(u8, u8, u16)> {
-        let round = [(ADVANCE, 0, 0), (SETTLE, 0, 9)];
+        let round = [STEP, (SETTLE, 0, 9)];
         [&[(SETTLE, 0, 9)][..], &round.repeat(n)].concat()
     }
 

@@ -5,7 +5,8 @@ use super::Seen;
 use crate::cycle::{Config, STOPPED, TIME_LIMIT};
 use crate::integers::TOP;
 use crate::model::{Model, INTEGER, LOGIC};
-use crate::session::{self, ANSWER, ORDER, PICK_SET};
+use crate::moves::ADVANCE;
+use crate::session::{self, ANSWER, DELTA, ORDER, PICK_SET, TIME};
 use crate::vcd::write::{line, Row};
 
 /// A run as it was played.
@@ -15,10 +16,8 @@ struct Played<'r> {
     run: &'r [Row],
     /// The end configuration.
     end: Config,
-    /// The orders before the last time step had a refused one among them, and a set that
-    /// picked some process.
-    refused: bool,
-    sets: bool,
+    /// What the orders before the last time step had among them.
+    before: Seen,
     /// The last order was a time step.
     stepped: bool,
     /// Some signal left its value of a time's beginning and had it again at its end.
@@ -26,6 +25,12 @@ struct Played<'r> {
 }
 
 type OfRun = (&'static str, fn(&Played) -> bool);
+
+const REFUSED: &str = "a refused order before a time step";
+const SETS: &str = "a set that picks before a time step";
+const DELTA_REFUSED: &str = "order 6 with 22 before a time step";
+const TIME_REFUSED: &str = "order 7 with 23 before a time step";
+const WITHDRAWN: &str = "order 2 before a time step";
 
 const RUNS: &[OfRun] = &[
     ("no signals", |p| p.m.signals.is_empty()),
@@ -40,8 +45,11 @@ const RUNS: &[OfRun] = &[
     ("a stopped process at the end", |p| {
         p.end.processes.iter().any(|q| q.standing == STOPPED)
     }),
-    ("a refused order before a time step", |p| p.refused),
-    ("a set that picks before a time step", |p| p.sets),
+    (REFUSED, |p| p.before.contains(REFUSED)),
+    (SETS, |p| p.before.contains(SETS)),
+    (DELTA_REFUSED, |p| p.before.contains(DELTA_REFUSED)),
+    (TIME_REFUSED, |p| p.before.contains(TIME_REFUSED)),
+    (WITHDRAWN, |p| p.before.contains(WITHDRAWN)),
     ("a time step at the end", |p| p.stepped),
     ("other values at time 0 than the first", |p| {
         p.run[0].1 != Config::first(p.m).current()
@@ -203,16 +211,23 @@ pub fn of_run(m: &Model, orders: &[u8], run: &[Row]) -> Seen {
 
 fn played<'r>(m: &'r Model, orders: &'r [u8], run: &'r [Row]) -> Played<'r> {
     let mut c = Config::first(m);
-    let (mut refused, mut sets, mut stepped, mut pulse) = (false, false, false, false);
-    let mut before_step = (false, false);
+    let (mut stepped, mut pulse) = (false, false);
+    let (mut had, mut before) = (Seen::new(), Seen::new());
     // The values of the time's beginning, and whether each was another one since.
     let mut began = c.current();
     let mut left = vec![false; began.len()];
     for order in orders.chunks_exact(ORDER) {
         let (time, mut answer) = (c.time, [0; ANSWER]);
         session::play(m, &mut c, order, &mut answer);
-        refused |= answer[0] != 0;
-        sets |= order[0] == PICK_SET && answer[2] > 0;
+        for (what, is) in [
+            (REFUSED, answer[0] != 0),
+            (SETS, order[0] == PICK_SET && answer[2] > 0),
+            (DELTA_REFUSED, order[0] == DELTA && answer[0] == 22),
+            (TIME_REFUSED, order[0] == TIME && answer[0] == 23),
+            (WITHDRAWN, order[0] == ADVANCE),
+        ] {
+            had.extend(is.then_some(what));
+        }
         stepped = c.time != time;
         let now = c.current();
         for (n, left) in left.iter_mut().enumerate() {
@@ -220,7 +235,7 @@ fn played<'r>(m: &'r Model, orders: &'r [u8], run: &'r [Row]) -> Played<'r> {
             *left = !stepped && (*left || began[n] != now[n]);
         }
         if stepped {
-            before_step = (refused, sets);
+            before = had.clone();
             began = now;
         }
     }
@@ -229,8 +244,7 @@ fn played<'r>(m: &'r Model, orders: &'r [u8], run: &'r [Row]) -> Played<'r> {
         orders,
         run,
         end: c,
-        refused: before_step.0,
-        sets: before_step.1,
+        before,
         stepped,
         pulse,
     }
@@ -261,15 +275,23 @@ mod tests {
             ]
         );
         let refused = [&orders(&[(READ, 9, 0)]), &inverter_orders()[..]].concat();
-        assert!(shown(&inverter(), &refused).contains(&"a refused order before a time step"));
+        assert!(shown(&inverter(), &refused).contains(&REFUSED));
+        let (front, rest) = (inverter_orders()[..8].to_vec(), &inverter_orders()[8..]);
+        for (order, what) in [((DELTA, 0, 0), DELTA_REFUSED), ((ADVANCE, 0, 0), WITHDRAWN)] {
+            let list = [&front[..], &orders(&[order]), rest].concat();
+            assert!(shown(&inverter(), &list).contains(&what));
+        }
+        let wrong = orders(&[(SETTLE, 0, 10), (TIME, 0, 0)]);
+        let list = [&wrong[..], &inverter_orders()].concat();
+        assert!(shown(&inverter(), &list).contains(&TIME_REFUSED));
         let sets = [(PICK_SET, 0, 3), (PICK_SET, 0, 3)];
         let by_sets = [&orders(&sets), &inverter_orders()[..]].concat();
-        assert!(shown(&inverter(), &by_sets).contains(&"a set that picks before a time step"));
+        assert!(shown(&inverter(), &by_sets).contains(&SETS));
         let alone = "orders, and time 0 alone";
         assert_eq!(shown(&inverter(), &inverter_orders()[..4]), [alone]);
         assert_eq!(shown(&inverter(), &[]), ["no orders"]);
         assert_eq!(
-            shown(&no_signals(), &rounds(40, 1)),
+            shown(&no_signals(), &rounds(&no_signals(), 40, 1)),
             ["no signals", "five times or more"]
         );
     }
@@ -280,14 +302,14 @@ mod tests {
         let b = in_turn(LOGIC, 2, &[3, 7, 3, 1, 3]);
         let left = "a time left out, other values written alike";
         let first = "other values at time 0 than the first";
-        assert_eq!(shown(&b, &rounds(4, 1)), [first, left]);
+        assert_eq!(shown(&b, &rounds(&b, 4, 1)), [first, left]);
         // The last time is reached, and left out until it has a value of its own.
         let (same, end) = (
             "a time left out, all values as before",
             "a time step at the end",
         );
-        assert_eq!(shown(&b, &rounds(2, 1)), [end, first, same]);
-        let seen = shown(&b, &rounds(13, 1));
+        assert_eq!(shown(&b, &rounds(&b, 2, 1)), [end, first, same]);
+        let seen = shown(&b, &rounds(&b, 13, 1));
         assert_eq!(
             seen,
             [
@@ -303,7 +325,7 @@ mod tests {
     #[test]
     fn lines_and_identifiers() {
         let b = in_turn(INTEGER, 5, &[0, 0, -1, TOP, -TOP]);
-        let list = rounds(30, 1);
+        let list = rounds(&b, 30, 1);
         let seen = of_run(&b.m, &list, &settled(&b.m, &list));
         let lines: Vec<&str> = LINES
             .iter()

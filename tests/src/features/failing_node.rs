@@ -2,7 +2,7 @@
 //! by pick; where a process stops in an expression, the way from its top node down
 //! to the one that failed is followed.
 
-use super::{advance_asking, decides, ready_place, replay, trees, Player, Seen};
+use super::{decides, ready_place, replay, step_asking, trees, Player, Seen};
 use crate::cycle::*;
 use crate::integers::*;
 use crate::model::Role::*;
@@ -215,8 +215,8 @@ impl Player for Play<'_> {
         self.picked(p, By::Set);
     }
 
-    fn advance(&mut self) {
-        for condition in advance_asking(self.m, &mut self.c) {
+    fn step(&mut self, step: Step) {
+        for condition in step_asking(self.m, &mut self.c, step) {
             self.expression(By::Delta, Until, condition, false);
         }
     }
@@ -340,7 +340,7 @@ mod tests {
 
     const FIRST: [(u8, u8, u16); 1] = [(PICK, 0, 0)];
     const SETTLED: [(u8, u8, u16); 1] = [(SETTLE, 0, 9)];
-    const ADVANCED: [(u8, u8, u16); 3] = [(SETTLE, 0, 9), (ADVANCE, 0, 0), (ADVANCE, 0, 0)];
+    const STEPPED: [(u8, u8, u16); 3] = [(SETTLE, 0, 9), (TIME, 0, 0), (DELTA, 0, 0)];
 
     // The order of evaluation once more: what fails is the node that the walk comes
     // to, at each node of models as their sessions leave them.
@@ -461,8 +461,8 @@ mod tests {
             assert_eq!(shown(&by_zero(MOD, role), &SETTLED), names);
         }
         let names = ["a mod fails", CONDITION];
-        assert_eq!(shown(&by_zero(MOD, Until), &ADVANCED), names);
-        assert!(shown(&by_zero(MOD, Until), &ADVANCED[..2]).is_empty());
+        assert_eq!(shown(&by_zero(MOD, Until), &STEPPED), names);
+        assert!(shown(&by_zero(MOD, Until), &STEPPED[..2]).is_empty());
         let names = [
             "a sum fails",
             "a quotient fails",
@@ -470,7 +470,7 @@ mod tests {
             "b fails behind a value of a",
             TWO_NODES,
         ];
-        assert_eq!(shown(&failing_conditions(), &ADVANCED), names);
+        assert_eq!(shown(&failing_conditions(), &STEPPED), names);
     }
 
     #[test]
@@ -496,7 +496,7 @@ mod tests {
                 260
             ],
         );
-        assert!(shown(&b, &ADVANCED).contains(&"a node above 255 fails in a condition"));
+        assert!(shown(&b, &STEPPED).contains(&"a node above 255 fails in a condition"));
     }
 
     #[test]

@@ -327,13 +327,13 @@ impl Player for Play<'_> {
         }
     }
 
-    fn advance(&mut self) {
+    fn step(&mut self, step: Step) {
         let now = self.c.time;
-        let step = self.c.advance(self.m);
-        if step.is_ok() {
-            (self.at_once, self.later) = (0, 0);
+        if self.c.step(self.m, step).is_err() {
+            return;
         }
-        if step != Ok(Step::Delta) {
+        (self.at_once, self.later) = (0, 0);
+        if step == Step::Time {
             return;
         }
         for (origins, came) in self.origins.iter_mut().zip(&mut self.came) {
@@ -460,15 +460,15 @@ mod tests {
     use crate::cases::*;
     use Act::{Inertial, Null, Transport, Wait};
 
-    /// What a settle and so many advances with a settle after each show on a model, in
+    /// What a settle and so many steps with a settle after each show on a model, in
     /// the order of the names.
-    fn shown(b: &Builder, advances: usize) -> Vec<&'static str> {
-        let seen = of_session(&b.m, &watched(advances));
+    fn shown(b: &Builder, steps: usize) -> Vec<&'static str> {
+        let seen = of_session(&b.m, &watched(b, steps));
         let all = [in_sessions(), FAULT.to_vec()].concat();
         all.into_iter().filter(|what| seen.contains(what)).collect()
     }
 
-    /// What these show on a bus, before any advance.
+    /// What these show on a bus, before any step.
     fn of(list: &[Act]) -> Vec<&'static str> {
         shown(&acts(LOGIC, BUS, list), 0)
     }
@@ -616,8 +616,8 @@ mod tests {
 
     #[test]
     fn by_transport() {
-        let of = |width: i32, advances: usize| {
-            let seen = shown(&pulse(INTEGER, PLAIN, width, 3), advances);
+        let of = |width: i32, steps: usize| {
+            let seen = shown(&pulse(INTEGER, PLAIN, width, 3), steps);
             (seen.contains(&ANSWERS), seen.contains(&END))
         };
         assert_eq!(of(1, 2), (false, true));

@@ -204,7 +204,7 @@ impl Player for Play<'_> {
         self.see(NULL_EIGHTH, many == WAVEFORM && s.kind == 6);
     }
 
-    fn advance(&mut self) {
+    fn step(&mut self, step: Step) {
         let m = self.m;
         let now = self.c.time;
         let first = |d: &Driver| d.wave.first().copied().filter(|t| t.0 == now);
@@ -213,7 +213,7 @@ impl Player for Play<'_> {
         let off = self.c.drivers.iter().any(|d| d.current.is_none());
         let null = off || due.contains(&Some(None));
         let before = null.then(|| self.c.clone());
-        if self.c.advance(m) != Ok(Step::Delta) {
+        if self.c.step(m, step).is_err() || step == Step::Time {
             return;
         }
         self.remember();
@@ -332,8 +332,8 @@ mod tests {
     use crate::builder::Builder;
     use crate::cases::{null_after, releases, turned_off, watched};
 
-    fn shown(b: &Builder, advances: usize) -> Vec<&'static str> {
-        of_session(&b.m, &watched(advances)).into_iter().collect()
+    fn shown(b: &Builder, steps: usize) -> Vec<&'static str> {
+        of_session(&b.m, &watched(b, steps)).into_iter().collect()
     }
 
     fn sorted(names: &[&'static str]) -> Vec<&'static str> {

@@ -4,7 +4,7 @@
 use super::Seen;
 use crate::cycle::*;
 use crate::model::*;
-use crate::session::{self, ADVANCE, ANSWER, ORDER, PICK, PICK_SET, SETTLE};
+use crate::session::{self, ANSWER, DELTA, ORDER, PICK, PICK_SET, SETTLE, TIME};
 
 /// A set order and what came of it.
 struct SetOrder<'m> {
@@ -200,7 +200,7 @@ const DONE: &[Row] = &[
     }),
 ];
 
-const ADVANCED: &str = "an advance done right behind a set";
+const STEPPED: &str = "a step done right behind a set";
 const SETTLED: &str = "a settle that picks right behind a set";
 const PICKED: &str = "a pick of a member right behind a set";
 
@@ -316,7 +316,7 @@ const REFUSED: &[Row] = &[
 /// What a played session can show, but for processes that stop and refusals.
 pub fn in_sessions() -> Vec<&'static str> {
     let done = DONE.iter().map(|row| row.0);
-    done.chain([ADVANCED, SETTLED, PICKED]).collect()
+    done.chain([STEPPED, SETTLED, PICKED]).collect()
 }
 
 /// The processes that stop and the refusals among what a played session can show.
@@ -374,7 +374,7 @@ fn behind((set, refusal): (u16, u8), order: &[u8], answer: &[u8]) -> Option<&'st
         return None;
     }
     match order[0] {
-        ADVANCE => Some(ADVANCED),
+        DELTA | TIME => Some(STEPPED),
         SETTLE if answer[2..4] != [0, 0] => Some(SETTLED),
         PICK if set >> order[1] & 1 == 1 => Some(PICKED),
         _ => None,
@@ -391,7 +391,8 @@ mod tests {
     type Order = (u8, u8, u16);
 
     const ALL: Order = (SETTLE, 0, 99);
-    const ADV: Order = (ADVANCE, 0, 0);
+    const DEL: Order = (DELTA, 0, 0);
+    const TIM: Order = (TIME, 0, 0);
 
     fn set(set: u16) -> Order {
         (PICK_SET, 0, set)
@@ -457,7 +458,7 @@ mod tests {
         let (ready, none) = (DONE[0].0, DONE[1].0);
         assert_eq!(sets(&[Null], &[set(0)]), [ready]);
         assert_eq!(sets(&[Null], &[ALL, set(0)]), [none]);
-        assert!(sets(&[Null], &[ALL, ADV]).is_empty());
+        assert!(sets(&[Null], &[ALL, TIM]).is_empty());
     }
 
     #[test]
@@ -532,12 +533,12 @@ mod tests {
         let names = ["a set after a delta step", "a set at a later time"];
         let of = |list: &[Order]| shown(&names, &inverter(), list);
         assert!(of(&[set(3)]).is_empty());
-        assert_eq!(of(&[ALL, ADV, ADV, ADV, set(1)]), names);
+        assert_eq!(of(&[ALL, DEL, TIM, DEL, set(1)]), names);
         // The line wakes process 1 at time 0.
         let mut b = team(&[Drive(3), Wait]);
         b.m.statements[2].set = 1;
-        assert_eq!(shown(&names, &b, &[ALL, ADV, set(2)]), names[..1]);
-        assert!(shown(&names, &b, &[ALL, ADV, set(0)]).is_empty());
+        assert_eq!(shown(&names, &b, &[ALL, DEL, set(2)]), names[..1]);
+        assert!(shown(&names, &b, &[ALL, DEL, set(0)]).is_empty());
     }
 
     #[test]
@@ -545,7 +546,7 @@ mod tests {
         let names = [
             "the same set once more",
             "another set right behind a set",
-            ADVANCED,
+            STEPPED,
             SETTLED,
             PICKED,
             "a set done right behind a refused one",
@@ -555,8 +556,8 @@ mod tests {
         assert_eq!(of(&[set(1), set(2)]), names[1..2]);
         assert!(of(&[set(1), set(3)]).is_empty());
         assert!(of(&[set(1), (READ, 0, 0), set(1)]).is_empty());
-        assert_eq!(of(&[set(3), set(3), ADV])[1..], [ADVANCED]);
-        assert!(of(&[set(3), ADV]).is_empty());
+        assert_eq!(of(&[set(3), set(3), DEL])[1..], [STEPPED]);
+        assert!(of(&[set(3), DEL]).is_empty());
         assert_eq!(of(&[set(1), ALL]), [SETTLED]);
         assert!(of(&[set(1), (SETTLE, 0, 0)]).is_empty());
         assert_eq!(of(&[set(1), (PICK, 0, 0)]), [PICKED]);

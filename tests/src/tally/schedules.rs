@@ -4,14 +4,15 @@
 //! where one is given, by another kernel.
 
 use super::{part, play, print_shown, Session};
-use crate::cycle::{Config, READY, STOPPED, WAITING};
+use crate::cycle::{Config, Step, READY, STOPPED, WAITING};
 use crate::dump::{dump, DUMP};
 use crate::features::{replay, Player};
-use crate::gen::{self, order, set_of};
+use crate::gen::{self, order, set_of, Played};
 use crate::model::{encode, Model};
+use crate::moves::ADVANCE;
 use crate::numbers::Counts;
 use crate::rng::Rng;
-use crate::session::{self, session, ADVANCE, ANSWER, ORDER, PICK, PICK_SET, READ, SETTLE};
+use crate::session::{session, ANSWER, DELTA, ORDER, PICK, PICK_SET, READ, SETTLE, TIME};
 
 /// Picks of a list that is arranged otherwise, at most.
 const MOST: usize = 1_000;
@@ -24,6 +25,14 @@ const MIXED: &str = "picks, sets, settles and idle orders";
 const FREELY: &str = "to rest after as many advances";
 const FORMS: [&str; 5] = [ONE_BY_ONE, BY_SETS, IN_ROUNDS, MIXED, FREELY];
 
+/// Steps that are refused among a list's orders.
+const REFUSED: [(&str, u8, u8); 5] = [
+    ("order 6 with 22", DELTA, 22),
+    ("order 7 with 23", TIME, 23),
+    ("order 6 with 14", DELTA, 14),
+    ("order 7 with 14", TIME, 14),
+    ("order 2 with 11", ADVANCE, 11),
+];
 /// What the ends show, and the sets that are held against single picks.
 const ENDS: [&str; 3] = [
     "an end with a process ready",
@@ -101,7 +110,7 @@ impl Game<'_> {
         }
         let picks = |a: &[u8]| u16::from_le_bytes([a[2], a[3]]) as u64;
         let pairs = orders.chunks(ORDER).zip(answers.chunks(ANSWER));
-        let advanced = |(o, a): &(&[u8], &[u8])| o[0] == ADVANCE && a[0] == 0;
+        let advanced = |(o, a): &(&[u8], &[u8])| [DELTA, TIME].contains(&o[0]) && a[0] == 0;
         Ok(Outcome {
             end,
             picks: answers.chunks(ANSWER).map(picks).sum(),
@@ -145,8 +154,8 @@ impl Player for Turns<'_> {
         }
     }
 
-    fn advance(&mut self) {
-        if self.c.advance(self.m).is_ok() {
+    fn step(&mut self, step: Step) {
+        if self.c.step(self.m, step).is_ok() {
             self.turns.push([0; 16]);
         }
     }
@@ -165,18 +174,14 @@ fn turns(m: &Model, orders: &[u8]) -> Vec<[usize; 16]> {
 /// A list that is made as it is played.
 struct List<'l> {
     rng: &'l mut Rng,
-    m: &'l Model,
-    c: Config,
-    /// Picks of each process that are left before the next advance.
+    played: Played<'l>,
+    /// Picks of each process that are left before the next step.
     left: [usize; 16],
-    orders: Vec<u8>,
 }
 
 impl List<'_> {
     fn order(&mut self, kind: u8, argument: u8, count: u16) {
-        let order = order(kind, argument, count);
-        session::play(self.m, &mut self.c, &order, &mut [0; ANSWER]);
-        self.orders.extend(order);
+        self.played.order(order(kind, argument, count));
     }
 
     /// The processes that have a pick left.
@@ -207,12 +212,12 @@ impl List<'_> {
 
     /// A settle of the lowest ready ones, as long as they have picks left.
     fn settle(&mut self) {
-        let (most, mut c, mut count) = (self.rng.range(1, 20), self.c.clone(), 0);
+        let (most, mut c, mut count) = (self.rng.range(1, 20), self.played.c.clone(), 0);
         while let Some(p) = c.lowest_ready().filter(|&p| self.left[p] > 0) {
             if count == most {
                 break;
             }
-            c.pick(self.m, p).expect("a ready process is picked");
+            c.pick(self.played.m, p).expect("a ready process is picked");
             self.left[p] -= 1;
             count += 1;
         }
@@ -221,22 +226,38 @@ impl List<'_> {
 
     /// An order that changes nothing.
     fn idle(&mut self) {
-        let all = self.c.processes.len();
+        let all = self.played.c.processes.len();
         let every: Vec<usize> = (0..all).collect();
-        let waits = self.c.standing(READY).len() < all;
-        match self.rng.below(7) {
+        let waits = self.played.c.standing(READY).len() < all;
+        match self.rng.below(10) {
             0 => self.order(READ, 0, 0),
             1 => self.order(PICK_SET, 0, 0),
             2 => self.order(PICK_SET, 1, set_of(&every)),
             3 if all < 16 => self.order(PICK_SET, 0, u16::MAX),
             4 if waits => self.order(PICK_SET, 0, set_of(&every)),
             5 => self.order(PICK, all as u8, 0),
+            6 => self.order(ADVANCE, 0, 0),
+            // A process is ready.
+            7 => self.order(DELTA, 0, 0),
+            8 => self.order(TIME, 0, 0),
             _ => self.order(SETTLE, 0, 0),
         }
     }
 
+    /// A step that is done; where others may stand before it, half the time the other one,
+    /// now and then the order that is withdrawn.
+    fn advance(&mut self, others: bool) {
+        if others && self.rng.chance(1, 2) {
+            self.played.wrong_step();
+        }
+        if others && self.rng.chance(1, 4) {
+            self.order(ADVANCE, 0, 0);
+        }
+        self.played.step();
+    }
+
     /// The next picks of those that are left.
-    fn step(&mut self, form: &str) {
+    fn picks(&mut self, form: &str) {
         let open = self.open();
         let way = match form {
             ONE_BY_ONE => 0,
@@ -260,43 +281,39 @@ impl List<'_> {
     }
 }
 
-/// A list of the same picks between the same advances.
+/// A list of the same picks between the same steps.
 fn arranged(rng: &mut Rng, m: &Model, turns: &[[usize; 16]], form: &str) -> Vec<u8> {
     let mut list = List {
         rng,
-        m,
-        c: Config::first(m),
+        played: Played::new(m),
         left: [0; 16],
-        orders: vec![],
     };
     for (n, turn) in turns.iter().enumerate() {
         if n > 0 {
-            list.order(ADVANCE, 0, 0);
+            list.advance(form == MIXED);
         }
         list.left = *turn;
         while !list.open().is_empty() {
-            list.step(form);
+            list.picks(form);
         }
     }
-    list.orders
+    list.played.orders
 }
 
 /// A list of so many advances that ends with no process ready, its picks freely chosen.
 fn free(rng: &mut Rng, m: &Model, advances: u64) -> Vec<u8> {
     let mut list = List {
         rng,
-        m,
-        c: Config::first(m),
+        played: Played::new(m),
         left: [usize::MAX; 16],
-        orders: vec![],
     };
     let mut made = 0;
     loop {
-        let ready = list.c.standing(READY);
+        let ready = list.played.c.standing(READY);
         match ready[..] {
-            [] if made == advances => return list.orders,
+            [] if made == advances => return list.played.orders,
             [] => {
-                list.order(ADVANCE, 0, 0);
+                list.advance(true);
                 made += 1;
             }
             _ => match list.rng.below(4) {
@@ -341,6 +358,11 @@ fn arrangements(rng: &mut Rng, list: &[usize]) -> Vec<Vec<usize>> {
     all
 }
 
+/// All that schedules must show.
+fn names() -> Vec<&'static str> {
+    [&FORMS[..], &REFUSED.map(|row| row.0), &ENDS, &SETS].concat()
+}
+
 impl ScheduleTally {
     fn see(&mut self, what: &'static str, when: bool) {
         if when {
@@ -367,10 +389,12 @@ impl ScheduleTally {
             self.shown.add(form);
             self.picks += found.picks;
             self.advances += found.advances;
-            for (o, a) in list.chunks(ORDER).zip(found.answers.chunks(ANSWER)) {
-                if o[0] == PICK_SET && a[0] == 0 {
-                    self.sizes[a[2] as usize] += 1;
-                }
+            let pairs = || list.chunks(ORDER).zip(found.answers.chunks(ANSWER));
+            for (_, a) in pairs().filter(|(o, a)| o[0] == PICK_SET && a[0] == 0) {
+                self.sizes[a[2] as usize] += 1;
+            }
+            for (what, kind, refusal) in REFUSED {
+                self.see(what, pairs().any(|(o, a)| (o[0], a[0]) == (kind, refusal)));
             }
         }
         self.see(ENDS[0], ready);
@@ -424,7 +448,7 @@ impl ScheduleTally {
 
     /// Err where something occurred less often than `least`.
     pub fn require(&self, least: u64) -> Result<(), String> {
-        let names = [&FORMS[..], &ENDS, &SETS].concat();
+        let names = names();
         self.shown.require("schedules:", &names, least)
     }
 
@@ -438,6 +462,8 @@ impl ScheduleTally {
             self.picks, self.advances, self.sizes
         );
         print_shown("lists with the same end and picks", &self.shown, &FORMS);
+        let refused = REFUSED.map(|row| row.0);
+        print_shown("of them, with refused steps", &self.shown, &refused);
         print_shown("their ends, by models", &self.shown, &ENDS);
         println!(
             "sets held against single picks: {}, in {} arrangements",
@@ -467,7 +493,7 @@ mod tests {
         let t = schedules(300, 5, Some(&own)).unwrap();
         assert_eq!(t.require(3), Ok(()));
         let message = ScheduleTally::default().require(1).unwrap_err();
-        for name in [&FORMS[..], &ENDS, &SETS].concat() {
+        for name in names() {
             assert!(message.contains(&format!("{name} occurred 0")), "{message}");
         }
     }
@@ -520,9 +546,9 @@ mod tests {
                 assert_eq!(turns(&m, &other), all, "seed {seed}, {form}");
                 let kinds: Vec<u8> = other.chunks(ORDER).map(|o| o[0]).collect();
                 let own: &[u8] = match *form {
-                    ONE_BY_ONE => &[PICK, ADVANCE],
-                    BY_SETS | IN_ROUNDS => &[PICK_SET, ADVANCE],
-                    _ => &[PICK, PICK_SET, ADVANCE, SETTLE, READ],
+                    ONE_BY_ONE => &[PICK, DELTA, TIME],
+                    BY_SETS | IN_ROUNDS => &[PICK_SET, DELTA, TIME],
+                    _ => &[PICK, PICK_SET, DELTA, TIME, ADVANCE, SETTLE, READ],
                 };
                 assert!(kinds.iter().all(|kind| own.contains(kind)));
             }

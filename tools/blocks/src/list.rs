@@ -109,16 +109,18 @@ fn set_pick(set: u16) -> String {
     format!("pick{word}{}", members.concat())
 }
 
-/// Orders as text, one that the kernel refuses with 11 as its bytes. Bytes at the end that make no whole order are a comment.
+/// Orders as text, one that the kernel refuses with 11 as its bytes, the withdrawn order 2 too. Bytes at the end that make no whole order are a comment.
 pub fn orders(bytes: &[u8]) -> String {
     let mut out = String::new();
     for o in bytes.chunks(4) {
         let _ = match *o {
             [1, p, 0, 0] => writeln!(out, "pick {p}"),
-            [2, 0, 0, 0] => writeln!(out, "advance"),
+            [2, 0, 0, 0] => writeln!(out, "bytes 2 0 0 0 -- advance, withdrawn"),
             [3, 0, low, high] => writeln!(out, "settle {}", u16::from_le_bytes([low, high])),
             [4, s, 0, 0] => writeln!(out, "read {s}"),
             [5, 0, low, high] => writeln!(out, "{}", set_pick(u16::from_le_bytes([low, high]))),
+            [6, 0, 0, 0] => writeln!(out, "delta"),
+            [7, 0, 0, 0] => writeln!(out, "time"),
             [a, b, c, d] => writeln!(out, "bytes {a} {b} {c} {d}"),
             _ => writeln!(out, "-- bytes {o:?}"),
         };
@@ -242,7 +244,7 @@ process p1
 
     #[test]
     fn listed_orders_make_the_same_orders() {
-        let mut all = cases::orders(&[(cases::ADVANCE, 0, 0)]);
+        let mut all = vec![6, 0, 0, 0, 7, 0, 0, 0];
         for n in 0..=255 {
             all.extend(cases::orders(&[(cases::PICK, n, 0), (cases::READ, n, 0), (cases::SETTLE, 0, 257 * n as u16)]));
         }
@@ -254,11 +256,13 @@ process p1
     // Bytes near those of the orders' kinds, and any.
     #[test]
     fn listed_bytes_make_the_same_bytes() {
-        let small = (0..7).flat_map(|kind| (0..27).map(move |n| [kind, n % 3, n / 3 % 3, n / 9 % 3]));
+        let small = (0..9).flat_map(|kind| (0..27).map(move |n| [kind, n % 3, n / 3 % 3, n / 9 % 3]));
         let mut rng = Rng::new(8);
         let any: Vec<u8> = (0..40_000).map(|_| rng.below(256) as u8).collect();
         let all = [small.flatten().collect(), any].concat();
-        assert_eq!(text::orders(&orders(&all)), Ok(all));
+        let listed = orders(&all);
+        assert_eq!(text::warning(&listed), None);
+        assert_eq!(text::orders(&listed), Ok(all));
     }
 
     #[test]
@@ -269,7 +273,12 @@ process p1
             ([5, 0, 1, 128], "pick 0 15\n"),
             ([5, 0, 8, 0], "pick set 3\n"),
             ([5, 0, 0, 0], "pick set\n"),
+            ([6, 0, 0, 0], "delta\n"),
+            ([7, 0, 0, 0], "time\n"),
+            ([2, 0, 0, 0], "bytes 2 0 0 0 -- advance, withdrawn\n"),
             ([5, 3, 0, 0], "bytes 5 3 0 0\n"),
+            ([6, 0, 1, 0], "bytes 6 0 1 0\n"),
+            ([7, 1, 0, 0], "bytes 7 1 0 0\n"),
             ([1, 3, 5, 0], "bytes 1 3 5 0\n"),
             ([2, 0, 0, 1], "bytes 2 0 0 1\n"),
             ([0, 0, 0, 0], "bytes 0 0 0 0\n"),

@@ -1,11 +1,13 @@
-//! Turns model texts into blocks and order texts into orders, lists both as text, and explains nodes.
+//! Turns model texts into blocks and order texts into orders, lists both as text, explains nodes, and moves stored orders over.
 //! The grammar stands in the head of `text.rs`.
 
 mod explain;
 mod list;
+mod moves;
 mod text;
 
 use second_kernel::model::{self, Model};
+use second_kernel::numbers;
 use std::fs;
 use std::process::ExitCode;
 
@@ -15,7 +17,10 @@ usage: blocks make TEXT MODEL      a model text into blocks
        blocks explain MODEL NODE   the expression of a node, and the statements that use it
        blocks orders TEXT ORDERS   an order text into orders
        blocks show ORDERS          orders as an order text
-TEXT, MODEL and ORDERS are file names, NODE is a node's number; what is shown goes to standard output.";
+       blocks move MODEL ORDERS NEW
+                                   stored orders with order 2, withdrawn, into those of now: each 2 becomes the delta step (6)
+                                   or the time step (7) that gives its old answer
+TEXT, MODEL, ORDERS and NEW are file names, NODE is a node's number; what is shown goes to standard output. NEW may be ORDERS.";
 
 fn read(name: &str) -> Result<Vec<u8>, String> {
     fs::read(name).map_err(|e| format!("{name}: {e}"))
@@ -25,9 +30,20 @@ fn read_text(name: &str) -> Result<String, String> {
     String::from_utf8(read(name)?).map_err(|_| format!("{name}: not a text"))
 }
 
+fn refused_model(name: &str, number: u32) -> String {
+    format!("{name}: the kernel refuses this model with {number}")
+}
+
 /// The accepted model of a file.
 fn read_model(name: &str) -> Result<Model, String> {
-    model::load(&read(name)?).map_err(|n| format!("{name}: the kernel refuses this model with {n}"))
+    model::load(&read(name)?).map_err(|n| refused_model(name, n))
+}
+
+/// Tells what is odd about a file, if anything is, on standard error.
+fn warn(name: &str, warning: Option<String>) {
+    if let Some(warning) = warning {
+        eprintln!("{name}: {warning}");
+    }
 }
 
 fn write(name: &str, bytes: &[u8]) -> Result<(), String> {
@@ -51,9 +67,26 @@ fn run(words: &[&str]) -> Result<(), String> {
             print!("{}", explain::node(&read_model(from)?, node).map_err(|e| format!("node {node}: {e}"))?);
             Ok(())
         }
-        ["orders", from, to] => write(to, &text::orders(&read_text(from)?).map_err(|e| format!("{from}: {e}"))?),
+        ["orders", from, to] => {
+            let text = read_text(from)?;
+            let orders = text::orders(&text).map_err(|e| format!("{from}: {e}"))?;
+            warn(from, text::warning(&text));
+            write(to, &orders)
+        }
         ["show", from] => {
             print!("{}", list::orders(&read(from)?));
+            Ok(())
+        }
+        ["move", model, from, to] => {
+            let library = moves::LIBRARY.ok_or(moves::NO_LIBRARY)?;
+            let before = read(from)?;
+            let after = moves::moved(library, &read(model)?, &before).map_err(|number| match number {
+                numbers::ORDERS => format!("{from}: {}", moves::wrong_length(&before)),
+                _ => refused_model(model, number),
+            })?;
+            warn(from, moves::warning(&before));
+            write(to, &after)?;
+            println!("{from}: {}", moves::told(&before, &after));
             Ok(())
         }
         _ => Err(USAGE.to_string()),
@@ -72,6 +105,88 @@ fn main() -> ExitCode {
         Err(message) => {
             eprintln!("{message}");
             ExitCode::FAILURE
+        }
+    }
+}
+
+#[cfg(test)]
+mod tests {
+    use super::*;
+    use second_kernel::cases;
+    use second_kernel::folder::Folder;
+
+    /// The inverter's orders of before: settle 10, advance three times, settle 10, advance twice, read 1.
+    #[rustfmt::skip]
+    const BEFORE: [u8; 32] = [3, 0, 10, 0,  2, 0, 0, 0,  2, 0, 0, 0,  2, 0, 0, 0,  3, 0, 10, 0,  2, 0, 0, 0,  2, 0, 0, 0,  4, 1, 0, 0];
+
+    /// Moves these orders over by files in a folder of their own. NEW is ORDERS, or has its own name and some bytes before. What `run`
+    /// says, and what NEW has then.
+    fn move_files(model: &[u8], orders: &[u8], same: bool) -> (Result<(), String>, Vec<u8>) {
+        let folder = Folder::new().expect("a folder");
+        let name = |file: &str| folder.0.join(file).display().to_string();
+        let new = if same { "orders" } else { "new" };
+        for (file, bytes) in [("new", &[9; 3][..]), ("model", model), ("orders", orders)] {
+            folder.put(file, bytes).expect("a file");
+        }
+        let said = run(&["move", &name("model"), &name("orders"), &name(new)]);
+        let said = said.map_err(|e| e.replace(&name(""), ""));
+        (said, read(&name(new)).expect("a file"))
+    }
+
+    #[cfg(not(feature = "library"))]
+    #[test]
+    fn without_the_library_nothing_moves() {
+        let (said, new) = move_files(&cases::inverter().encode(), &BEFORE, true);
+        assert_eq!(said, Err(moves::NO_LIBRARY.to_string()));
+        assert_eq!(new, BEFORE);
+    }
+
+    #[cfg(feature = "library")]
+    mod with_the_library {
+        use super::*;
+
+        #[test]
+        fn the_inverters_orders_move() {
+            let mut expected = BEFORE;
+            for (order, kind) in [(1, 6), (2, 7), (3, 6), (5, 6), (6, 7)] {
+                expected[4 * order] = kind;
+            }
+            let model = cases::inverter().encode();
+            for same in [false, true] {
+                assert_eq!(move_files(&model, &BEFORE, same), (Ok(()), expected.to_vec()));
+                assert_eq!(move_files(&model, &expected, same), (Ok(()), expected.to_vec()));
+                assert_eq!(move_files(&model, &[], same), (Ok(()), vec![]));
+            }
+        }
+
+        // While moving, an order 6 is one of before, which gave 11 and did nothing: so the delta step is still to be done.
+        #[test]
+        fn orders_of_now_stay_and_are_not_played() {
+            let orders = [3, 0, 10, 0, 6, 0, 0, 0, 2, 0, 0, 0, 2, 0, 0, 0];
+            let expected = vec![3, 0, 10, 0, 6, 0, 0, 0, 6, 0, 0, 0, 7, 0, 0, 0];
+            assert_eq!(move_files(&cases::inverter().encode(), &orders, false), (Ok(()), expected));
+        }
+
+        #[test]
+        fn a_refused_move_names_the_file_and_writes_nothing() {
+            let model = cases::inverter().encode();
+            let mut broken = model.clone();
+            broken[4] ^= 1;
+            let many = BEFORE.repeat(513);
+            for (blocks, orders, error) in [
+                (&model[..511], &BEFORE[..], "model: the kernel refuses this model with 1"),
+                (&broken, &BEFORE, "model: the kernel refuses this model with 2"),
+                (&broken, &BEFORE[..31], "model: the kernel refuses this model with 2"),
+                (
+                    &model,
+                    &BEFORE[..31],
+                    "orders: the kernel refuses these orders with 9: 31 bytes are no whole orders of 4 bytes each",
+                ),
+                (&model, &many, "orders: the kernel refuses these orders with 9: 4104 orders, and a list has at most 4096"),
+            ] {
+                assert_eq!(move_files(blocks, orders, false), (Err(error.to_string()), vec![9; 3]));
+                assert_eq!(move_files(blocks, orders, true), (Err(error.to_string()), orders.to_vec()));
+            }
         }
     }
 }

@@ -37,12 +37,15 @@
 //!     pick P                          order 1: a single pick, P from 0 to 255
 //!     pick P P ..                     order 5: a set of two processes or more, from 0 to 15
 //!     pick set [P ..]                 order 5: any set, the empty one and a set of one process too
-//!     advance
+//!     delta                           order 6: a delta step
+//!     time                            order 7: a time step
 //!     settle N                        N from 0 to 65535
 //!     read S                          S from 0 to 255
 //!     bytes B B B B                   the order's bytes themselves, also where the kernel refuses them with 11
+//!     advance                         order 2, withdrawn: the kernel refuses it with 11
 //!
-//! A process stands in a set once; which stands first does not matter.
+//! A process stands in a set once; which stands first does not matter. `advance` is for texts of before: their orders are made as
+//! they were, with a warning, and `blocks move` moves them over.
 
 use second_kernel::model::*;
 use std::collections::BTreeSet;
@@ -420,7 +423,8 @@ pub fn model(text: &str) -> Result<Vec<u8>, String> {
 }
 
 /// What is told of a line that is no order.
-const ORDERS: &str = "an order is `pick P`, `pick P P ..`, `pick set P ..`, `advance`, `settle N`, `read S` or `bytes B B B B`";
+const ORDERS: &str =
+    "an order is `pick P`, `pick P P ..`, `pick set P ..`, `delta`, `time`, `settle N`, `read S` or `bytes B B B B`";
 
 /// A number up to `top`; `what` says of what.
 fn number(item: &Token, what: &str, top: u16) -> Result<u16, String> {
@@ -460,6 +464,8 @@ fn order(items: &[Token]) -> Result<[u8; 4], String> {
         ("pick", [Token::Word(w), processes @ ..]) if w == "set" => Ok(counted(5, set(processes)?)),
         ("pick", [p]) => Ok([1, byte(p, "a process")?, 0, 0]),
         ("pick", [_, _, ..]) => Ok(counted(5, set(rest)?)),
+        ("delta", []) => Ok([6, 0, 0, 0]),
+        ("time", []) => Ok([7, 0, 0, 0]),
         ("advance", []) => Ok([2, 0, 0, 0]),
         ("settle", [n]) => Ok(counted(3, number(n, "a count", 65535)?)),
         ("read", [s]) => Ok([4, byte(s, "a signal")?, 0, 0]),
@@ -479,6 +485,21 @@ pub fn orders(text: &str) -> Result<Vec<u8>, String> {
         }
     }
     Ok(out)
+}
+
+/// What is told of an order text that has an `advance`.
+pub fn warning(text: &str) -> Option<String> {
+    let advance = Ok(vec![Token::Word("advance".to_string())]);
+    let lines: Vec<usize> = (1..).zip(text.lines()).filter(|l| tokens(l.1) == advance).map(|l| l.0).collect();
+    let many = match lines.len() {
+        0 => return None,
+        1 => String::new(),
+        n => format!(" (and {} more)", n - 1),
+    };
+    Some(format!(
+        "line {}{many}: `advance` is order 2, which is withdrawn and gives 11; `blocks move` moves the orders over",
+        lines[0]
+    ))
 }
 
 #[cfg(test)]
@@ -813,6 +834,8 @@ process p0
         for (text, order) in [
             ("pick 3", [1, 3, 0, 0]),
             ("pick 255", [1, 255, 0, 0]),
+            ("delta", [6, 0, 0, 0]),
+            ("\ttime -- to 5", [7, 0, 0, 0]),
             ("advance", [2, 0, 0, 0]),
             ("settle 0", [3, 0, 0, 0]),
             ("settle 65535", [3, 0, 255, 255]),
@@ -831,8 +854,8 @@ process p0
         ] {
             assert_eq!(orders(text), Ok(order.to_vec()), "{text}");
         }
-        let text = "-- the counters in step\npick 1 2\n\nadvance\npick 1";
-        assert_eq!(orders(text), Ok(vec![5, 0, 6, 0, 2, 0, 0, 0, 1, 1, 0, 0]));
+        let text = "-- the counters in step\npick 1 2\n\ndelta\npick 1";
+        assert_eq!(orders(text), Ok(vec![5, 0, 6, 0, 6, 0, 0, 0, 1, 1, 0, 0]));
         assert_eq!(orders(""), Ok(vec![]));
     }
 
@@ -868,6 +891,11 @@ process p0
             ("pick", ORDERS),
             ("set 0 2", ORDERS),
             ("Pick 0 2", ORDERS),
+            ("delta 1", ORDERS),
+            ("time 5", ORDERS),
+            ("delta time", ORDERS),
+            ("Delta", ORDERS),
+            ("step", ORDERS),
             ("advance 1", ORDERS),
             ("settle", ORDERS),
             ("settle 1 2", ORDERS),
@@ -875,8 +903,24 @@ process p0
             ("read 0 1", ORDERS),
             ("0 2 5", ORDERS),
         ] {
-            let text = format!("-- a comment\npick 0 1\n{order}\nadvance");
+            let text = format!("-- a comment\npick 0 1\n{order}\ndelta");
             assert_eq!(orders(&text), Err(format!("line 3: {error}")), "{order}");
+        }
+    }
+
+    #[test]
+    fn a_withdrawn_order_is_told_with_its_line() {
+        let told = "`advance` is order 2, which is withdrawn and gives 11; `blocks move` moves the orders over";
+        for (text, place) in [
+            ("advance", "line 1"),
+            ("settle 10\n\n  advance -- to time 1\ntime", "line 3"),
+            ("settle 10\nadvance\nadvance", "line 2 (and 1 more)"),
+            ("-- advance\nadvance\ndelta\nadvance\nsettle 10\nadvance\nread 1", "line 2 (and 2 more)"),
+        ] {
+            assert_eq!(warning(text), Some(format!("{place}: {told}")), "{text}");
+        }
+        for text in ["", "settle 10\ndelta\ntime\nread 1", "delta -- advance", "-- advance", "bytes 2 0 0 0"] {
+            assert_eq!(warning(text), None, "{text}");
         }
     }
 }

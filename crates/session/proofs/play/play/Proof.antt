@@ -8,7 +8,7 @@ use Rattle.blocks.specs.Records.{modelOf}
 use Rattle.cycle.specs.View.{viewOf}
 use Rattle.cycle.proofs.Advances.{few-signals}
 use Rattle.session.specs.Lists.{played}
-use Rattle.session.proofs.PlayLaws.{Playing, Reading, playing-next, refused-gives, picks-give, advance-gives, read-gives, no-orders, all-written}
+use Rattle.session.proofs.PlayLaws.{Playing, Reading, playing-next, refused-gives, picks-give, delta-gives, time-gives, read-gives, no-orders, all-written}
 use Rattle.session.proofs.play.play.Statement.{statement}
 use Rattle.session.proofs.play.play.Tie as tie
 
@@ -80,8 +80,11 @@ picks-of-requires c κs = search needs
 picks-requires : tie.Need-picks-requires Inv-loop μ-loop
 picks-requires c κs = search needs
 
-advance-requires : tie.Need-advance-requires Inv-loop μ-loop
-advance-requires c κs = search needs
+delta-step-requires : tie.Need-delta-step-requires Inv-loop μ-loop
+delta-step-requires c κs = search needs
+
+time-step-requires : tie.Need-time-step-requires Inv-loop μ-loop
+time-step-requires c κs = search needs
 
 read-requires : tie.Need-read-requires Inv-loop μ-loop
 read-requires c κs = let known = c .before .before in few-signals (start known .pre .0 .facts) (head known .loop .inv .valid)
@@ -116,10 +119,12 @@ loop-again c =
     (⊎-elim
     (λ w. rw (w .6, w .7) (picks-give order (w .0 .taken) _ (w .2 .ensures) (w .1 .keys1) _ (w .3 .ensures)))
     (⊎-elim
-    (λ w. rw (w .5, w .6) (advance-gives order (w .0 .taken) (w .1 .keys2) _ (w .2 .ensures)))
+    (λ w. rw (w .5, w .6) (delta-gives order (w .0 .taken) (w .1 .keys2) _ (w .2 .ensures)))
     (⊎-elim
-    (λ w. rw (w .5, w .6) (read-gives order (w .0 .taken) (w .1 .rest .0 .1) (w .1 .rest .1) _ (w .2 .ensures .0) (w .2 .ensures .1)))
-    (λ w. rw (w .1, w .2) (refused-gives order (w .0 .left) _ (met .before .before .refused .ensures)))))
+    (λ w. rw (w .5, w .6) (time-gives order (w .0 .taken) (w .1 .keys3) _ (w .2 .ensures)))
+    (⊎-elim
+    (λ w. rw (w .5, w .6) (read-gives order (w .0 .taken) (w .1 .rest .0 .0 .1) (w .1 .rest .0 .1) (w .1 .rest .1) _ (w .2 .ensures .0) (w .2 .ensures .1)))
+    (λ w. rw (w .1, w .2) (refused-gives order (w .0 .left) _ (met .before .before .refused .ensures))))))
     (met .if1 .came))
     (put .put-answer .ensures)
 
@@ -157,7 +162,8 @@ play-spec =
     known-requires
     picks-of-requires
     picks-requires
-    advance-requires
+    delta-step-requires
+    time-step-requires
     read-requires
     add-put-answer
     sub-put-answer

@@ -1,0 +1,4 @@
+pub mod ListMoves
+pub mod MoveLaws
+pub mod Numbers
+pub mod OrderTwo
