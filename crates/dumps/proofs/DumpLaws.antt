@@ -15,7 +15,7 @@ use Rattle.blocks.specs.Totals.{blockRules}
 use Rattle.blocks.specs.declared.records.SignalRecord.{SignalRecord}
 use Rattle.model.specs.Rules.{rulesOf, recordRules, refusalOf}
 use Rattle.model.proofs.Facts.{facts}
-use Rattle.model.proofs.Rules.{rules-numbered, accepted}
+use Rattle.model.proofs.Rules.{model-decides, others-decide, accepted}
 use Rattle.rules.specs.Configuration.{Configuration, first, currentOf, empty}
 use Rattle.rules.proofs.FirstReachable.{first-reachable}
 use Rattle.cycle.specs.Arrays.{EntriesAre}
@@ -32,12 +32,12 @@ use Rattle.dumps.proofs.RunLaws.{first-settled, times-rise}
 -- the number
 module _ (m o : List ℕ) where
   pub run-refused : (refusalOf m ≡ 0 → ⊥) → runNumber m o ≡ refusalOf m
-  unfolding runNumber refusalOf
-  run-refused h = first-decides (rulesOf m) _ h
+  unfolding runNumber
+  run-refused h = model-decides m _ h
 
   by-orders : refusalOf m ≡ 0 → runNumber m o ≡ firstFailing ((9 needs ordersOk o) ∷ [])
-  unfolding runNumber refusalOf
-  by-orders h = later-decide 20 (rulesOf m) _ (rules-numbered m) h
+  unfolding runNumber
+  by-orders h = others-decide m _ h
 
   pub run-nine : refusalOf m ≡ 0 → ordersOk o ≡ false → runNumber m o ≡ 9
   run-nine h e = by-orders h ∙ sym (fails 9 _ _ refl e)

@@ -1,10 +1,10 @@
 -- The rules in checking order: those of the blocks, then those of the model. Assumes nothing.
 use mathlib.Core.Path.{_≡_, refl, sym}
 use mathlib.Core.Bool.{true, false}
-use mathlib.Core.List.{List}
+use mathlib.Core.List.{List, _++_}
 use Prim.Native.Nat.{ℕ, _≤_}
 use native.Mathlib.Omega.{arith}
-use Rattle.base.specs.Rules.{firstFailing}
+use Rattle.base.specs.Rules.{Rule, firstFailing}
 use Rattle.base.proofs.Rules.{numbered, none-fails, later-decide, first-decides, first-most}
 use Rattle.blocks.specs.Blocks.{lengthOk, headsOk}
 use Rattle.blocks.specs.Records.{Model, modelOf}
@@ -41,9 +41,18 @@ module _ (m : List ℕ) where
     unfolding blockRules
     totals-hold = none-fails 4 (blockRules m) (blocks-numbered m) h 3
 
-  pub rules-numbered : numbered 20 (rulesOf m) ≡ true
+  rules-numbered : numbered 20 (rulesOf m) ≡ true
   unfolding rulesOf blockRules recordRules
   rules-numbered = refl
+
+  -- of rules behind the model's own: its refusal goes before them, and where it has none they decide
+  pub model-decides : (rs : List Rule) → (refusalOf m ≡ 0 → ⊥) → firstFailing (rulesOf m ++ rs) ≡ refusalOf m
+  unfolding refusalOf
+  model-decides rs h = first-decides (rulesOf m) rs h
+
+  pub others-decide : (rs : List Rule) → refusalOf m ≡ 0 → firstFailing (rulesOf m ++ rs) ≡ firstFailing rs
+  unfolding refusalOf
+  others-decide rs h = later-decide 20 (rulesOf m) rs rules-numbered h
 
   pub refusal-most : refusalOf m ≤ 20
   unfolding refusalOf

@@ -9,10 +9,10 @@ use lib.Dec.{eqb, leb}
 use lib.ListN.{length}
 use Rattle.base.specs.Rules.{_needs_, firstFailing}
 use Rattle.base.proofs.Below.{and-left}
-use Rattle.base.proofs.Rules.{none-left, passes, fails, later-decide, first-decides}
+use Rattle.base.proofs.Rules.{none-left, passes, fails}
 use Rattle.blocks.specs.Records.{modelOf}
-use Rattle.model.specs.Rules.{rulesOf, refusalOf}
-use Rattle.model.proofs.Rules.{rules-numbered}
+use Rattle.model.specs.Rules.{refusalOf}
+use Rattle.model.proofs.Rules.{model-decides, others-decide}
 use Rattle.rules.specs.Configuration.{first}
 use Rattle.session.specs.Lists.{ordersOf, orderBytes}
 use Rattle.session.specs.Sessions.{ordersOk}
@@ -27,13 +27,13 @@ whole o b ok e =
 
 module _ (m o b : List ℕ) where
   pub model-first : (refusalOf m ≡ 0 → ⊥) → moveNumber m o b ≡ refusalOf m
-  unfolding moveNumber refusalOf
-  model-first h = first-decides (rulesOf m) _ h
+  unfolding moveNumber
+  model-first h = model-decides m _ h
 
   module _ (a : refusalOf m ≡ 0) where
     by-lengths : moveNumber m o b ≡ firstFailing ((9 needs ordersOk o) ∷ (10 needs eqb (length b) (length o)) ∷ [])
-    unfolding moveNumber refusalOf
-    by-lengths = later-decide 20 (rulesOf m) _ (rules-numbered m) a
+    unfolding moveNumber
+    by-lengths = others-decide m _ a
 
     pub nine : ordersOk o ≡ false → 9 ≡ moveNumber m o b
     nine h = fails 9 _ _ refl h ∙ sym by-lengths

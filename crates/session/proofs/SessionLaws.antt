@@ -9,10 +9,10 @@ use lib.Dec.{eqb, leb}
 use lib.ListN.{length}
 use Rattle.base.specs.Rules.{firstFailing}
 use Rattle.base.proofs.Below.{and-left, and-right}
-use Rattle.base.proofs.Rules.{none-left, passes, fails, none-fails, later-decide, first-decides}
+use Rattle.base.proofs.Rules.{none-left, passes, fails, none-fails}
 use Rattle.blocks.specs.Records.{modelOf}
-use Rattle.model.specs.Rules.{rulesOf, refusalOf}
-use Rattle.model.proofs.Rules.{rules-numbered}
+use Rattle.model.specs.Rules.{refusalOf}
+use Rattle.model.proofs.Rules.{model-decides, others-decide}
 use Rattle.rules.specs.Configuration.{first, empty}
 use Rattle.cycle.specs.View.{viewOf}
 use Rattle.session.specs.declared.Ended.{Ended}
@@ -46,13 +46,13 @@ module _ (orders buffer : List ℕ) where
 module _ (m orders old : List ℕ) where
   -- a refusal of the model decides
   pub model-refused : (refusalOf m ≡ 0 → ⊥) → numberOf m orders old ≡ refusalOf m
-  unfolding numberOf refusalOf
-  model-refused h = first-decides (rulesOf m) (lengthRules orders old) h
+  unfolding numberOf
+  model-refused h = model-decides m (lengthRules orders old) h
 
   -- the model is accepted: 9 and 10 decide
   pub model-accepted : refusalOf m ≡ 0 → numberOf m orders old ≡ firstFailing (lengthRules orders old)
-  unfolding numberOf refusalOf
-  model-accepted h = later-decide 20 (rulesOf m) (lengthRules orders old) (rules-numbered m) h
+  unfolding numberOf
+  model-accepted h = others-decide m (lengthRules orders old) h
 
   -- "a refused one writes no answer and returns the empty configuration"
   pub refused-session : (r : Ended) → r .number ≡ numberOf m orders old → (r .number ≡ 0 → ⊥) → viewOf (r .config) ≡ empty → SessionIs m orders old old r
