@@ -19,10 +19,8 @@ use crate::session::{print, session};
 /// An answer as (refusal, byte 1, picks, value, node, time).
 type Answer = (u8, u8, u16, i32, u16, u64);
 
-/// A delta step, a time step, and a settle of a few picks.
-const DEL: (u8, u8, u16) = (DELTA, 0, 0);
-const TIM: (u8, u8, u16) = (TIME, 0, 0);
-const SET: (u8, u8, u16) = (SETTLE, 0, 9);
+/// A settle of a few picks.
+const SET: Order = (SETTLE, 0, 9);
 
 /// The fault and the node of a process that has not stopped.
 const NONE: Failed = (0, 0);
@@ -44,7 +42,7 @@ fn failed_at(c: &Config, process: usize) -> Failed {
 }
 
 /// The columns of an order's answer.
-fn columns(order: (u8, u8, u16), a: &[u8]) -> Answer {
+fn columns(order: Order, a: &[u8]) -> Answer {
     let word = |at: usize| u16::from_le_bytes([a[at], a[at + 1]]);
     let (value, node) = if order.0 == PICK {
         assert_eq!(a[5], 0, "byte 5 of a pick's answer");
@@ -56,7 +54,7 @@ fn columns(order: (u8, u8, u16), a: &[u8]) -> Answer {
     (a[0], a[1], word(2), value, node, time)
 }
 
-fn play(b: &Builder, list: &[(u8, u8, u16)]) -> (Vec<Answer>, Config) {
+fn play(b: &Builder, list: &[Order]) -> (Vec<Answer>, Config) {
     let bytes = orders(list);
     let mut answers = vec![0xAA; 4 * bytes.len()];
     let (number, config) = session(&b.encode(), &bytes, &mut answers);

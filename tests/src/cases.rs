@@ -28,18 +28,24 @@ pub struct Case {
 }
 
 /// Orders of (kind, argument, count).
-pub fn orders(list: &[(u8, u8, u16)]) -> Vec<u8> {
+pub fn orders(list: &[Order]) -> Vec<u8> {
     list.iter()
         .flat_map(|&(kind, argument, count)| order(kind, argument, count))
         .collect()
 }
 
+/// An order: kind, argument, count.
+pub type Order = (u8, u8, u16);
+
+pub const DEL: Order = (DELTA, 0, 0);
+pub const TIM: Order = (TIME, 0, 0);
+
 /// A step in a list for `stepped`: an advance of before.
-pub const STEP: (u8, u8, u16) = (ADVANCE, 0, 0);
+pub const STEP: Order = (ADVANCE, 0, 0);
 
 /// The list with each `STEP` moved over to order 6 or 7, whichever gives its answer on
 /// the model.
-pub fn stepped(b: &Builder, list: &[(u8, u8, u16)]) -> Vec<(u8, u8, u16)> {
+pub fn stepped(b: &Builder, list: &[Order]) -> Vec<Order> {
     let moved = moved(&b.m, &orders(list));
     let kinds = moved.chunks(ORDER).map(|order| order[0]);
     let pairs = list.iter().zip(kinds);

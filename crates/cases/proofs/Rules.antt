@@ -19,7 +19,7 @@ use Rattle.rules.specs.Failing.{orderBy, nextOrder, evaluationOrder}
 use Rattle.rules.specs.Statements.{withDelay, effectBy, effectOf, kept, before, added, equalValue, marked, leftBy, scheduled, overflows, nextPlace, driverAfter, applied, stepped}
 use Rattle.rules.specs.Steps.{transactionDue, taken, deadlineDue, active, undriven, signalAfter, signalsAfter, earlierAfter, inSet, changedIn, wokenIf, wokenAt, processAfterDelta, deltaStep, shifted, timeStep}
 use Rattle.rules.specs.Orders.{isReady, isStopped, picked, dueTimes, dueNow, deltaStepped, timeStepped, lowestReady, settledFrom, settled, someMember, membersBelow, steppedBelow, pickedSet, readOf}
-use Rattle.session.specs.Lists.{orderOf, ordersOf, isKnown, performed, answerOf, played}
+use Rattle.session.specs.Lists.{orderOf, ordersOf, isKnown, performed, answerOf, playedBy}
 
 -- a list of orders is read and played
 unfoldable pub the-orders : ℕ
@@ -32,7 +32,7 @@ unfolding anyBelow sumBelow joinBelow listBelow upTo course firstWith
     transactionDue taken deadlineDue active undriven signalAfter signalsAfter earlierAfter inSet changedIn wokenIf wokenAt processAfterDelta deltaStep
     shifted timeStep
     isReady isStopped picked dueTimes dueNow deltaStepped timeStepped lowestReady settledFrom settled someMember membersBelow steppedBelow pickedSet readOf
-    orderOf ordersOf isKnown performed answerOf played
+    orderOf ordersOf isKnown performed answerOf playedBy
 the-orders = 0
 
 -- the rules of the records

@@ -14,12 +14,13 @@ use Rattle.rules.specs.Configuration.{Configuration, lastTime}
 use Rattle.rules.specs.Steps.{deltaStep, timeStep}
 use Rattle.rules.specs.Orders.{Outcome, refused, isReady, isStopped, earliest, dueTimes, dueNow, advanceDone, advancing, deltaOrder, timeOrder, deltaStepped, timeStepped}
 use Rattle.rules.proofs.DueTimes.{due-within}
-use Rattle.waveforms.specs.Pending.{never}
+use Rattle.waveforms.specs.Pending.{never, NoneBefore}
 use Rattle.due.specs.Due.{soonestIn, someIs, standingRefusal, deltaRefusal, timeRefusal}
-use Rattle.cycle.specs.View.{viewOf, Valid}
+use Rattle.cycle.specs.View.{viewOf, Valid, outcomeOf, Answers, Keeps}
 use Rattle.cycle.specs.declared.config.Config.{Config}
+use Rattle.cycle.specs.declared.orders.Answered.{Answered}
 use Rattle.cycle.proofs.ViewLaws.{nsignals-is, ndrivers-is, nprocesses-is}
-use Rattle.cycle.proofs.Soonest.{orNever, soonest, due-now, standing-is}
+use Rattle.cycle.proofs.Soonest.{orNever, soonest, no-first-before, no-deadline-before, due-now, standing-is}
 
 -- the totals of the struct are within the limits
 module _ {M : Model} {c : Config} (k : Facts M) (f : Valid M c) where
@@ -46,6 +47,14 @@ module _ (M : Model) (c : Config) (f : Valid M c) where
 
   doing : {Done : Outcome → Type 0} {r : Outcome} → Done r → Says Done 0 r
   doing d = record { refuses = λ z. absurd (z refl); does = λ z. d }
+
+  -- a refused order answers as it says
+  pub says-refused : {Done : Outcome → Type 0} {n : ℕ} {r : Outcome} → Says Done n r → (n ≡ 0 → ⊥) → (a : Answered) → outcomeOf a ≡ refused n v → Keeps c a → Answers M a r
+  says-refused s h a e k = rw (s .refuses h) (record { is = e; valid = k M f })
+
+  -- what the search for the earliest due time asks for
+  pub searchable : Facts M → (c .nprocesses ≤ 16) × ((c .ndrivers ≤ 64) × (NoneBefore (c .time) (c .due) (c .ndrivers) × NoneBefore (c .time) (c .deadlines) (c .nprocesses)))
+  searchable k = (few-processes k f, (few-drivers k f, (no-first-before M c f, no-deadline-before M c f)))
 
   -- 14 and 15 go before it
   by-standing : (Done : Outcome → Type 0) (n : ℕ) (r : Outcome) → Says Done n r → Says Done (standingRefusal (c .standings) (c .nprocesses) n) (advancing M v r)

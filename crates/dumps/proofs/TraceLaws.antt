@@ -9,7 +9,7 @@ use native.Mathlib.Omega.{arith}
 use borrow.Author.Count.{below-more}
 use borrow.Rule.Slice.PartMut.{postOf, putMid}
 use lib.ListN.{length, getD, set, take, drop, length-map, length-take, length-drop, List·getD-append}
-use lib.Seq.{take-all, drop-cons, getD-take, getD-append-add, getD-set-same, getD-set-other}
+use lib.Seq.{drop-cons, getD-take, getD-append-add, getD-set-same, getD-set-other}
 use Rattle.base.specs.Below.{listBelow}
 use Rattle.base.specs.Cases.{_∣_, _⇒_}
 use Rattle.base.proofs.Cases.{by-test}
@@ -23,9 +23,9 @@ use Rattle.cycle.specs.Arrays.{EntriesAre}
 use Rattle.cycle.specs.View.{Valid, viewOf}
 use Rattle.cycle.specs.declared.config.Config.{Config}
 use Rattle.cycle.proofs.ViewLaws.{past-in, nsignals-is}
-use Rattle.session.specs.Lists.{Order, orderOf, ordersOf, performed, played}
+use Rattle.session.specs.Lists.{Order, Played, orderOf, ordersOf, performed}
 use Rattle.session.specs.Sessions.{PlayedTo}
-use Rattle.session.proofs.PlayLaws.{no-orders, next-order}
+use Rattle.session.proofs.PlayLaws.{no-orders, next-order, one-order}
 use Rattle.vcd.specs.Vcd.{Row}
 use Rattle.vcd.specs.Writing.{rowOf}
 use Rattle.dumps.specs.Run.{stepsTime, settledIn, rowAt, currentAt, RowPut, Traced}
@@ -72,13 +72,9 @@ module _ (l : List Configuration) (k : ℕ) (x : Configuration) (xs : List Confi
   rest-is : drop (k + 1) l ≡ xs
   rest-is = rw (add-one k) (ap (λ (m : List Configuration). drop 1 m) both)
 
--- one order, played from its four bytes, with an answer of 16
+-- an order has four bytes, with an answer of 16
 pub four-bytes : (os : List ℕ) (i : ℕ) → i < length os / 4 → 16 ≡ 16 * (length (take (4 * i + 4 - 4 * i) (drop (4 * i) os)) / 4)
 four-bytes os i h = let e : length (take (4 * i + 4 - 4 * i) (drop (4 * i) os)) ≡ 4 = simp (length-take, length-drop) (omega arith) in rw e
-
-one-order : (M : Model) (b : List ℕ) (c : Configuration) → length b ≡ 4 → played M (ordersOf b) c .end ≡ performed M (orderOf b) c .after
-unfolding ordersOf played listBelow
-one-order M b c h = let e : length b / 4 ≡ 1 = omega arith in rw (e, take-all 4 b (omega arith))
 
 settled-some : (M : Model) (os : List Order) (c : Configuration) → 0 < length (settledIn M os c)
 unfolding settledIn
@@ -156,7 +152,7 @@ module _ {M : Model} (fs : Facts M) {os : List ℕ} (short : length os ≤ 16384
     after =
         let e : 4 * i + 4 - 4 * i ≡ 4 = omega arith in
         let n : length (take 4 (drop (4 * i) os)) ≡ 4 = simp (length-take, length-drop) (omega arith) in
-        sym (one-order M (take 4 (drop (4 * i) os)) (viewOf at) n) ∙ sym (rw e at (p .end))
+        sym (ap (λ (r : Played). r .end) (one-order M (take 4 (drop (4 * i) os)) (viewOf at) n)) ∙ sym (rw e at (p .end))
 
     moved : Moves M (viewOf at) steps (viewOf r)
     moved = rw after at (performed-moves M order (viewOf at) (t .valid .reachable))

@@ -11,7 +11,7 @@ use Rattle.base.proofs.Cases.{by-test, either-way}
 use Rattle.blocks.specs.Records.{Model}
 use Rattle.rules.specs.Configuration.{Configuration, first}
 use Rattle.rules.specs.Orders.{refused}
-use Rattle.session.specs.Lists.{Order, ordersOf, isKnown, performed, played}
+use Rattle.session.specs.Lists.{Order, ordersOf, isKnown, performed, playedBy, played}
 use Rattle.session.proofs.Answers.{Narrow, Small, orders-small, orders-of-bytes}
 use Rattle.moving.specs.Before.{performedBefore, playedBefore}
 use Rattle.moving.specs.Moving.{sameAnswer, withKind, movedOrder, movedOver, movedBytes, isNew, MovesOver}
@@ -44,7 +44,7 @@ module _ (M : Model) where
       (λ k. rw k (stays o c k old))
 
   list-does : (os : List Order) (c : Configuration) → All (λ o. isNew o ≡ false) os → played M (movedOver M os c) c ≡ playedBefore M os c
-  unfolding movedOver played playedBefore
+  unfolding movedOver playedBy
   list-does [] c old = refl
   list-does (o ∷ os) c old = rw (moved-does o c (old .0), list-does os (performedBefore M o c .after) (old .1))
 

@@ -5,22 +5,21 @@ use mathlib.Core.List.{List, [], _∷_, _++_, append-assoc, append-nil}
 use Prim.Native.Nat.{ℕ, _+_, _*_, _-_, _/_, _%_, _^_, _≤_, _<_}
 use native.Mathlib.Omega.{arith}
 use borrow.Author.Tests.{eq-eqb, ne-eqb}
-use borrow.Rule.Slice.PartMut.{putMid, mid-len, same-len-mid}
+use borrow.Rule.Slice.PartMut.{putMid}
 use lib.Dec.{eqb}
 use lib.ListN.{length, set, take, drop}
 use Rattle.base.specs.Bytes.{byteAt}
-use Rattle.base.specs.Below.{listBelow}
 use Rattle.base.proofs.Below.{or-left, or-right}
 use Rattle.base.proofs.Cases.{by-test, either-way}
 use Rattle.blocks.specs.Records.{Model}
 use Rattle.rules.specs.Configuration.{Configuration}
 use Rattle.cycle.specs.View.{Valid, viewOf}
 use Rattle.cycle.specs.declared.config.Config.{Config}
-use Rattle.session.specs.Lists.{Order, orderOf, ordersOf, orderBytes, performed, answerOf, played}
-use Rattle.session.specs.Sessions.{PlayedTo}
-use Rattle.session.proofs.PlayLaws.{all-written, written, no-orders, next-order, order-read}
+use Rattle.session.specs.Lists.{Order, Played, orderOf, ordersOf, orderBytes, performed, answerOf}
+use Rattle.session.specs.Sessions.{bytesOf, PlayedTo}
+use Rattle.session.proofs.PlayLaws.{all-written, written, part-room, no-orders, next-order, order-read, one-order}
 use Rattle.moving.specs.Before.{performedBefore}
-use Rattle.moving.specs.Moving.{sameAnswer, withKind, movedOrder, movedOver, orderFrom, MovedAt}
+use Rattle.moving.specs.Moving.{sameAnswer, withKind, movedOrder, movedOver, MovedAt}
 use Rattle.moving.specs.declared.Moved.{Moved}
 use Rattle.moving.proofs.OrderTwo.{order-is, told-delta, told-time}
 
@@ -35,22 +34,20 @@ four-set (x ∷ y ∷ z ∷ w ∷ v ∷ xs) a b c d h = absurd (omega arith)
 
 -- one order, played by its four bytes
 module _ {M : Model} {k a l h : ℕ} {v e : Configuration} {b : List ℕ} (p : PlayedTo M (k ∷ a ∷ l ∷ h ∷ []) v e b) where
-  one-end : e ≡ performed M (orderFrom k a l h) v .after
-  unfolding ordersOf listBelow orderOf played
-  one-end = p .end
+  one-end : e ≡ performed M (orderOf (k ∷ a ∷ l ∷ h ∷ [])) v .after
+  one-end = p .end ∙ ap (λ (r : Played). r .end) (one-order M _ v refl)
 
-  one-answer : b ≡ answerOf (performed M (orderFrom k a l h) v)
-  unfolding ordersOf listBelow orderOf played
-  one-answer = p .answers ∙ append-nil _
+  one-answer : b ≡ answerOf (performed M (orderOf (k ∷ a ∷ l ∷ h ∷ [])) v)
+  one-answer = p .answers ∙ ap (λ (r : Played). bytesOf (r .answers)) (one-order M _ v refl) ∙ append-nil _
 
 module _ (M : Model) (kind a l h : ℕ) (c : Config) where
   abbrev o : Order
-  o = orderFrom kind a l h
+  o = orderOf (kind ∷ a ∷ l ∷ h ∷ [])
 
   -- an order 2 whose delta step is not refused with 22
   pub moved-delta : kind ≡ 2 → (r : Config) {b : List ℕ} → PlayedTo M (6 ∷ a ∷ l ∷ h ∷ []) (viewOf c) (viewOf r) b → Valid M r → (byteAt b 0 ≡ 22 → ⊥)
       → MovedAt M o c (record { kind = 6; config = r })
-  unfolding movedOrder
+  unfolding movedOrder orderOf
   moved-delta is r {b} p v n =
       let t = told-delta (order-is M (viewOf c) o is) (λ e. n (ap (λ (x : List ℕ). byteAt x 0) (one-answer p) ∙ e)) in
       record { kind = rw (eq-eqb kind 2 is, t .0); end = one-end p ∙ rw (t .1); valid = v }
@@ -58,7 +55,7 @@ module _ (M : Model) (kind a l h : ℕ) (c : Config) where
   -- one whose delta step is: the time step is played after it
   pub moved-time : kind ≡ 2 → (d r : Config) {b b' : List ℕ} → PlayedTo M (6 ∷ a ∷ l ∷ h ∷ []) (viewOf c) (viewOf d) b → byteAt b 0 ≡ 22
       → PlayedTo M (7 ∷ a ∷ l ∷ h ∷ []) (viewOf d) (viewOf r) b' → Valid M r → MovedAt M o c (record { kind = 7; config = r })
-  unfolding movedOrder
+  unfolding movedOrder orderOf
   moved-time is d r {b} p e q v =
       let t = told-time (order-is M (viewOf c) o is) (sym (ap (λ (x : List ℕ). byteAt x 0) (one-answer p)) ∙ e) in
       let same : viewOf d ≡ viewOf c = one-end p ∙ rw (t .1) in
@@ -66,7 +63,7 @@ module _ (M : Model) (kind a l h : ℕ) (c : Config) where
 
   -- another order
   stays : (kind ≡ 2 → ⊥) → kind ≡ movedOrder M o (viewOf c) .kind
-  unfolding movedOrder
+  unfolding movedOrder orderOf
   stays other = rw (ne-eqb kind 2 other)
 
   abbrev new : Bool
@@ -76,7 +73,7 @@ module _ (M : Model) (kind a l h : ℕ) (c : Config) where
   new-other n e = true≢false (sym n ∙ rw e)
 
   pub moved-new : new ≡ true → Valid M c → MovedAt M o c (record { kind = kind; config = c })
-  unfolding performedBefore
+  unfolding performedBefore orderOf
   moved-new n v =
       let no2 = ne-eqb kind 2 (new-other n) in
       record {
@@ -87,7 +84,7 @@ module _ (M : Model) (kind a l h : ℕ) (c : Config) where
 
   pub moved-other : (kind ≡ 2 → ⊥) → new ≡ false → (r : Config) {b : List ℕ} → PlayedTo M (kind ∷ a ∷ l ∷ h ∷ []) (viewOf c) (viewOf r) b → Valid M r
       → MovedAt M o c (record { kind = kind; config = r })
-  unfolding performedBefore
+  unfolding performedBefore orderOf
   moved-other other n r p v =
       record { kind = stays other; end = one-end p ∙ rw (ne-eqb kind 2 other, or-left (eqb kind 6) (eqb kind 7) n, or-right (eqb kind 6) (eqb kind 7) n); valid = v }
 
@@ -108,15 +105,17 @@ pub record Moving (M : Model) (os : List ℕ) (c₀ : Configuration) (i : ℕ) (
 module _ {M : Model} {os : List ℕ} {c₀ : Configuration} {i : ℕ} {at : Config} {moved : List ℕ} (t : Moving M os c₀ i at moved) where
   -- the next order is moved, and written into its own part of the buffer
   module _ (here : i < length os / 4) {kind a l h : ℕ} (k : kind ≡ byteAt os (4 * i)) (e : a ≡ byteAt os (4 * i + 1)) (f : l ≡ byteAt os (4 * i + 2)) (g : h ≡ byteAt os (4 * i + 3))
-      (small : l < 256) (high : h < 256) {r : Moved} (m : MovedAt M (orderFrom kind a l h) at r) where
+      (small : l < 256) (high : h < 256) {r : Moved} (m : MovedAt M (orderOf (kind ∷ a ∷ l ∷ h ∷ [])) at r) where
     abbrev taken : Order
-    taken = orderFrom kind a l h
+    taken = orderOf (kind ∷ a ∷ l ∷ h ∷ [])
 
     left : drop i (ordersOf os) ≡ taken ∷ drop (i + 1) (ordersOf os)
+    unfolding orderOf
     left = let z : 4 * i + 2 + 1 ≡ 4 * i + 3 = omega arith in next-order os i here ∙ rw (order-read os i here, z, k, e, f, g)
 
     -- its bytes: all but the kind stay
     moved-bytes : (rest : List Order) → orderBytes (movedOrder M taken (viewOf at) ∷ rest) ≡ (r .kind ∷ a ∷ l ∷ h ∷ []) ++ orderBytes rest
+    unfolding orderOf
     moved-bytes rest =
         let low : (l + 256 * h) / 256 ^ 0 % 256 ≡ l = omega arith in
         let upper : (l + 256 * h) / 256 ^ 1 % 256 ≡ h = omega arith in
@@ -134,11 +133,10 @@ module _ {M : Model} {os : List ℕ} {c₀ : Configuration} {i : ℕ} {at : Conf
       pub moving-next : Moving M os c₀ (i + 1) (r .config) (putMid (4 * i) (4 * i + 4 - 4 * i) moved last)
       moving-next =
           let long : length last ≡ 4 = ap length q in
-          let part = mid-len (4 * i) (4 * i + 4) moved (omega (arith, t .room)) in
           record {
             low = omega arith;
             valid = m .valid;
-            room = same-len-mid (4 * i) (4 * i + 4 - 4 * i) moved last (omega arith) ∙ t .room;
+            room = part-room moved last (4 * i) (4 * i + 4) (omega arith) (omega (arith, t .room)) ∙ t .room;
             bytes = bytes-next _ ∙ t .bytes;
           }
 

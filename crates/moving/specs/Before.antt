@@ -1,12 +1,12 @@
 -- The orders of before: document 02, item 9, withdrew order 2, an advance, and brought orders 6 and 7.
 use mathlib.Core.Bool.{_&&_}
-use mathlib.Core.List.{List, [], _∷_}
+use mathlib.Core.List.{List}
 use lib.Dec.{eqb}
 use Rattle.base.specs.Cases.{_∣_, _⇒_, _is_⇒_}
 use Rattle.blocks.specs.Records.{Model}
 use Rattle.rules.specs.Configuration.{Configuration}
 use Rattle.rules.specs.Orders.{Outcome, refused, dueNow, dueTimes, earliest, advancing, deltaOrder, timeOrder}
-use Rattle.session.specs.Lists.{Order, Played, performed, answered}
+use Rattle.session.specs.Lists.{Order, Played, performed, playedBy}
 
 -- document 01, "Advance": 14 and 15; a delta step where something is due now, or 16; else a time step, or 17 or 18
 unfoldable pub advanced : Model → Configuration → Outcome
@@ -21,6 +21,5 @@ performedBefore M o c =
     ∣ performed M o c
 
 -- a list of orders, as it was played
-unfoldable pub playedBefore : Model → List Order → Configuration → Played
-playedBefore M [] c = record { answers = []; end = c }
-playedBefore M (o ∷ os) c = answered (performedBefore M o c) (playedBefore M os (performedBefore M o c .after))
+abbrev pub playedBefore : Model → List Order → Configuration → Played
+playedBefore M = playedBy (performedBefore M)

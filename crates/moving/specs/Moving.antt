@@ -2,7 +2,7 @@
 use mathlib.Core.Path.{_≡_}
 use mathlib.Core.Bool.{Bool, false, not, _&&_, _||_}
 use mathlib.Core.List.{List, [], _∷_, _++_}
-use Prim.Native.Nat.{ℕ, _+_, _*_}
+use Prim.Native.Nat.{ℕ}
 use lib.Dec.{eqb}
 use lib.ListN.{length}
 use Rattle.base.specs.Below.{allBelow, All}
@@ -74,10 +74,6 @@ isNew o = (eqb (o .kind) 6 || eqb (o .kind) 7) && isKnown o
 abbrev pub MovesOver : Type 0
 MovesOver = (M : Model) (orders : Bytes) → All (λ o. isNew o ≡ false) (ordersOf (orders .bytes))
     → played M (ordersOf (movedBytes M (orders .bytes))) (first M) ≡ playedBefore M (ordersOf (orders .bytes)) (first M)
-
--- one order, by its bytes
-abbrev pub orderFrom : ℕ → ℕ → ℕ → ℕ → Order
-orderFrom kind argument low high = order kind argument (low + 256 * high)
 
 -- an order moved from the struct c: its kind, and the configuration that the order of before hands back
 pub record MovedAt (M : Model) (o : Order) (c : Config) (r : Moved) : Type 0 where

@@ -7,8 +7,8 @@ ghost use lib.ListN.{length};
 ghost use Rattle.blocks.specs.Records.{modelOf};
 ghost use Rattle.cycle.specs.View.{Valid, viewOf};
 ghost use Rattle.expressions.specs.Reading.{Runs};
-ghost use Rattle.session.specs.Lists.{ordersOf, orderBytes};
-ghost use Rattle.moving.specs.Moving.{orderFrom, movedOver, MovedAt, MoveIs, MovesOver};
+ghost use Rattle.session.specs.Lists.{orderOf, ordersOf, orderBytes};
+ghost use Rattle.moving.specs.Moving.{movedOver, MovedAt, MoveIs, MovesOver};
 use blocks::index::Index;
 use cycle::config::Config;
 use model::load::load;
@@ -34,7 +34,7 @@ fn move_order<'a>(
 ) -> Moved
     requires { ⌜ Runs (now m) (now index) ⌝ }
     requires { ⌜ Valid (modelOf (now m)) c ⌝ }
-    ensures { λ r. ⌜ MovedAt (modelOf (now (m .entry))) (orderFrom kind argument low high) c r ⌝ }
+    ensures { λ r. ⌜ MovedAt (modelOf (now (m .entry))) (orderOf (kind ∷ argument ∷ low ∷ high ∷ [])) c r ⌝ }
 {
     let mut answer = [0u8; 16];
     if kind == 2 {

@@ -10,7 +10,7 @@ use Rattle.rules.specs.Orders.{Outcome}
 use Rattle.rules.specs.Steps.{deltaStep}
 use Rattle.rules.specs.Delays.{NoDelayOfZero, withoutEarlier, SameButEarlier}
 use Rattle.rules.proofs.Delays.{former-value, bare, delta-bare, delta-step-bare, time-step-bare, read-bare, pick-bare, settle-bare, pick-set-bare}
-use Rattle.session.specs.Lists.{Order, Played, isKnown, performed, answerOf, answered, played}
+use Rattle.session.specs.Lists.{Order, Played, isKnown, performed, answerOf, answered, playedBy, played}
 use Rattle.session.specs.DelayLaws.{SamePlay, DelayLaws}
 
 module _ (M : Model) (free : NoDelayOfZero M) where
@@ -34,7 +34,7 @@ module _ (M : Model) (free : NoDelayOfZero M) where
   then os r = barePlayed (answered r (played M os (r .after)))
 
   list-bare : (os : List Order) (c : Configuration) → barePlayed (played M os c) ≡ barePlayed (played M os (withoutEarlier c))
-  unfolding played answerOf
+  unfolding playedBy answerOf
   list-bare [] c = refl
   list-bare (o ∷ os) c =
       let rest : (r : Outcome) → then os r ≡ then os (bare r) = λ r. ap (answered r) (list-bare os (r .after)) in

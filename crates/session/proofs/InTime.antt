@@ -18,7 +18,7 @@ use Rattle.rules.specs.Invariant.{Reachable}
 use Rattle.rules.specs.Orders.{Outcome}
 use Rattle.rules.proofs.FirstReachable.{first-reachable}
 use Rattle.rules.proofs.Invariant.{picked-reachable, settled-reachable, pickedSet-reachable, delta-step-reachable, time-step-reachable, read-reachable}
-use Rattle.session.specs.Lists.{Order, isKnown, ordersOf, performed, played}
+use Rattle.session.specs.Lists.{Order, isKnown, ordersOf, performed, playedBy, played}
 use Rattle.session.specs.Sessions.{Session, numberOf, sessionOf}
 use Rattle.session.proofs.SessionLaws.{model-refused}
 
@@ -38,7 +38,7 @@ module _ (M : Model) (fs : Facts M) where
       (λ e. read-reachable M fs c r (o .argument)))))))
 
   pub played-reachable : (os : List Order) (c : Configuration) → Reachable M c → Reachable M (played M os c .end)
-  unfolding played
+  unfolding playedBy
   played-reachable [] c r = r
   played-reachable (o ∷ os) c r = played-reachable os (performed M o c .after) (performed-reachable o c r)
 

@@ -12,7 +12,7 @@ use Rattle.model.specs.Rules.{refusalOf}
 use Rattle.rules.specs.Configuration.{Configuration, first}
 use Rattle.rules.specs.Orders.{Outcome, refused, settled}
 use Rattle.rules.proofs.Outcomes.{Pick, pick-refused, pick-done, pick-is, Delta, delta-refused, delta-done, delta-is, Time, time-refused, time-done, time-is, PickSet, set-refused, set-done, pick-set-is, Read, read-refused, read-done, read-is}
-use Rattle.session.specs.Lists.{Order, isKnown, performed, answered, ordersOf, played}
+use Rattle.session.specs.Lists.{Order, isKnown, performed, answered, ordersOf, playedBy, played}
 use Rattle.session.specs.Sessions.{ordersOk, bufferOk, numberOf, sessionOf}
 use Rattle.session.specs.ListLaws.{ListLaws}
 use Rattle.session.proofs.SessionLaws.{model-accepted, neither}
@@ -60,12 +60,12 @@ module _ (M : Model) (c : Configuration) where
   -- "After a refused order the next is played all the same", from the configuration that the refused one took
   after-refused : (o : Order) (os : List Order) → (performed M o c .refusal ≡ 0 → ⊥)
       → played M (o ∷ os) c ≡ answered (refused (performed M o c .refusal) c) (played M os c)
-  unfolding played
+  unfolding playedBy
   after-refused o os h = let e = refused-kept o h in ap (λ (r : Outcome). answered r (played M os (r .after))) e
 
 -- "No orders: number 0, first configuration."
 no-orders-session : (m : List ℕ) → refusalOf m ≡ 0 → sessionOf m [] [] ≡ record { number = 0; end = first (modelOf m); buffer = [] }
-unfolding sessionOf ordersOk bufferOk ordersOf listBelow played
+unfolding sessionOf ordersOk bufferOk ordersOf listBelow playedBy
 no-orders-session m h =
     let k : eqb (numberOf m [] []) 0 ≡ true = eq-eqb _ _ (model-accepted m [] [] h ∙ sym (neither [] [] refl refl)) in
     rw k

@@ -27,7 +27,7 @@ use Rattle.cycle.specs.declared.picks.Picks.{Picks}
 use Rattle.cycle.specs.declared.picks.Picks.the-variants.{One, Settle, Set}
 use Rattle.cycle.proofs.OrderLaws.{refused-is}
 use Rattle.cycle.proofs.ViewLaws.{nsignals-is}
-use Rattle.session.specs.Lists.{order, orderOf, ordersOf, isKnown, performed, answerBytes, answerOf, played}
+use Rattle.session.specs.Lists.{order, orderOf, ordersOf, isKnown, performed, answerBytes, answerOf, playedBy, played}
 use Rattle.session.specs.Sessions.{bytesOf}
 
 -- all is written
@@ -39,6 +39,10 @@ pub written : (a e rest : List ℕ) (n k : ℕ) → k ≡ n + length e → n ≤
 written a e rest n k h l =
     let long : length (take n a ++ e) ≡ k = simp (length-append, length-take) (omega arith) in
     rw (← append-assoc) (take-at (take n a ++ e) rest k long)
+
+-- and the buffer is as long as it was
+pub part-room : (a e : List ℕ) (n k : ℕ) → k ≡ n + length e → k ≤ length a → length (putMid n (k - n) a e) ≡ length a
+part-room a e n k h l = let m = mid-len n k a l in same-len-mid n (k - n) a e (omega arith)
 
 module _ (os : List ℕ) (i : ℕ) where
   -- no order is left
@@ -68,6 +72,12 @@ module _ (os : List ℕ) (i : ℕ) where
         let z : 4 * i + 0 ≡ 4 * i = omega arith in
         let t : 4 * i + 2 + 1 ≡ 4 * i + 3 = omega arith in
         rw (e0, e1, e2, e3, z, t)
+
+-- one order, played from its four bytes
+pub one-order : (M : Model) (b : List ℕ) (c : Configuration) → length b ≡ 4
+    → played M (ordersOf b) c ≡ record { answers = answerOf (performed M (orderOf b) c) ∷ []; end = performed M (orderOf b) c .after }
+unfolding ordersOf playedBy listBelow
+one-order M b c h = let e : length b / 4 ≡ 1 = omega arith in rw (e, take-all 4 b (omega arith))
 
 -- before order i: what is left of the list, played from `at`, ends as the whole list does from c₀, and its answers come behind
 -- those written
@@ -152,29 +162,24 @@ module _ {M : Model} {os : List ℕ} {c₀ : Configuration} {i : ℕ} {at : Conf
     left = next-order os i (t .here) ∙ rw (order-read os i (t .here), t .kind-read, t .argument-read, t .count-read)
 
     end-next : played M (drop (i + 1) (ordersOf os)) (viewOf (r .config)) .end ≡ played M (drop i (ordersOf os)) (viewOf at) .end
-    unfolding played outcomeOf
+    unfolding playedBy outcomeOf
     end-next = rw (left, ← (a .is))
 
     module _ {last : List ℕ} (q : last ≡ answerBytes (r .answer .refusal) (r .answer .byte) (r .answer .picks) (r .answer .value) (r .config .time)) where
       bytes-next : (rest : List ℕ) → take (16 * (i + 1)) (take (16 * i) answers ++ (last ++ rest)) ++ bytesOf (played M (drop (i + 1) (ordersOf os)) (viewOf (r .config)) .answers)
           ≡ take (16 * i) answers ++ bytesOf (played M (drop i (ordersOf os)) (viewOf at) .answers)
-      unfolding played outcomeOf answerOf viewOf
+      unfolding playedBy outcomeOf answerOf viewOf
       bytes-next rest =
           let long : length last ≡ 16 = ap length q in
           rw (written answers last rest (16 * i) (16 * (i + 1)) (omega arith) (omega (arith, t .playing .room, t .here)), append-assoc, left, ← (a .is), q)
 
-      room-next : length (putMid (16 * i) (16 * i + 16 - 16 * i) answers last) ≡ length answers
-      room-next =
-          let k : length last ≡ 16 = ap length q in
-          let m = mid-len (16 * i) (16 * i + 16) answers (omega (arith, t .playing .room, t .here)) in
-          same-len-mid (16 * i) (16 * i + 16 - 16 * i) answers last (omega arith)
-
       pub playing-next : Playing M os c₀ (i + 1) (r .config) (putMid (16 * i) (16 * i + 16 - 16 * i) answers last)
       playing-next =
+          let long : length last ≡ 16 = ap length q in
           record {
             low = omega (arith, t .here);
             valid = a .valid;
-            room = room-next ∙ t .playing .room;
+            room = part-room answers last (16 * i) (16 * i + 16) (omega arith) (omega (arith, t .playing .room, t .here)) ∙ t .playing .room;
             end = end-next ∙ t .playing .end;
             bytes = bytes-next _ ∙ t .playing .bytes;
           }

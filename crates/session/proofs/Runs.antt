@@ -20,7 +20,7 @@ use Rattle.rules.specs.Statements.{stepped}
 use Rattle.rules.specs.Orders.{Outcome, refused, isReady, deltaStepped, timeStepped, lowestReady, Settled, settledFrom, settled, setBits, membersBelow, steppedBelow}
 use Rattle.rules.proofs.Outcomes.{Refusal, Pick, pick-refused, pick-done, pick-is, pick-of-ready, Delta, delta-refused, delta-done, delta-is, Time, time-refused, time-done, time-is, one-step, PickSet, set-refused, set-done, pick-set-is, Read, read-refused, read-done, read-is}
 use Rattle.rules.proofs.Sets.{Chosen, members-none, members-more, members-stay, members-most, by-members}
-use Rattle.session.specs.Lists.{Order, isKnown, answerOf, performed, played}
+use Rattle.session.specs.Lists.{Order, isKnown, answerOf, performed, playedBy, played}
 use Rattle.session.specs.Demand3.{picksOf, isAdvance, advancesOf, kernelOf}
 use Rattle.session.proofs.Answers.{Small, refusal-byte, picks-word}
 
@@ -161,7 +161,7 @@ module _ (M : Model) where
   -- a list of orders, one after the other
   pub played-run : (os : List Order) → Small os → (c : Configuration)
       → Run (kernelOf M) c (advancesOf os (played M os c .answers)) (picksOf (played M os c .answers)) (played M os c .end)
-  unfolding played picksOf advancesOf
+  unfolding playedBy picksOf advancesOf
   played-run [] s c = stay
   played-run (o ∷ os) s c =
       let d = counted o c (s .0 .count) in

@@ -28,7 +28,7 @@ use Rattle.rules.specs.Orders.{Outcome, setBits, someMember, membersBelow, step
 use Rattle.rules.proofs.FirstReachable.{first-reachable}
 use Rattle.rules.proofs.Outcomes.{Pick, pick-refused, pick-done, pick-is, pick-of-ready, PickSet, set-refused, set-done, pick-set-is}
 use Rattle.rules.proofs.Sets.{Chosen, members-none, members-more, members-stay, members-most, by-members}
-use Rattle.session.specs.Lists.{order, isKnown, performed, played, after}
+use Rattle.session.specs.Lists.{order, isKnown, performed, playedBy, played, after}
 use Rattle.session.specs.Demand3.{picksOf, kernelOf}
 use Rattle.session.specs.SetLaws.{member, setOrder, singlePicks, SameEnd, SetLaws}
 use Rattle.session.proofs.Answers.{picks-word}
@@ -95,7 +95,7 @@ module _ (M : Model) where
 
   singles : (ps : List ℕ) (c : Configuration) → CanStep (kernelOf M) ps c
       → (played M (singlePicks ps) c .end ≡ stepsOf (kernelOf M) ps c) × (picksOf (played M (singlePicks ps) c .answers) ≡ length ps)
-  unfolding played picksOf
+  unfolding playedBy picksOf
   singles [] c can = (refl, refl)
   singles (p ∷ ps) c (ready, can) =
       let (end, picks) = singles ps (picked M p c .after) can in
@@ -109,7 +109,7 @@ set-alone M set c = refl
 
 module _ (M : Model) (fs : Facts M) (c : Configuration) (r : Reachable M c) (set : ℕ) (ps : List ℕ) (a : Arranges (member set) ps) where
   same-end : (o : Outcome) → performed M (setOrder set) c ≡ o → PickSet M c set o → o .refusal ≡ 0 → SameEnd M c (singlePicks ps) (setOrder set ∷ [])
-  unfolding played picksOf
+  unfolding playedBy picksOf
   same-end o e (set-refused n h) done = absurd (omega arith)
   same-end o e (set-done all) done =
       let same = by-arranging (kernelOf M) (laws M fs) (member set) c (sound M fs c r) (member-ready M set c all) (rising set setBits) ps (rising-arranges set setBits) a in

@@ -85,10 +85,13 @@ pub record Played : Type 0 where
 abbrev pub answered : Outcome → Played → Played
 answered r rest = record { answers = answerOf r ∷ rest .answers; end = rest .end }
 
--- "each order takes the configuration that the order before it handed back"
-unfoldable pub played : Model → List Order → Configuration → Played
-played M [] c = record { answers = []; end = c }
-played M (o ∷ os) c = answered (performed M o c) (played M os (performed M o c .after))
+-- "each order takes the configuration that the order before it handed back": a list, each order doing what `perform` says
+unfoldable pub playedBy : (Order → Configuration → Outcome) → List Order → Configuration → Played
+playedBy perform [] c = record { answers = []; end = c }
+playedBy perform (o ∷ os) c = answered (perform o c) (playedBy perform os (perform o c .after))
+
+abbrev pub played : Model → List Order → Configuration → Played
+played M = playedBy (performed M)
 
 -- "A list's end configuration is the one that its last order handed back, for the empty list the first one"
 abbrev pub after : Model → List Order → Configuration

@@ -3,13 +3,13 @@
 use super::*;
 
 /// The end configurations of the first so many orders, for each number.
-fn followed(b: &Builder, list: &[(u8, u8, u16)]) -> Vec<Config> {
+fn followed(b: &Builder, list: &[Order]) -> Vec<Config> {
     let ends = (0..=list.len()).map(|n| play(b, &list[..n]).1);
     ends.collect()
 }
 
 /// Rounds of a step and a settle, after a settle.
-fn turns(b: &Builder, n: usize) -> Vec<(u8, u8, u16)> {
+fn turns(b: &Builder, n: usize) -> Vec<Order> {
     stepped(b, &[&[SET][..], &[STEP, SET].repeat(n)].concat())
 }
 

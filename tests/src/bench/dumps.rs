@@ -18,7 +18,7 @@ fn header(variables: &str) -> String {
 }
 
 /// What comes after the header; the list may have steps.
-fn changes(b: &Builder, list: &[(u8, u8, u16)]) -> String {
+fn changes(b: &Builder, list: &[Order]) -> String {
     let text = print(&b.encode(), &orders(&stepped(b, list)));
     let (_, changes) = text.split_once("$enddefinitions $end\n").unwrap();
     changes.to_string()

@@ -4,7 +4,7 @@ use super::*;
 use crate::integers::*;
 
 /// A pick of a process.
-const fn pick(process: u8) -> (u8, u8, u16) {
+const fn pick(process: u8) -> Order {
     (PICK, process, 0)
 }
 
@@ -129,7 +129,7 @@ fn conditions_that_fail_in_a_delta_step() {
 
 #[test]
 fn value_and_node_in_the_text() {
-    let text = |b: &Builder, list: &[(u8, u8, u16)]| print(&b.encode(), &orders(list));
+    let text = |b: &Builder, list: &[Order]| print(&b.encode(), &orders(list));
     let list = [pick(0), pick(0), pick(1), SET, DEL, (READ, 0, 0), (2, 0, 0)];
     assert_eq!(
         text(&shared_node(), &list),

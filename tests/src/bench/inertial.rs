@@ -7,7 +7,7 @@ const ONE: Carried = Some(3);
 const OTHER: Carried = Some(2);
 
 /// A settle of enough picks.
-const ALL: (u8, u8, u16) = (SETTLE, 0, 40);
+const ALL: Order = (SETTLE, 0, 40);
 
 /// What is pending on a bus once all this is given.
 fn pending(list: &[Act]) -> Vec<Pending> {

@@ -5,11 +5,11 @@ use crate::moves::{move_over, moved, session_before, ADVANCE};
 use crate::session::ORDER;
 use Turn::{Drive, Fail, Null, Wait};
 
-const OLD: (u8, u8, u16) = (ADVANCE, 0, 0);
+const OLD: Order = STEP;
 
 /// The kinds of the moved orders; all other bytes stay, and where no order 6 or 7 was in
 /// the list, answers and end are those of before.
-fn kinds(b: &Builder, list: &[(u8, u8, u16)]) -> Vec<u8> {
+fn kinds(b: &Builder, list: &[Order]) -> Vec<u8> {
     let old = orders(list);
     let new = moved(&b.m, &old);
     assert_eq!(moved(&b.m, &new), new);

@@ -5,7 +5,7 @@ use Turn::{Drive, Fail, Null, Wait};
 
 /// The answers to these sets, in turn.
 fn sets(b: &Builder, list: &[u16]) -> (Vec<Answer>, Config) {
-    let orders: Vec<(u8, u8, u16)> = list.iter().map(|&set| (PICK_SET, 0, set)).collect();
+    let orders: Vec<Order> = list.iter().map(|&set| (PICK_SET, 0, set)).collect();
     play(b, &orders)
 }
 
@@ -60,7 +60,7 @@ fn the_empty_set() {
 }
 
 /// The number of each order's answer, behind these; none changes anything.
-fn refusals(b: &Builder, front: &[(u8, u8, u16)], list: &[(u8, u8, u16)]) -> Vec<u8> {
+fn refusals(b: &Builder, front: &[Order], list: &[Order]) -> Vec<u8> {
     let before = play(b, front).1;
     let (a, after) = play(b, &[front, list].concat());
     assert_eq!(after, before);
@@ -197,7 +197,7 @@ fn single_picks_in_every_arrangement() {
     let all = arrangements(&[0, 1, 2, 3, 4]);
     assert_eq!(all.len(), 120);
     for list in all {
-        let picks: Vec<(u8, u8, u16)> = list.iter().map(|&p| (PICK, p, 0)).collect();
+        let picks: Vec<Order> = list.iter().map(|&p| (PICK, p, 0)).collect();
         let (a, c) = play(&b, &picks);
         assert_eq!(c, end, "{list:?}");
         assert_eq!(a.iter().map(|x| x.2).sum::<u16>(), 5);

@@ -5,7 +5,7 @@ use crate::moves::ADVANCE;
 use Turn::{Drive, Fail, Null, Wait};
 
 /// The refusals of a list; those of them that are refused change nothing.
-fn refusals(b: &Builder, list: &[(u8, u8, u16)]) -> Vec<u8> {
+fn refusals(b: &Builder, list: &[Order]) -> Vec<u8> {
     let (a, _) = play(b, list);
     for (n, answer) in a.iter().enumerate().filter(|(_, a)| a.0 != 0) {
         let (before, after) = (play(b, &list[..n]).1, play(b, &list[..n + 1]).1);
@@ -82,7 +82,7 @@ fn unused_bytes_first_of_all() {
 #[test]
 fn nothing_due_before_the_delta_limit() {
     let front = [SET, DEL].repeat(1_000);
-    let last = |turns: i32, list: &[(u8, u8, u16)]| {
+    let last = |turns: i32, list: &[Order]| {
         let (a, c) = play(&delta_turns(turns), &[&front[..], &[SET], list].concat());
         let refusals: Vec<u8> = a[2_001..].iter().map(|a| a.0).collect();
         (refusals, c.time, c.delta)
@@ -116,7 +116,7 @@ fn processes_before_both_limits() {
 fn something_due_before_the_time_limit() {
     let b = time_turns(2_000_000_000);
     let front = stepped(&b, &[SET, STEP, STEP].repeat(501));
-    let number = |list: &[(u8, u8, u16)]| {
+    let number = |list: &[Order]| {
         let (a, c) = play(&b, &[&front[..1_499], list].concat());
         let refusals: Vec<u8> = a[1_499..].iter().map(|a| a.0).collect();
         (refusals, c.time)

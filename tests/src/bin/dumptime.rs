@@ -2,7 +2,7 @@
 //! arguments, as processes that write into a file, in turn.
 
 use second_kernel::builder::Builder;
-use second_kernel::cases::{inverter, orders, stepped, STEP};
+use second_kernel::cases::{inverter, orders, stepped, Order, STEP};
 use second_kernel::model::*;
 use second_kernel::session::SETTLE;
 use std::fs::{self, File};
@@ -13,12 +13,12 @@ use std::time::Instant;
 const RUNS: usize = 50;
 const ORDERS: usize = 4096;
 
-const SET: (u8, u8, u16) = (SETTLE, 0, 1000);
+const SET: Order = (SETTLE, 0, 1000);
 
 type Session = (Vec<u8>, Vec<u8>);
 
 /// A full session of these orders over and over.
-fn session(b: &Builder, round: &[(u8, u8, u16)]) -> Session {
+fn session(b: &Builder, round: &[Order]) -> Session {
     let list: Vec<_> = round.iter().copied().cycle().take(ORDERS).collect();
     (b.encode(), orders(&stepped(b, &list)))
 }

@@ -1,6 +1,6 @@
 //! Runs with picks of sets.
 
-use super::{orders, DELTA, PICK, PICK_SET, READ, SETTLE, TIME};
+use super::{orders, Order, DELTA, PICK, PICK_SET, READ, SETTLE, TIME};
 use crate::builder::Builder;
 use crate::integers::*;
 use crate::model::*;
@@ -66,7 +66,7 @@ pub fn team(turns: &[Turn]) -> Builder {
 
 /// A team of one that has stopped, one that waits and two that are always ready, and the
 /// orders that bring it there.
-pub fn mixed_team() -> (Builder, Vec<(u8, u8, u16)>) {
+pub fn mixed_team() -> (Builder, Vec<Order>) {
     let turns = [Turn::Fail(4), Turn::Restless, Turn::Wait, Turn::Restless];
     let list = vec![(PICK, 0, 0), (PICK, 2, 0)];
     (team(&turns), list)

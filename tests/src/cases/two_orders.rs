@@ -2,16 +2,12 @@
 
 use super::{
     counted_deltas, delta_turns, due_beyond_last, inverter, line, orders, stepped, stopped_at_last,
-    team, time_turns, Turn, DELTA, PICK, READ, SETTLE, STEP, TIME,
+    team, time_turns, Order, Turn, DEL, DELTA, PICK, READ, SETTLE, STEP, TIM, TIME,
 };
 use crate::builder::Builder;
 use crate::moves::ADVANCE;
 
-type Order = (u8, u8, u16);
-
 const SET: Order = (SETTLE, 0, 9);
-const DEL: Order = (DELTA, 0, 0);
-const TIM: Order = (TIME, 0, 0);
 
 /// A list with order 2 before each order, and before each step the other one.
 fn everywhere(list: &[Order]) -> Vec<Order> {

@@ -340,14 +340,14 @@ mod tests {
     use crate::cases::*;
 
     /// What the orders show on a model, in the order of the names.
-    fn shown(b: &Builder, list: &[(u8, u8, u16)]) -> Vec<&'static str> {
+    fn shown(b: &Builder, list: &[Order]) -> Vec<&'static str> {
         let seen = of_session(&b.m, &orders(&stepped(b, list)));
         let all = [in_sessions(), FAULT.to_vec()].concat();
         all.into_iter().filter(|what| seen.contains(what)).collect()
     }
 
     /// A settle, then so many steps with a settle after each, for `shown`.
-    fn turns(n: usize) -> Vec<(u8, u8, u16)> {
+    fn turns(n: usize) -> Vec<Order> {
         let round = [STEP, (SETTLE, 0, 9)];
         [&[(SETTLE, 0, 9)][..], &round.repeat(n)].concat()
     }

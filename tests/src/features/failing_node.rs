@@ -330,7 +330,7 @@ mod tests {
     use crate::gen;
     use crate::session::session;
 
-    fn shown(b: &Builder, list: &[(u8, u8, u16)]) -> Vec<&'static str> {
+    fn shown(b: &Builder, list: &[Order]) -> Vec<&'static str> {
         let seen = of_session(&b.m, &orders(list));
         faults()
             .into_iter()
@@ -338,9 +338,9 @@ mod tests {
             .collect()
     }
 
-    const FIRST: [(u8, u8, u16); 1] = [(PICK, 0, 0)];
-    const SETTLED: [(u8, u8, u16); 1] = [(SETTLE, 0, 9)];
-    const STEPPED: [(u8, u8, u16); 3] = [(SETTLE, 0, 9), (TIME, 0, 0), (DELTA, 0, 0)];
+    const FIRST: [Order; 1] = [(PICK, 0, 0)];
+    const SETTLED: [Order; 1] = [(SETTLE, 0, 9)];
+    const STEPPED: [Order; 3] = [(SETTLE, 0, 9), (TIME, 0, 0), (DELTA, 0, 0)];
 
     // The order of evaluation once more: what fails is the node that the walk comes
     // to, at each node of models as their sessions leave them.

@@ -388,11 +388,7 @@ mod tests {
     use crate::cases::*;
     use Turn::{Drive, Fail, Null, Wait};
 
-    type Order = (u8, u8, u16);
-
     const ALL: Order = (SETTLE, 0, 99);
-    const DEL: Order = (DELTA, 0, 0);
-    const TIM: Order = (TIME, 0, 0);
 
     fn set(set: u16) -> Order {
         (PICK_SET, 0, set)

@@ -337,12 +337,8 @@ mod tests {
     use crate::model::ABSENT;
     use Turn::{Drive, Fail, Null, Wait};
 
-    type Order = (u8, u8, u16);
-
     const ALL: Order = (SETTLE, 0, 99);
-    const DEL: Order = (DELTA, 0, 0);
-    const TIM: Order = (TIME, 0, 0);
-    const OLD: Order = (ADVANCE, 0, 0);
+    const OLD: Order = STEP;
 
     /// What the last order shows behind the others.
     fn shown(b: &Builder, list: &[Order]) -> Vec<&'static str> {

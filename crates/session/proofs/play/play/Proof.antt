@@ -7,7 +7,7 @@ use borrow.Author.Needs.{needs}
 use Rattle.blocks.specs.Records.{modelOf}
 use Rattle.cycle.specs.View.{viewOf}
 use Rattle.cycle.proofs.Advances.{few-signals}
-use Rattle.session.specs.Lists.{played}
+use Rattle.session.specs.Lists.{playedBy}
 use Rattle.session.proofs.PlayLaws.{Playing, Reading, playing-next, refused-gives, picks-give, delta-gives, time-gives, read-gives, no-orders, all-written}
 use Rattle.session.proofs.play.play.Statement.{statement}
 use Rattle.session.proofs.play.play.Tie as tie
@@ -132,7 +132,7 @@ same-length : tie.Need-same-length Inv-loop μ-loop
 same-length c = search needs
 
 returns : tie.Need-returns Inv-loop μ-loop
-unfolding played
+unfolding playedBy
 returns c =
     let inv = c .before .loop .inv in
     let start = c .before .before .before .before .before in

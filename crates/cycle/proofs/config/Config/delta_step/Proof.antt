@@ -11,10 +11,9 @@ use Rattle.rules.specs.Orders.{deltaStepped}
 use Rattle.rules.proofs.Lists.{length-mapped}
 use Rattle.cycle.specs.View.{Valid, viewOf}
 use Rattle.cycle.specs.declared.config.Config.{Config}
-use Rattle.cycle.proofs.Advances.{few-signals, few-drivers, few-processes, Says, DeltaDue, delta-says}
+use Rattle.cycle.proofs.Advances.{few-signals, few-drivers, few-processes, Says, says-refused, searchable, DeltaDue, delta-says}
 use Rattle.cycle.proofs.DeltaDrivers.{slotOf, some-pending, slot-taken, slot-kept, Taking, taking-none, taking-more, taking-same, time-most, next-timed, next-few, deltas-kept}
 use Rattle.cycle.proofs.DeltaView.{delta-answers, processes-kept}
-use Rattle.cycle.proofs.Soonest.{no-first-before, no-deadline-before}
 use Rattle.cycle.proofs.ViewLaws.{nsignals-is, ndrivers-is, nprocesses-is}
 use Rattle.cycle.proofs.config.Config.delta_step.Statement.{statement}
 use Rattle.cycle.proofs.config.Config.delta_step.Tie as tie
@@ -65,9 +64,7 @@ delta-step-spec =
     -- next-due-requires
     (λ c κs.
     let st = c .before .before .before .before in
-    let facts = st .pre .0 .facts in
-    let valid = st .pre .1 in
-    (few-processes facts valid, (few-drivers facts valid, (no-first-before _ _ valid, no-deadline-before _ _ valid))))
+    searchable _ _ (st .pre .1) (st .pre .0 .facts))
     -- delta-refusal-requires
     (λ c κs.
     let st = c .before .before .before .before .before .before .before in
@@ -77,7 +74,7 @@ delta-step-spec =
     -- returns
     (λ c.
     let e = c .before .before in
-    rw (says e .refuses (c .before .if1 .taken)) (record { is = c .refused .ensures .0; valid = c .refused .ensures .1 _ (valid e) }))
+    says-refused _ _ (valid e) (says e) (c .before .if1 .taken) _ (c .refused .ensures .0) (c .refused .ensures .1))
     -- actives-requires
     (λ c κs.
     let e = c .before .before .before in

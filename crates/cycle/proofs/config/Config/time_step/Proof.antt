@@ -9,9 +9,8 @@ use Rattle.rules.specs.Orders.{timeStepped}
 use Rattle.rules.proofs.Lists.{length-mapped}
 use Rattle.cycle.specs.View.{Valid, viewOf}
 use Rattle.cycle.specs.declared.config.Config.{Config}
-use Rattle.cycle.proofs.Advances.{few-signals, few-drivers, few-processes, Says, TimeDue, time-says}
+use Rattle.cycle.proofs.Advances.{few-signals, few-drivers, few-processes, Says, says-refused, searchable, TimeDue, time-says}
 use Rattle.cycle.proofs.DeltaDrivers.{Taking, taking-none}
-use Rattle.cycle.proofs.Soonest.{no-first-before, no-deadline-before}
 use Rattle.cycle.proofs.TimeView.{Elapsing, elapsing-none, elapsing-more, next-ahead, each-ahead, time-stepped}
 use Rattle.cycle.proofs.config.Config.time_step.Statement.{statement}
 use Rattle.cycle.proofs.config.Config.time_step.Tie as tie
@@ -62,9 +61,7 @@ time-step-spec =
     -- next-due-requires
     (λ c κs.
     let st = c .before .before .before .before in
-    let facts = st .pre .0 .facts in
-    let valid = st .pre .1 in
-    (few-processes facts valid, (few-drivers facts valid, (no-first-before _ _ valid, no-deadline-before _ _ valid))))
+    searchable _ _ (st .pre .1) (st .pre .0 .facts))
     -- time-refusal-requires
     (λ c κs.
     let st = c .before .before .before .before .before .before .before in
@@ -74,7 +71,7 @@ time-step-spec =
     -- returns
     (λ c.
     let e = c .before .before in
-    rw (says e .refuses (c .before .if1 .taken)) (record { is = c .refused .ensures .0; valid = c .refused .ensures .1 _ (valid e) }))
+    says-refused _ _ (valid e) (says e) (c .before .if1 .taken) _ (c .refused .ensures .0) (c .refused .ensures .1))
     -- sub-passed
     (λ c. search (needs, later c .from-now))
     -- shift-requires
