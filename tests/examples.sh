@@ -1,8 +1,9 @@
 #!/bin/sh
 # The examples: each text makes its blocks and orders, their listings make the same ones again, the proved playbench and dumpbench
 # and the second kernel's print what is expected, also of the orders for the wave viewer and of steps that are refused, single picks
-# come to the end of the sets, and each node that failed is explained as stored. A stored list of before moves over, and a refused
-# move writes nothing. README.md shows some of these lines.
+# come to the end of the sets, and each node that failed is explained as stored. A model with its own resolution table, and the same
+# one without, print what is expected of each. A stored list of before moves over; a refused move or table writes nothing. README.md
+# shows some of these lines.
 set -eu
 top=$(cd "$(dirname "$0")/.." && pwd)
 blocks=$top/tools/blocks/target/release/blocks
@@ -54,8 +55,13 @@ for folder in "$top"/examples/*/; do
         "$blocks" list model >listed
         "$blocks" make listed again
         cmp again model
-        prints playbench "$folder/expected"
-        prints dumpbench "$folder/dump.vcd"
+        if [ -e "${text%.txt}.expected" ]; then # a model that gives something else by these orders
+            prints playbench "${text%.txt}.expected"
+            prints dumpbench "${text%.txt}.vcd"
+        else
+            prints playbench "$folder/expected"
+            prints dumpbench "$folder/dump.vcd"
+        fi
     done
     if [ -e "$folder/singles.txt" ]; then
         told "$folder/expected" >of_sets
@@ -81,12 +87,14 @@ done
 says() { # FILE WORDS
     grep -qF "$2" "$1" || { cat "$1" >&2; echo "examples.sh: '$2' is not said" >&2; exit 1; }
 }
-refuses() { # MODEL ORDERS WORDS: the move is refused with these words, and writes nothing
-    if "$blocks" move "$1" "$2" none >said 2>&1 || [ -e none ]; then
-        echo "examples.sh: the move of $2 with $1 is not refused" >&2
+refuses() { # WORDS ARGUMENTS: `blocks ARGUMENTS none` says these words, and writes no file `none`
+    words=$1
+    shift
+    if "$blocks" "$@" none >said 2>&1 || [ -e none ]; then
+        echo "examples.sh: blocks $* is not refused" >&2
         exit 1
     fi
-    says said "$3"
+    says said "$words"
 }
 inverter=$top/examples/inverter
 "$blocks" orders "$inverter/before.txt" before 2>warned
@@ -106,9 +114,9 @@ cat new before >mixed
 says warned 'order 1, counted from 0, is of kind 6: it gave 11 before and is played now; answers may differ from there on'
 head -c 511 "$inverter/model" >short
 head -c 31 before >partial
-refuses short before 'short: the kernel refuses this model with 1'
-refuses "$inverter/model" partial 'partial: the kernel refuses these orders with 9: 31 bytes'
-refuses "$inverter/model" nowhere 'nowhere: '
+refuses 'short: the kernel refuses this model with 1' move short before
+refuses 'partial: the kernel refuses these orders with 9: 31 bytes' move "$inverter/model" partial
+refuses 'nowhere: ' move "$inverter/model" nowhere
 # A folder of stored lists, as README.md has it; the list that is refused stays as it is.
 cat >all <<'END'
 for list in */orders; do
@@ -129,6 +137,28 @@ cmp stored/b/orders before
 cmp stored/c/orders "$inverter/orders"
 find stored -name '*.new' | cmp - /dev/null
 echo "orders of before: moved over"
+
+# The open-drain line: its model without the last block, the table, is that of standard.txt. README.md has the table, and side by
+# side the answers to reads that differ.
+drain=$top/examples/open_drain
+"$blocks" make "$drain/standard.txt" standard
+head -c -512 "$drain/model" | cmp - standard
+"$blocks" list "$drain/model" | grep -A 9 '^table$' >table
+grep -A 9 '^    table$' "$top/README.md" | sed 's/^    //' | cmp - table
+answered "$drain/orders" "$drain/expected" | paste - "$drain/standard.expected" |
+    awk -F '\t' '/^read/ && $2 != $3 { printf "%-16s %s\n", $2, $3 }' >differ
+[ "$(wc -l <differ)" -eq 6 ]
+in_readme <differ
+refuses_row() { # ROW NEW WORDS: the text with another row is refused with these words
+    sed "s/^  $1\$/  $2/" "$drain/model.txt" >changed.txt
+    refuses "changed.txt: $3" make changed.txt
+}
+refuses_row UX0HHWWHX UX0HHWWH "line 16: the table's row of H has nine values, not 8"
+refuses_row 000000000 0000000Z0 'line 11: the table is not symmetric: row 0, column H has Z, and row H, column 0 has 0; '
+says said 'the kernel would refuse this model with 24'
+refuses_row UX0HHWWHX UX0HHWW1X 'line 12: the table is not associative: 1 with H is H, and that with H is 1; but H with H is 1, '
+says said 'but H with H is 1, and 1 with that is Z; the kernel would refuse this model with 25'
+echo "tables of their own: told where they are refused"
 
 in_readme <"$inverter/expected"
 in_readme <"$inverter/dump.vcd"

@@ -7,6 +7,7 @@ mod failing_node;
 mod inertial;
 mod moves;
 mod nulls;
+mod own_table;
 mod pick_set;
 mod two_orders;
 
@@ -623,6 +624,7 @@ fn rich_model_is_accepted() {
         vec![1, 0, 1],
         vec![5, 8],
         vec![0, 10],
+        vec![0, 0],
     ];
     assert_eq!(load(&encode_with(&b.m, &plan)).unwrap(), b.m);
 }
@@ -655,7 +657,7 @@ fn block_headers() {
             (0, 63),
             (1, 1),
             (2, 0),
-            (2, 7),
+            (2, 8),
             (3, 43),
             (3, 255),
             (4 + 12 * bytes[512 * n + 3] as usize, 1),

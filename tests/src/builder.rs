@@ -1,6 +1,7 @@
 //! Puts models together item by item.
 
 use crate::model::*;
+use crate::values::Table;
 
 #[derive(Clone, Debug, Default)]
 pub struct Builder {
@@ -56,6 +57,13 @@ impl Builder {
     pub fn node(&mut self, kind: u8, a: u16, b: u16, k: i32) -> u16 {
         self.m.nodes.push(NodeRecord { kind, a, b, k });
         self.m.nodes.len() as u16 - 1
+    }
+
+    /// A constant, which the model has once.
+    pub fn shared_constant(&mut self, kind: u8, k: i32) -> u16 {
+        let found = |n: &NodeRecord| (n.kind, n.k) == (kind, k);
+        let old = self.m.nodes.iter().position(found);
+        old.map_or_else(|| self.node(kind, 0, 0, k), |n| n as u16)
     }
 
     pub fn integer(&mut self, k: i32) -> u16 {
@@ -139,6 +147,11 @@ impl Builder {
     /// A null transaction.
     pub fn release(&mut self, signal: u16, c: u16) -> u16 {
         self.statement(6, signal, 0, c, 0)
+    }
+
+    /// Gives the model its own resolution table.
+    pub fn table(&mut self, table: &Table) {
+        self.m.rows = table.to_vec();
     }
 
     pub fn encode(&self) -> Vec<u8> {

@@ -2,6 +2,7 @@
 //! limits of orders and answers.
 
 mod dumps;
+mod own_table;
 mod pick_set;
 mod two_orders;
 
@@ -15,6 +16,7 @@ use crate::session::ORDER;
 pub use crate::session::{DELTA, PICK, PICK_SET, READ, SETTLE, TIME};
 use crate::values::code;
 pub use dumps::{in_turn, integers_in_turn, longest_dump, nine_in_turn, no_signals};
+pub use own_table::{own_tables, refused_tables, sums, with_table};
 pub use pick_set::{mixed_team, team, Turn};
 pub use two_orders::unused_bytes;
 
@@ -830,7 +832,7 @@ pub fn rounds(b: &Builder, n: usize, steps: usize) -> Vec<u8> {
 }
 
 /// Variables for one row of an operator's table: `row` with each of the nine.
-fn operator_row(kind: u8, row: u8) -> Builder {
+pub fn operator_row(kind: u8, row: u8) -> Builder {
     let mut b = Builder::new();
     let a = b.logic(row);
     let nodes: Vec<u16> = (0..9)
@@ -1114,6 +1116,7 @@ pub fn sessions() -> Vec<Case> {
     dumps::sessions(&mut add);
     pick_set::sessions(&mut add);
     two_orders::sessions(&mut add);
+    own_table::sessions(&mut add);
     for turns in [998, 999, 1_000, 1_001, 1_002] {
         let model = delta_turns(turns);
         let list = rounds(&model, 1_003, 1);
@@ -1173,6 +1176,16 @@ pub fn sessions() -> Vec<Case> {
                 name,
                 model: inverter().encode(),
                 orders,
+                room,
+            });
+        }
+    }
+    for (number, table) in refused_tables() {
+        for (length, room) in [(3, 0), (8, 31), (8, 33)] {
+            list.push(Case {
+                name: format!("a table refused with {number}, {length} bytes, {room} of answers"),
+                model: with_table(inverter(), &table).encode(),
+                orders: vec![DELTA; length],
                 room,
             });
         }

@@ -184,7 +184,7 @@ fn resolved(m: &Model, drivers: &[Driver], signal: usize) -> Option<i32> {
         Some(values[0])
     } else {
         let codes: Vec<u8> = values.iter().map(|&v| v as u8).collect();
-        Some(values::resolve(&codes) as i32)
+        Some(values::resolve_by(m.table(), &codes) as i32)
     }
 }
 

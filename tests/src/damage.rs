@@ -1,9 +1,10 @@
-//! Models damaged in one rule of the refusals 1 to 8 and 20, in two, or in a
-//! single byte; and cases on both sides of each limit.
+//! Models damaged in one rule of a model's refusals, in two, or in a single byte; and cases
+//! on both sides of each limit.
 
 mod arithmetic;
 mod guarded;
 mod inertial;
+mod own_table;
 
 use crate::builder::Builder;
 use crate::gen;
@@ -14,6 +15,8 @@ use crate::rng::Rng;
 pub use arithmetic::ARITHMETIC;
 pub use guarded::GUARDED;
 pub use inertial::INERTIAL;
+pub use own_table::OWN_TABLE;
+use std::array::from_fn;
 
 /// A model and bytes to change in its records (kind, record, byte, value).
 struct Subject {
@@ -177,7 +180,7 @@ const HEADER: &[(&str, BlockOp)] = &[
     }),
     ("no such kind", |rng, b| {
         let n = rng.below(blocks(b));
-        b[BLOCK * n + 2] = rng.choose(&[0, 7, 8, 128, 255]);
+        b[BLOCK * n + 2] = rng.choose(&[0, 8, 9, 128, 255]);
         repair(b, n);
         true
     }),
@@ -188,6 +191,15 @@ const HEADER: &[(&str, BlockOp)] = &[
         }
         let below = b[BLOCK * (n - 1) + 2] as usize - 1;
         b[BLOCK * n + 2] = 1 + rng.below(below) as u8;
+        repair(b, n);
+        true
+    }),
+    ("rows before another kind", |rng, b| {
+        let n = rng.below(blocks(b));
+        if n + 1 == blocks(b) || b[BLOCK * (n + 1) + 2] == 7 {
+            return false;
+        }
+        b[BLOCK * n + 2] = 7;
         repair(b, n);
         true
     }),
@@ -319,18 +331,19 @@ fn nonzero(rng: &mut Rng) -> u16 {
     rng.choose(&[1, 2, 255, 256, 32_768, 65_535])
 }
 
-const UNNAMED: [&[usize]; 6] = [
+const UNNAMED: [&[usize]; KINDS] = [
     &[2, 3, 8, 9, 10, 11],
     &[2, 3, 8, 9, 10, 11],
     &[4, 5, 6, 7, 8, 9, 10, 11],
     &[2, 3, 4, 5, 6, 7, 8, 9, 10, 11],
     &[1, 6, 7],
     &[1],
+    &[9, 10, 11],
 ];
 
 const FIELD: &[Way] = &[
     ("an unnamed byte", |rng, s| {
-        let kind = 1 + rng.below(6);
+        let kind = 1 + rng.below(KINDS);
         let total = records(&s.m)[kind - 1].len();
         if total == 0 {
             return None;
@@ -895,7 +908,9 @@ fn model_ops(rule: u32) -> &'static [Way] {
         6 => OPERAND,
         7 => TYPE,
         8 => OWNER,
-        _ => guarded::NULL,
+        20 => guarded::NULL,
+        24 => own_table::SYMMETRY,
+        _ => own_table::ASSOCIATIVITY,
     }
 }
 
@@ -995,7 +1010,7 @@ pub fn byte(rng: &mut Rng) -> (Option<Place>, &'static str, Vec<u8>) {
             }
             return (None, "a block's byte", bytes);
         }
-        let kind = 1 + rng.below(6) as u8;
+        let kind = 1 + rng.below(KINDS) as u8;
         let places: Vec<(usize, usize)> = (0..blocks(&bytes))
             .filter(|&n| bytes[BLOCK * n + 2] == kind)
             .flat_map(|n| (0..bytes[BLOCK * n + 3] as usize).map(move |r| (n, r)))
@@ -1107,7 +1122,7 @@ pub fn limits() -> Vec<(String, Vec<u8>, u32)> {
         list.add(2, format!("{length} zero bytes"), vec![0; length]);
     }
     for total in [6, 7, 63, 64, 65, 66] {
-        for kind in 1..=6 {
+        for kind in 1..=KINDS {
             let m = small().m;
             let mut plan = full_plan(&m);
             plan[kind - 1].splice(0..0, vec![0; total - 6]);
@@ -1132,11 +1147,14 @@ pub fn limits() -> Vec<(String, Vec<u8>, u32)> {
     repair(&mut lone, 0);
     list.add(3, "a block of nothing but its sum", lone);
     let empty = (1..=6).flat_map(|k| empty_block(k as usize - 1, k));
-    list.add(4, "six empty blocks", empty.collect());
+    let empty: Vec<u8> = empty.collect();
+    list.add(4, "six empty blocks", empty.clone());
+    let rows = empty_block(6, 7).to_vec();
+    list.add(4, "seven empty blocks", [empty, rows].concat());
     for (at, values) in [
         (0usize, &[1u8, 6, 64, 255][..]),
         (1, &[1, 128]),
-        (2, &[0, 7, 128, 255]),
+        (2, &[0, 8, 128, 255]),
         (3, &[43, 44, 255]),
         (507, &[1]),
         (508, &[1, 255]),
@@ -1379,6 +1397,7 @@ pub fn limits() -> Vec<(String, Vec<u8>, u32)> {
     guarded::limits(&mut list);
     arithmetic::limits(&mut list);
     inertial::limits(&mut list);
+    own_table::limits(&mut list);
 
     // Drivers and variables.
     list.changed(8, "a driver twice", |b| b.driver(1, 1));
@@ -1437,7 +1456,8 @@ mod tests {
         }
         let ops = LENGTH.len() + SUM.len() + HEADER.len();
         let ops = ops + TOTAL.len() + FIELD.len() + OPERAND.len() + TYPE.len() + OWNER.len();
-        assert_eq!(seen.len(), ops + guarded::NULL.len());
+        let ops = ops + guarded::NULL.len() + own_table::SYMMETRY.len();
+        assert_eq!(seen.len(), ops + own_table::ASSOCIATIVITY.len());
         for seed in 0..4_000 {
             let (rule, _, bytes) = twice(&mut Rng::new(seed));
             assert_eq!(judge(&bytes), rule, "two rules, seed {seed}");

@@ -8,6 +8,7 @@ pub mod dumps;
 pub mod failing_node;
 pub mod inertial;
 pub mod nulls;
+pub mod own_table;
 pub mod pick_set;
 pub mod two_orders;
 
@@ -101,6 +102,15 @@ pub const FEATURES: &[Feature] = &[
         fault: two_orders::others,
         of_model: |_| Seen::new(),
         of_session: two_orders::of_session,
+    },
+    Feature {
+        name: "the model's own resolution table",
+        damages: damage::OWN_TABLE,
+        model: own_table::in_models,
+        session: own_table::in_sessions,
+        fault: Vec::new,
+        of_model: own_table::of_model,
+        of_session: own_table::of_session,
     },
 ];
 

@@ -3,7 +3,10 @@
 mod calculation;
 mod crowds;
 mod edges;
+mod lines;
+pub mod numbering;
 mod pulses;
+pub mod tables;
 mod waves;
 
 use crate::builder::Builder;
@@ -731,26 +734,28 @@ pub fn model_of(rng: &mut Rng, wild: bool) -> Model {
 
 /// A random accepted model.
 pub fn model(rng: &mut Rng) -> Model {
-    weighted_model(rng, &[2, 1, 1, 17])
+    weighted_model(rng, &[2, 1, 1, 2, 17])
 }
 
 /// A random accepted model for a long run.
 pub fn run_model(seed: u64) -> Model {
-    weighted_model(&mut Rng::new(seed), &[3, 3, 3, 13])
+    weighted_model(&mut Rng::new(seed), &[3, 3, 3, 4, 13])
 }
 
-/// One that calculates, one that looks a delta back, one of pulses, a tame or a wild
-/// one, each as likely as its weight.
-fn weighted_model(rng: &mut Rng, weights: &[usize; 4]) -> Model {
-    match rng.weighted(weights) {
+/// One that calculates, one that looks a delta back, one of pulses, one of lines with its
+/// own resolution table, a tame or a wild one, each as likely as its weight.
+fn weighted_model(rng: &mut Rng, weights: &[usize; 5]) -> Model {
+    let m = match rng.weighted(weights) {
         0 => calculation::model(rng),
         1 => edges::model(rng),
         2 => pulses::model(rng),
+        3 => return lines::model(rng),
         _ => {
             let wild = rng.chance(2, 5);
             model_of(rng, wild)
         }
-    }
+    };
+    tables::carried(rng, m)
 }
 
 /// Puts these nodes in front of the model's own.
@@ -802,7 +807,7 @@ pub fn plan(rng: &mut Rng, m: &Model) -> Plan {
                 rng.range(8, 40) as usize
             };
             while blocks(&plan) < total {
-                let kind = rng.below(6);
+                let kind = rng.below(KINDS);
                 let at = rng.below(plan[kind].len() + 1);
                 plan[kind].insert(at, 0);
             }
@@ -1246,11 +1251,11 @@ pub struct SessionCase {
 
 /// Weights of the forms of a session: tame or wild models, damaged ones, orders of a
 /// wrong length, an answer buffer of a wrong length, marathons of delta and of time
-/// steps, calculations, edges, pulses, waves, crowds.
-type Forms = [usize; 11];
-const SESSIONS: Forms = [680, 90, 13, 13, 13, 9, 140, 88, 90, 0, 70];
-const MOVES: Forms = [620, 90, 25, 35, 45, 20, 110, 70, 70, 0, 60];
-const DUMPS: Forms = [260, 170, 30, 0, 10, 40, 50, 40, 80, 320, 20];
+/// steps, calculations, edges, pulses, waves, crowds, lines.
+type Forms = [usize; 12];
+const SESSIONS: Forms = [680, 90, 13, 13, 13, 9, 140, 88, 90, 0, 70, 110];
+const MOVES: Forms = [620, 90, 25, 35, 45, 20, 110, 70, 70, 0, 60, 40];
+const DUMPS: Forms = [260, 220, 30, 0, 10, 40, 50, 40, 80, 320, 20, 60];
 
 /// The session of a seed.
 pub fn session_case(seed: u64) -> SessionCase {
@@ -1292,9 +1297,13 @@ pub fn move_case(seed: u64) -> SessionCase {
 /// A model and a list of orders that is to be arranged otherwise; every other one settles
 /// at its end.
 pub fn schedule_case(rng: &mut Rng) -> (Model, Vec<u8>) {
-    let m = match rng.chance(2, 5) {
-        true => crowds::model(rng),
-        false => model(rng),
+    let m = match rng.weighted(&[4, 1, 5]) {
+        0 => {
+            let m = crowds::model(rng);
+            tables::carried(rng, m)
+        }
+        1 => lines::model(rng),
+        _ => model(rng),
     };
     let most = rng.range(4, 50) as usize;
     let mut orders = self::orders(rng, &m, most);
@@ -1341,7 +1350,8 @@ fn session_of(forms: &Forms, rng: &mut Rng) -> SessionCase {
             ("time marathon", m, orders)
         }
         6 => {
-            let mut m = calculation::model(rng);
+            let m = calculation::model(rng);
+            let mut m = tables::carried(rng, m);
             if rng.chance(1, 2) {
                 let front = unused_nodes(rng, m.nodes.len());
                 shift_nodes(&mut m, front);
@@ -1352,18 +1362,21 @@ fn session_of(forms: &Forms, rng: &mut Rng) -> SessionCase {
         }
         7 => {
             let m = edges::model(rng);
+            let m = tables::carried(rng, m);
             let most = list_length(rng);
             let orders = self::orders(rng, &m, most);
             ("edges", m, orders)
         }
         8 => {
             let m = pulses::model(rng);
+            let m = tables::carried(rng, m);
             let most = list_length(rng).max(20);
             let orders = self::orders(rng, &m, most);
             ("pulses", m, orders)
         }
         9 => {
             let m = waves::model(rng);
+            let m = tables::carried(rng, m);
             let most = list_length(rng);
             let orders = match rng.chance(1, 2) {
                 true => self::orders(rng, &m, most),
@@ -1373,14 +1386,22 @@ fn session_of(forms: &Forms, rng: &mut Rng) -> SessionCase {
         }
         10 => {
             let m = crowds::model(rng);
+            let m = tables::carried(rng, m);
             let habit = rng.choose(&[SETS, SETS, SETS, PICKS]);
             let most = list_length(rng).max(8);
             let orders = orders_by(rng, &m, most, habit);
             ("crowds", m, orders)
         }
+        11 => {
+            let m = lines::model(rng);
+            let most = list_length(rng).max(8);
+            let orders = self::orders(rng, &m, most);
+            ("lines", m, orders)
+        }
         _ => {
             let wild = rng.chance(2, 5);
             let m = model_of(rng, wild);
+            let m = tables::carried(rng, m);
             let most = if form == 0 {
                 list_length(rng)
             } else {
@@ -1452,7 +1473,7 @@ pub struct ModelCase {
 pub fn model_case(seed: u64) -> ModelCase {
     let mut rng = Rng::new(seed);
     let rng = &mut rng;
-    match rng.weighted(&[20, 40, 8, 12, 20]) {
+    match rng.weighted(&[20, 40, 8, 12, 26]) {
         0 => {
             let m = model(rng);
             let plan = plan(rng, &m);

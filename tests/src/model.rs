@@ -1,4 +1,7 @@
-//! Model blocks and records: reading, the refusals 1 to 8 and 20, and writing.
+//! Model blocks and records: reading, the refusals of a model (1 to 8, 20, 24 and 25), and
+//! writing.
+
+use crate::values::{self, Table, STANDARD};
 
 pub const BLOCK: usize = 512;
 pub const RECORD: usize = 12;
@@ -17,8 +20,12 @@ pub const PLAIN: u8 = 0;
 pub const BUS: u8 = 1;
 pub const REGISTER: u8 = 2;
 
-/// Least and greatest total of each record kind 1 to 6.
-pub const LIMITS: [(usize, usize); 6] = [(0, 32), (0, 64), (1, 16), (0, 64), (0, 400), (1, 200)];
+/// How many kinds of records there are.
+pub const KINDS: usize = 7;
+
+/// Least and greatest total of the record kinds 1 to 6; of kind 7 there are none, or nine.
+const LIMITS: [(usize, usize); 6] = [(0, 32), (0, 64), (1, 16), (0, 64), (0, 400), (1, 200)];
+const ROWS: [usize; 2] = [0, 9];
 
 #[derive(Clone, Copy, Debug, Default, PartialEq, Eq)]
 pub struct SignalRecord {
@@ -63,6 +70,9 @@ pub struct StatementRecord {
     pub set: u32,
 }
 
+/// A row of the model's own resolution table, a code for each column.
+pub type RowRecord = [u8; 9];
+
 #[derive(Clone, Debug, Default, PartialEq, Eq)]
 pub struct Model {
     pub signals: Vec<SignalRecord>,
@@ -71,6 +81,19 @@ pub struct Model {
     pub drivers: Vec<DriverRecord>,
     pub nodes: Vec<NodeRecord>,
     pub statements: Vec<StatementRecord>,
+    pub rows: Vec<RowRecord>,
+}
+
+impl Model {
+    /// The resolution table of its logic signals: its own, or else the standard's.
+    pub fn table(&self) -> &Table {
+        self.own_table().unwrap_or(&STANDARD)
+    }
+
+    /// Its own one, if it carries one.
+    pub fn own_table(&self) -> Option<&Table> {
+        <&Table>::try_from(&self.rows[..]).ok()
+    }
 }
 
 /// A record as bytes.
@@ -105,10 +128,10 @@ pub fn repair_sum(block: &mut [u8]) {
     block[510..512].copy_from_slice(&word.to_le_bytes());
 }
 
-/// The records of the six kinds as bytes.
-type Raw = [Vec<Record>; 6];
+/// The records of the kinds as bytes.
+type Raw = [Vec<Record>; KINDS];
 
-/// The first refusal 1 to 8 or 20 that applies, 0 when the model is accepted.
+/// The first refusal that applies, 0 when the model is accepted.
 pub fn judge(bytes: &[u8]) -> u32 {
     match load(bytes) {
         Ok(_) => 0,
@@ -147,6 +170,12 @@ pub fn load(bytes: &[u8]) -> Result<Model, u32> {
     if !nulls_right(&model) {
         return Err(20);
     }
+    if !values::symmetric(model.table()) {
+        return Err(24);
+    }
+    if !values::associative(model.table()) {
+        return Err(25);
+    }
     Ok(model)
 }
 
@@ -164,7 +193,7 @@ fn headers_right(bytes: &[u8]) -> bool {
         if u16_at(block, 0) as usize != number {
             return false;
         }
-        if !(1..=6).contains(&kind) || kind < last_kind {
+        if !(1..=KINDS as u8).contains(&kind) || kind < last_kind {
             return false;
         }
         if count > PER_BLOCK {
@@ -194,9 +223,9 @@ fn split(bytes: &[u8]) -> Raw {
 
 // Rule 4.
 fn totals_right(raw: &Raw) -> bool {
-    raw.iter()
-        .zip(LIMITS)
-        .all(|(list, (least, most))| (least..=most).contains(&list.len()))
+    let mut ranges = raw.iter().zip(LIMITS);
+    ranges.all(|(list, (least, most))| (least..=most).contains(&list.len()))
+        && ROWS.contains(&raw[6].len())
 }
 
 fn read(raw: &Raw) -> Model {
@@ -250,6 +279,10 @@ fn read(raw: &Raw) -> Model {
                 set: u32_at(r, 8),
             })
             .collect(),
+        rows: raw[6]
+            .iter()
+            .map(|r| std::array::from_fn(|column| r[column]))
+            .collect(),
     }
 }
 
@@ -281,6 +314,7 @@ fn fields_right(raw: &Raw, m: &Model) -> bool {
         && raw[5]
             .iter()
             .all(|r| only(r, &[0, 2, 3, 4, 5, 6, 7, 8, 9, 10, 11]))
+        && raw[6].iter().all(|r| only(r, &[0, 1, 2, 3, 4, 5, 6, 7, 8]))
         && m.signals.iter().all(signal_fields_right)
         && m.variables
             .iter()
@@ -291,6 +325,7 @@ fn fields_right(raw: &Raw, m: &Model) -> bool {
         })
         && m.nodes.iter().all(|n| node_fields_right(m, n))
         && (0..m.statements.len()).all(|s| statement_fields_right(m, s))
+        && m.rows.iter().flatten().all(|&code| code <= values::DASH)
 }
 
 fn signal_fields_right(s: &SignalRecord) -> bool {
@@ -554,8 +589,8 @@ fn put(record: &mut Record, at: usize, bytes: &[u8]) {
     record[at..at + bytes.len()].copy_from_slice(bytes);
 }
 
-/// The records of the six kinds as bytes.
-pub fn records(m: &Model) -> [Vec<Record>; 6] {
+/// The records of the kinds as bytes.
+pub fn records(m: &Model) -> [Vec<Record>; KINDS] {
     let signal = |s: &SignalRecord| {
         let mut r = [0; RECORD];
         r[0] = s.ty;
@@ -599,6 +634,11 @@ pub fn records(m: &Model) -> [Vec<Record>; 6] {
         put(&mut r, 8, &s.set.to_le_bytes());
         r
     };
+    let row = |codes: &RowRecord| {
+        let mut r = [0; RECORD];
+        put(&mut r, 0, codes);
+        r
+    };
     [
         m.signals.iter().map(signal).collect(),
         m.variables.iter().map(variable).collect(),
@@ -606,12 +646,13 @@ pub fn records(m: &Model) -> [Vec<Record>; 6] {
         m.drivers.iter().map(driver).collect(),
         m.nodes.iter().map(node).collect(),
         m.statements.iter().map(statement).collect(),
+        m.rows.iter().map(row).collect(),
     ]
 }
 
-/// How the records of each kind are split over blocks: for kinds 1 to 6 the
+/// How the records of each kind are split over blocks: for each kind the
 /// counts of the blocks in order. A 0 is an empty block.
-pub type Plan = [Vec<usize>; 6];
+pub type Plan = [Vec<usize>; KINDS];
 
 /// Full blocks, the last of a kind as full as it comes, none empty.
 pub fn full_plan(m: &Model) -> Plan {
@@ -622,6 +663,7 @@ pub fn full_plan(m: &Model) -> Plan {
         m.drivers.len(),
         m.nodes.len(),
         m.statements.len(),
+        m.rows.len(),
     ];
     let mut plan = Plan::default();
     for (counts, total) in plan.iter_mut().zip(totals) {
@@ -650,7 +692,7 @@ pub fn block(number: u16, kind: u8, records: &[Record]) -> [u8; BLOCK] {
 
 /// Records in blocks, split as planned. The counts of each kind must add up
 /// to its records.
-pub fn encode_records(records: &[Vec<Record>; 6], plan: &Plan) -> Vec<u8> {
+pub fn encode_records(records: &[Vec<Record>; KINDS], plan: &Plan) -> Vec<u8> {
     let mut bytes = Vec::new();
     let mut number = 0u16;
     for (index, list) in records.iter().enumerate() {

@@ -5,7 +5,7 @@ use std::collections::BTreeMap;
 use std::fmt::Display;
 
 /// Refusals of a model, in checking order.
-pub const MODEL: &[u32] = &[1, 2, 3, 4, 5, 6, 7, 8, 20];
+pub const MODEL: &[u32] = &[1, 2, 3, 4, 5, 6, 7, 8, 20, 24, 25];
 /// Refusals of a session whose model is accepted: its orders, its answer buffer.
 pub const ORDERS: u32 = 9;
 pub const ANSWERS: u32 = 10;
@@ -93,9 +93,10 @@ mod tests {
     #[test]
     fn every_number_is_listed_once() {
         let mut all = [session(), ORDER.to_vec(), vec![OUTPUT]].concat();
-        assert!((1..=23).all(|n| all.contains(&n)));
+        assert!((1..=25).all(|n| all.contains(&n)));
         let at = |n: u32| session().iter().position(|&m| m == n);
-        assert!(at(8) < at(20) && at(20) < at(9) && at(9) < at(10));
+        let rising = [8, 20, 24, 25, 9, 10].map(at);
+        assert!(rising.windows(2).all(|pair| pair[0] < pair[1]));
         let many = all.len();
         all.sort();
         all.dedup();

@@ -44,7 +44,7 @@ pub const VALUES: Functions = Functions {
     xor: |x, y| unsafe { gontrafiby_xor(x, y) },
 };
 
-/// The first of the rules 1 to 8 and 20 that a model breaks, or 0.
+/// The first of a model's rules that it breaks, or 0.
 pub fn judge(model: &[u8]) -> u32 {
     // Safety: the pointer and the length are those of one slice.
     unsafe { gontrafiby_judge(model.as_ptr(), model.len()) }

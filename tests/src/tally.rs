@@ -13,7 +13,7 @@ use crate::damage;
 use crate::dump::{dump, DUMP};
 use crate::features::{self, failing_node, FEATURES};
 use crate::gen;
-use crate::model::{judge, load, ABSENT};
+use crate::model::{judge, load, ABSENT, KINDS};
 use crate::moves::ADVANCE;
 use crate::numbers::{self, Counts};
 use crate::session::{session, DELTA, PICK, PICK_SET, SETTLE, TIME};
@@ -165,7 +165,7 @@ pub struct ModelTally {
     /// Cases by number, 0 the accepted ones.
     pub numbers: Counts,
     /// Damaged bytes by record kind and byte.
-    pub bytes: [[u64; 12]; 6],
+    pub bytes: [[u64; 12]; KINDS],
     /// Numbers by the way a case was made.
     pub ways: BTreeMap<&'static str, Counts>,
     /// Cases made to be accepted, and those that were.
@@ -267,7 +267,7 @@ impl ModelTally {
             "made to be accepted {}, accepted {}",
             self.made, self.made_accepted
         );
-        println!("damaged bytes, record kinds 1 to 6 by bytes 0 to 11");
+        println!("damaged bytes, record kinds 1 to {KINDS} by bytes 0 to 11");
         for (kind, row) in self.bytes.iter().enumerate() {
             let row: Vec<String> = row.iter().map(|n| format!("{n:6}")).collect();
             println!("{:4} {}", kind + 1, row.join(""));

@@ -13,7 +13,10 @@ pub const DASH: u8 = 8;
 /// The letters in code order.
 pub const LETTERS: &[u8; 9] = b"UX01ZWLH-";
 
-/// The pair table of the resolution, rows and columns in code order.
+/// A pair table of the resolution, rows and columns in code order.
+pub type Table = [[u8; 9]; 9];
+
+/// The standard's, in letters.
 const PAIRS: [&[u8; 9]; 9] = [
     b"UUUUUUUUU",
     b"UXXXXXXXX",
@@ -38,7 +41,8 @@ pub const fn code(letter: u8) -> u8 {
     panic!("not one of the nine letters")
 }
 
-const CODES: [[u8; 9]; 9] = {
+/// The standard's.
+pub const STANDARD: Table = {
     let mut t = [[0u8; 9]; 9];
     let mut r = 0;
     while r < 9 {
@@ -52,19 +56,36 @@ const CODES: [[u8; 9]; 9] = {
     t
 };
 
-/// One entry of the pair table.
-pub fn pair(a: u8, b: u8) -> u8 {
-    CODES[a as usize][b as usize]
+/// One entry of a pair table.
+pub fn entry(table: &Table, a: u8, b: u8) -> u8 {
+    table[a as usize][b as usize]
 }
 
 /// Resolution: one value is itself; of more, the pair table applied one
 /// after another. There is no resolution of no value (panics).
-pub fn resolve(values: &[u8]) -> u8 {
+pub fn resolve_by(table: &Table, values: &[u8]) -> u8 {
     let mut result = values[0];
     for &v in &values[1..] {
-        result = pair(result, v);
+        result = entry(table, result, v);
     }
     result
+}
+
+/// Resolution by the standard's table.
+pub fn resolve(values: &[u8]) -> u8 {
+    resolve_by(&STANDARD, values)
+}
+
+/// Is each entry that of its pair the other way round?
+pub fn symmetric(table: &Table) -> bool {
+    (0..9).all(|x| (0..9).all(|y| entry(table, x, y) == entry(table, y, x)))
+}
+
+/// Do the first two of any three codes, taken together first, come to what the last two,
+/// taken together first, do?
+pub fn associative(table: &Table) -> bool {
+    let pair = |x, y| entry(table, x, y);
+    (0..9).all(|x| (0..9).all(|y| (0..9).all(|z| pair(pair(x, y), z) == pair(x, pair(y, z)))))
 }
 
 fn low(v: u8) -> bool {
@@ -155,6 +176,7 @@ fn byte(x: u32) -> u8 {
 #[cfg(test)]
 mod tests {
     use super::*;
+    use crate::cases::refused_tables;
 
     fn text(f: impl Fn(u8, u8) -> u8) -> Vec<String> {
         (0..9u8)
@@ -228,7 +250,22 @@ mod tests {
                 .split(", ")
                 .map(String::from)
                 .collect();
-        assert_eq!(text(pair), t);
+        assert_eq!(text(|a, b| entry(&STANDARD, a, b)), t);
+    }
+
+    // The standard's own table is one that a model may carry.
+    #[test]
+    fn the_standards_table_is_right() {
+        assert!(symmetric(&STANDARD) && associative(&STANDARD));
+        // A change of any entry off the diagonal tells.
+        for (x, y) in (0..9).flat_map(|x| (0..9).map(move |y| (x, y))) {
+            let mut table = STANDARD;
+            table[x][y] = (table[x][y] + 1) % 9;
+            assert_eq!(symmetric(&table), x == y, "{x}, {y}");
+        }
+        let wrong = refused_tables().map(|(number, t)| (number, symmetric(&t), associative(&t)));
+        let expected = [(24, false, true), (24, false, false), (25, true, false)];
+        assert_eq!(wrong, expected);
     }
 
     #[test]

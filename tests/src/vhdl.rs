@@ -4,6 +4,7 @@
 //! |---------------------------|-------------------------------------------------|
 //! | signal n                  | `sN`, `std_logic` or `integer`, its start value |
 //! | bus or register           | a guarded signal: `std_logic bus`, `.. register`|
+//! | its own resolution table  | `own_logic` in place of `std_logic` for signals |
 //! | variable n                | `vN` of its process                             |
 //! | process n                 | process `pN`: `case pc is`, a branch a statement|
 //! | driver without assignment | an assignment in the branch never taken         |
@@ -34,6 +35,11 @@
 //! 2 ns`: that is analysed and then lacks a symbol at elaboration. A translation
 //! has no such waveform, so that no model is left out for its guarded signals.
 //!
+//! `own_logic` is a subtype of `std_ulogic` with a resolution function written from the table
+//! (document 02, item 10): of no value Z, of one that value, of more the table over them, one
+//! after another. GHDL calls it at first and in each cycle in which the signal is active, and
+//! gives it the drivers that are on.
+//!
 //! Kind 7 is VHDL's assignment without a word for its delay, inertial by default. Tried
 //! in single designs and in random ones, GHDL 2.0 does as document 02, item 6, says: of
 //! transactions before the new one those of a run of its value stay, a null or another
@@ -59,8 +65,8 @@
 //! - with that cycle, which GHDL counts, a run that rests at a time after just 1,000
 //!   delta steps: there GHDL is allowed one more (`ghdlrun`).
 
-use crate::model::{Model, NodeRecord, StatementRecord, ABSENT, INTEGER};
-use crate::values;
+use crate::model::{Model, NodeRecord, StatementRecord, ABSENT, INTEGER, LOGIC};
+use crate::values::{self, Table};
 use std::collections::BTreeSet;
 use std::fmt::Write;
 
@@ -98,6 +104,42 @@ const FUNCTIONS: &str = r#"
 
 "#;
 
+/// The subtype `own_logic`, whose resolution function has the table.
+fn own_logic(t: &mut String, table: &Table) {
+    let row = |codes: &[u8; 9]| {
+        let entries = codes.map(|code| format!("'{}'", values::LETTERS[code as usize] as char));
+        format!("({})", entries.join(", "))
+    };
+    let rows: Vec<String> = table.iter().map(row).collect();
+    let _ = write!(
+        t,
+        r#"  type own_pairs is array (std_ulogic, std_ulogic) of std_ulogic;
+  constant pairs : own_pairs := (
+    {});
+
+  function own (v : std_ulogic_vector) return std_ulogic is
+    variable r : std_ulogic := 'Z';
+  begin
+    for n in v'range loop
+      if n = v'left then
+        r := v (n);
+      else
+        r := pairs (r, v (n));
+      end if;
+    end loop;
+    return r;
+  end own;
+
+  subtype own_logic is own std_ulogic;
+
+"#,
+        rows.join(
+            ",
+    "
+        )
+    );
+}
+
 /// The entity `top` for a model. The checked form prints `@ TIME ns VALUES`
 /// once before the first cycle and at the end of each time with an event,
 /// logic values as codes.
@@ -106,6 +148,9 @@ pub fn translate(m: &Model, form: Form) -> String {
     t.push_str("library ieee;\nuse ieee.std_logic_1164.all;\nuse std.textio.all;\n\n");
     t.push_str("entity top is\nend top;\n\narchitecture model of top is");
     t.push_str(FUNCTIONS);
+    if let Some(table) = m.own_table() {
+        own_logic(&mut t, table);
+    }
     for n in 0..m.signals.len() {
         let kind = ["", " bus", " register"][m.signals[n].kind as usize];
         signal(&mut t, m, n, &format!("s{n}"), kind, m.signals[n].start);
@@ -143,12 +188,12 @@ fn type_name(ty: u8) -> &'static str {
 
 fn signal(t: &mut String, m: &Model, n: usize, name: &str, kind: &str, start: i32) {
     let ty = m.signals[n].ty;
-    let _ = writeln!(
-        t,
-        "  signal {name} : {}{kind} := {};",
-        type_name(ty),
-        literal(ty, start)
-    );
+    let type_name = match ty {
+        LOGIC if m.own_table().is_some() => "own_logic",
+        _ => type_name(ty),
+    };
+    let value = literal(ty, start);
+    let _ = writeln!(t, "  signal {name} : {type_name}{kind} := {value};");
 }
 
 /// The signals and delays that nodes read.
@@ -168,7 +213,7 @@ fn first_value(m: &Model, n: usize) -> i32 {
     if m.signals[n].ty == INTEGER || drivers == 0 {
         return start;
     }
-    values::resolve(&vec![start as u8; drivers]) as i32
+    values::resolve_by(m.table(), &vec![start as u8; drivers]) as i32
 }
 
 fn process(t: &mut String, m: &Model, p: usize, form: Form) {
@@ -338,7 +383,6 @@ fn watch(t: &mut String, m: &Model) {
 mod tests {
     use super::*;
     use crate::builder::Builder;
-    use crate::model::LOGIC;
 
     fn has(text: &str, lines: &[&str]) {
         for line in lines {
@@ -371,6 +415,38 @@ mod tests {
                 "when 0 => s0 <= transport null after 1 ns; pc := 1;",
                 "when 1 => s1 <= transport null after span (integer'(-1)); pc := 2;",
                 "when 2 => s1 <= transport s0_d3 after 1 ns; pc := 0;",
+            ],
+        );
+    }
+
+    #[test]
+    fn own_table() {
+        let mut b = Builder::new();
+        let (line, number) = (b.bus(8), b.signal(INTEGER, 4));
+        let v = b.variable(LOGIC, 0, 3);
+        let (past, one, read) = (b.delayed(line, 0), b.integer(1), b.read_variable(v));
+        for p in 0..2 {
+            b.process();
+            b.driver(p, line);
+            b.schedule(line, [read, past][p as usize], one);
+        }
+        b.driver(1, number);
+        let standard = translate(&b.m, Form::Checked);
+        assert!(!standard.contains("own"));
+        let mut table = values::STANDARD;
+        table[8][8] = 5;
+        b.table(&table);
+        has(
+            &translate(&b.m, Form::Checked),
+            &[
+                "('U', 'X', '0', '1', 'Z', 'W', 'L', 'H', 'X'),",
+                "('U', 'X', 'X', 'X', 'X', 'X', 'X', 'X', 'W'));",
+                "subtype own_logic is own std_ulogic;",
+                "signal s0 : own_logic bus := std_ulogic'('-');",
+                // Two drivers at '-' give W from the first.
+                "signal s0_d0 : own_logic := std_ulogic'('W');",
+                "signal s1 : integer := integer'(4);",
+                "variable v0 : std_logic := std_ulogic'('1');",
             ],
         );
     }

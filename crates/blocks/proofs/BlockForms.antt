@@ -25,16 +25,16 @@ module _ (m : List ℕ) (b : ℕ) where
       p ≡ b - 1 →
       ByteIs m (512 * p + 2) last →
       t ≡ trailingOk m b →
-      (((((eqb number b && leb 1 kind) && leb kind 6) && leb count 42) && leb last kind) && t) ≡ headOk m b
+      (((((eqb number b && leb 1 kind) && leb kind 7) && leb count 42) && leb last kind) && t) ≡ headOk m b
   unfolding headOk every
   head-form k n c q l t = rw (n .value, k .value, c .value, l .value, q, t)
 
 pub totals-form :
     (M : Model) (t : Totals) →
     TotalsOf M t →
-    (((((((leb (t .signals) 32 && leb (t .variables) 64) && leb 1 (t .processes)) && leb (t .processes) 16) && leb (t .drivers) 64) && leb (t .nodes) 400) && leb 1 (t .statements)) && leb (t .statements) 200) ≡ totalsOk M
+    ((((((((leb (t .signals) 32 && leb (t .variables) 64) && leb 1 (t .processes)) && leb (t .processes) 16) && leb (t .drivers) 64) && leb (t .nodes) 400) && leb 1 (t .statements)) && leb (t .statements) 200) && (eqb (t .rows) 0 || eqb (t .rows) 9)) ≡ totalsOk M
 unfolding totalsOk every
-totals-form M t h = rw (h .signals, h .variables, h .processes, h .drivers, h .nodes, h .statements)
+totals-form M t h = rw (h .signals, h .variables, h .processes, h .drivers, h .nodes, h .statements, h .rows)
 
 pub blocks-numbered : (m : List ℕ) → numbered 4 (blockRules m) ≡ true
 unfolding blockRules

@@ -1,14 +1,17 @@
 -- The laws of the index: record n of a kind is the one that its start names. Assumes nothing.
 use mathlib.Core.Path.{_≡_, _∙_}
 use mathlib.Core.Bool.{true}
+use mathlib.Core.Logic.{⊎-elim, _⊎_, inl, inr}
 use mathlib.Core.List.{List}
 use Prim.Native.Nat.{ℕ, _+_, _-_, _≤_, _<_}
 use native.Mathlib.Nat.{add-sub-cancel-left}
-use borrow.Author.Tests.{leb-true}
+use native.Mathlib.Omega.{arith}
+use lib.Dec.{eqb}
+use borrow.Author.Tests.{leb-true, eqb-true}
 use lib.ListN.{length, getD, take, drop, length-map}
-use Rattle.base.proofs.Below.{every-at, map-at}
+use Rattle.base.proofs.Below.{or-cases, every-at, map-at}
 use Rattle.blocks.specs.Blocks.{startsOf, totalOf, partAt}
-use Rattle.blocks.specs.Records.{Model, modelOf, recordsOf, signalOf, variableOf, processOf, driverOf, nodeOf, statementOf}
+use Rattle.blocks.specs.Records.{Model, modelOf, recordsOf, signalOf, variableOf, processOf, driverOf, nodeOf, statementOf, rowOf}
 use Rattle.blocks.specs.Totals.{totalsOk}
 use Rattle.blocks.specs.Index.{Starts, sectionOf}
 use Rattle.blocks.proofs.Starts.{starts-length, starts-in}
@@ -48,6 +51,10 @@ module _ (m : List ℕ) where
   unfolding modelOf
   statements-length = records-length statementOf 6 m
 
+  pub rows-length : length (modelOf m .rows) ≡ totalOf 7 m
+  unfolding modelOf
+  rows-length = records-length rowOf 7 m
+
 -- the totals are within their limits
 module _ (M : Model) (h : totalsOk M ≡ true) where
   pub signals-most : length (M .signals) ≤ 32
@@ -81,6 +88,16 @@ module _ (M : Model) (h : totalsOk M ≡ true) where
   pub statements-most : length (M .statements) ≤ 200
   unfolding totalsOk
   statements-most = leb-true _ 200 (every-at _ 7 h)
+
+  -- none or nine
+  pub rows-total : (length (M .rows) ≡ 0) ⊎ (length (M .rows) ≡ 9)
+  unfolding totalsOk
+  rows-total =
+      ⊎-elim (λ e. inl (eqb-true _ 0 e)) (λ e. inr (eqb-true _ 9 e))
+      (or-cases (eqb (length (M .rows)) 0) (eqb (length (M .rows)) 9) (every-at _ 8 h))
+
+  pub rows-most : length (M .rows) ≤ 9
+  rows-most = ⊎-elim (λ (e : length (M .rows) ≡ 0). omega arith) (λ (e : length (M .rows) ≡ 9). omega arith) rows-total
 
 -- record n of kind k, whose start the index has at `place`: it lies within the model, and is that of the definition
 module _ (k : ℕ) (m index : List ℕ) (n place : ℕ) (e : place ≡ sectionOf k + n) (s : Starts m index) (h : n < totalOf k m) where

@@ -5,7 +5,7 @@ use Prim.Native.Nat.{ℕ, _+_, _≤_, _<_}
 use native.Mathlib.Nat.{add-zero}
 use native.Mathlib.Omega.{arith}
 use lib.ListN.{length, getD, take, drop, set, length-append, take-append-drop, List·getD-append}
-use lib.Seq.{take-at, getD-take, getD-append-add, drop-append-add, drop-drop, length-take-le}
+use lib.Seq.{take-at, drop-at, getD-take, getD-append-add, drop-append-add, drop-drop, length-take-le}
 use Rattle.base.specs.Below.{listBelow}
 use Rattle.base.proofs.Below.{list-length, write-next}
 use Rattle.blocks.specs.Index.{placed}
@@ -49,3 +49,10 @@ module _ (d : List ℕ) (at : ℕ) (xs : List ℕ) (h : at + length xs ≤ lengt
       let b : at + n < length (take at d ++ xs) = rw front (omega arith) in
       let e : length (take at d) + n ≡ at + n = rw (length-take-le at d (omega arith)) in
       rw (List·getD-append (take at d ++ xs) _ 0 (at + n) b, ← e) (getD-append-add (take at d) xs n 0)
+
+  -- that part alone
+  pub placed-part : (n : ℕ) → length xs ≡ n → take n (drop at (placed d at xs)) ≡ xs
+  unfolding placed
+  placed-part n e =
+      let t : length (take at d) ≡ at = length-take-le at d (omega arith) in
+      rw (append-assoc, drop-at (take at d) (xs ++ drop (at + length xs) d) at t) (take-at xs _ n e)

@@ -15,7 +15,7 @@ use Rattle.blocks.specs.Records.{modelOf}
 use Rattle.blocks.specs.Totals.{totalsOk}
 use Rattle.blocks.proofs.Starts.{starts-length, total-kind}
 use Rattle.blocks.proofs.Places.{placed-at, placed-before}
-use Rattle.blocks.proofs.Lookup.{signals-length, variables-length, processes-length, drivers-length, nodes-length, statements-length, signals-most, variables-most, processes-most, drivers-most, nodes-most, statements-most}
+use Rattle.blocks.proofs.Lookup.{signals-length, variables-length, processes-length, drivers-length, nodes-length, statements-length, rows-length, signals-most, variables-most, processes-most, drivers-most, nodes-most, statements-most, rows-most}
 
 -- the sections of the kinds below `kind` are filled
 abbrev pub Filled : List ℕ → ℕ → List ℕ → Type 0
@@ -40,22 +40,25 @@ module _ (m : List ℕ) (heads : headsOk m ≡ true) (totals : totalsOk (modelOf
   room-6 : totalOf 6 m ≤ 200
   room-6 = rw statements-length at (statements-most _ totals)
 
+  room-7 : totalOf 7 m ≤ 9
+  room-7 = rw rows-length at (rows-most _ totals)
+
   -- each section ends where the next begins, or before
-  section-next : (k : ℕ) → 1 ≤ k → k < 6 → sectionOf k + totalOf k m ≤ sectionOf (suc k)
+  section-next : (k : ℕ) → 1 ≤ k → k < 7 → sectionOf k + totalOf k m ≤ sectionOf (suc k)
   unfolding sectionOf
   section-next k l h =
-      among (λ (j : ℕ). sectionOf j + totalOf j m ≤ sectionOf (suc j)) 1 5 k
-      (omega (arith, room-1), (omega (arith, room-2), (omega (arith, room-3), (omega (arith, room-4), (omega (arith, room-5), tt)))))
+      among (λ (j : ℕ). sectionOf j + totalOf j m ≤ sectionOf (suc j)) 1 6 k
+      (omega (arith, room-1), (omega (arith, room-2), (omega (arith, room-3), (omega (arith, room-4), (omega (arith, room-5), (omega (arith, room-6), tt))))))
       l h
 
-  pub section-room : (k : ℕ) → 1 ≤ k → k ≤ 6 → sectionOf k + totalOf k m ≤ typesAt
+  pub section-room : (k : ℕ) → 1 ≤ k → k ≤ 7 → sectionOf k + totalOf k m ≤ typesAt
   unfolding sectionOf
   section-room k l h =
-      among (λ (j : ℕ). sectionOf j + totalOf j m ≤ typesAt) 1 6 k
-      (omega (arith, room-1), (omega (arith, room-2), (omega (arith, room-3), (omega (arith, room-4), (omega (arith, room-5), (omega (arith, room-6), tt))))))
+      among (λ (j : ℕ). sectionOf j + totalOf j m ≤ typesAt) 1 7 k
+      (omega (arith, room-1), (omega (arith, room-2), (omega (arith, room-3), (omega (arith, room-4), (omega (arith, room-5), (omega (arith, room-6), (omega (arith, room-7), tt)))))))
       l (omega arith)
 
-  section-apart : (j k : ℕ) → 1 ≤ j → j < k → k ≤ 6 → sectionOf j + totalOf j m ≤ sectionOf k
+  section-apart : (j k : ℕ) → 1 ≤ j → j < k → k ≤ 7 → sectionOf j + totalOf j m ≤ sectionOf k
   section-apart j zero p l h = absurd (not-suc-le-zero l)
   section-apart j (suc k) p l h =
       ⊎-elim (λ (e : j ≡ k). rw e (section-next k (omega arith) (omega arith)))
@@ -65,7 +68,7 @@ module _ (m : List ℕ) (heads : headsOk m ≡ true) (totals : totalsOk (modelOf
   pub filled-none : (out : List ℕ) → Filled m 1 out
   filled-none out k n l h = absurd (omega (arith, total-kind m k n heads h .0))
 
-  pub filled-next : (kind : ℕ) (out : List ℕ) → 1 ≤ kind → kind ≤ 6 → typesAt ≤ length out → Filled m kind out → Filled m (kind + 1) (placed out (sectionOf kind) (startsOf kind m))
+  pub filled-next : (kind : ℕ) (out : List ℕ) → 1 ≤ kind → kind ≤ 7 → typesAt ≤ length out → Filled m kind out → Filled m (kind + 1) (placed out (sectionOf kind) (startsOf kind m))
   filled-next kind out p q r f k n l h =
       let room : sectionOf kind + length (startsOf kind m) ≤ length out = rw starts-length (omega (arith, section-room kind p q)) in
       ⊎-elim (λ (e : k ≡ kind). rw e (placed-at out (sectionOf kind) (startsOf kind m) room n (rw (starts-length, ← e) h)))
@@ -73,7 +76,7 @@ module _ (m : List ℕ) (heads : headsOk m ≡ true) (totals : totalsOk (modelOf
       placed-before out (sectionOf kind) (startsOf kind m) room (sectionOf k + n) (omega (arith, section-apart k kind (total-kind m k n heads h .0) g q)) ∙ f k n g h)
       (eq-or-lt-of-le (omega arith))
 
-  pub filled-all : (out : List ℕ) → Filled m 7 out → Starts m out
+  pub filled-all : (out : List ℕ) → Filled m 8 out → Starts m out
   filled-all out f =
       record {
         heads = heads;

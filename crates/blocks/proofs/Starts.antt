@@ -29,9 +29,9 @@ module _ (m : List ℕ) where
   unfolding headOk
   head-count b h = leb-true (countAt m b) 42 (every-at _ 3 h)
 
-  pub head-kind : (b : ℕ) → headOk m b ≡ true → (1 ≤ kindAt m b) × (kindAt m b ≤ 6)
+  pub head-kind : (b : ℕ) → headOk m b ≡ true → (1 ≤ kindAt m b) × (kindAt m b ≤ 7)
   unfolding headOk
-  head-kind b h = (leb-true 1 (kindAt m b) (every-at _ 1 h), leb-true (kindAt m b) 6 (every-at _ 2 h))
+  head-kind b h = (leb-true 1 (kindAt m b) (every-at _ 1 h), leb-true (kindAt m b) 7 (every-at _ 2 h))
 
   count-kind : (k b j : ℕ) → j < countIn k m b → kindAt m b ≡ k
   unfolding countIn
@@ -66,12 +66,12 @@ module _ (m : List ℕ) where
       (omega (arith, count-le k b, head-count b (all-at (headOk m) (blocksOf m) b lb h))))
       n g
 
-  -- a record's kind is one of the six
-  pub total-kind : (k n : ℕ) → headsOk m ≡ true → n < totalOf k m → (1 ≤ k) × (k ≤ 6)
+  -- a record's kind is one of the seven
+  pub total-kind : (k n : ℕ) → headsOk m ≡ true → n < totalOf k m → (1 ≤ k) × (k ≤ 7)
   unfolding startsOf startsIn headsOk
   total-kind k n h l =
       let g : n < length (startsOf k m) = rw starts-length l in
-      join-each (startsIn k m) (λ s. (1 ≤ k) × (k ≤ 6)) 0 (blocksOf m)
+      join-each (startsIn k m) (λ s. (1 ≤ k) × (k ≤ 7)) 0 (blocksOf m)
       (λ b lb j lj.
       let c : j < countIn k m b = rw (list-length (startAt b) (countIn k m b)) at lj in
       rw (count-kind k b j c) at (head-kind b (all-at (headOk m) (blocksOf m) b lb h)))

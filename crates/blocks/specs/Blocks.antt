@@ -48,7 +48,7 @@ headOk m b =
     every
     (eqb (wordAt m (512 * b)) b
     ∷ leb 1 (kindAt m b)
-    ∷ leb (kindAt m b) 6
+    ∷ leb (kindAt m b) 7
     ∷ leb (countAt m b) 42
     ∷ leb (kindAt m (b - 1)) (kindAt m b)
     ∷ trailingOk m b

@@ -1,5 +1,5 @@
--- The index that a model is read by: for each record where it begins. Behind the starts it has room for a type of each node and a
--- driver of each statement, which the rules above fill.
+-- The index that a model is read by: for each record where it begins. Behind the starts it has room for a type of each node, a driver of
+-- each statement and a pair table, which the rules above fill.
 use mathlib.Core.Path.{_≡_}
 use mathlib.Core.Bool.{true}
 use mathlib.Core.List.{List, _++_}
@@ -10,18 +10,21 @@ use Rattle.blocks.specs.Blocks.{headsOk, startsOf, totalOf}
 use Rattle.blocks.specs.Records.{modelOf}
 use Rattle.blocks.specs.Totals.{totalsOk}
 
--- where the types of the nodes, and the drivers of the statements, stand; and how many entries there are
+-- where the types of the nodes, the drivers of the statements and the pair table stand; and how many entries there are
 abbrev pub typesAt : ℕ
-typesAt = 776
+typesAt = 785
 
 abbrev pub assignmentsAt : ℕ
-assignmentsAt = 1176
+assignmentsAt = 1185
+
+abbrev pub tableAt : ℕ
+tableAt = 1385
 
 abbrev pub indexSize : ℕ
-indexSize = 1376
+indexSize = 1466
 
--- where the index keeps the starts of the records of kind k: 32 signals, 64 variables, 16 processes, 64 drivers, 400 nodes
--- and 200 statements
+-- where the index keeps the starts of the records of kind k: 32 signals, 64 variables, 16 processes, 64 drivers, 400 nodes,
+-- 200 statements and 9 rows
 unfoldable pub sectionOf : ℕ → ℕ
 sectionOf k =
     k is 1 ⇒ 0
@@ -29,7 +32,8 @@ sectionOf k =
     ∣ k is 3 ⇒ 96
     ∣ k is 4 ⇒ 112
     ∣ k is 5 ⇒ 176
-    ∣ 576
+    ∣ k is 6 ⇒ 576
+    ∣ 776
 
 -- xs written into a list from a place on
 unfoldable pub placed : List ℕ → ℕ → List ℕ → List ℕ

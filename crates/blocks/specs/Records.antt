@@ -1,17 +1,18 @@
--- The six kinds of records of 12 bytes, and the model that the blocks hold.
+-- The seven kinds of records of 12 bytes, and the model that the blocks hold.
 -- 1. Signal: byte 0 type (0 integer, 1 logic); byte 1 its kind ("0 plain, 1 bus, 2 register"); 4-7 signed starting value.
 -- 2. Variable: type (2 boolean, 0 or 1, allowed too); byte 1 its process; 4-7 starting value.
 -- 3. Process: 0-1 first statement; 2-3 how many.
 -- 4. Driver: byte 0 process, byte 1 signal.
 -- 5. Expression node: byte 0 kind; 2-3 a; 4-5 b; 8-11 signed constant k.
 -- 6. Statement: byte 0 kind; 2-3 a; 4-5 b; 6-7 c; 8-11 a set of signals, bit n for signal n.
+-- 7. Row of the model's own pair table: "byte 0-8 a row of codes, 9-11 zero".
 -- Signed fields are held as their 32 bits. `zeros` says that the bytes which a record does not name are zero.
 use Prim.Native.Nat.{ℕ, _+_}
 use mathlib.Core.Bool.{Bool, false, _&&_}
-use mathlib.Core.List.{List, map}
+use mathlib.Core.List.{List, [], map}
 use lib.Dec.{eqb}
 use lib.ListN.{getD}
-use Rattle.base.specs.Below.{allBelow}
+use Rattle.base.specs.Below.{allBelow, listBelow}
 use Rattle.base.specs.Bytes.{byteAt, wordAt, longAt}
 use Rattle.blocks.specs.Blocks.{startsOf, partAt}
 use Rattle.blocks.specs.declared.records.SignalRecord.{SignalRecord}
@@ -20,6 +21,7 @@ use Rattle.blocks.specs.declared.records.ProcessRecord.{ProcessRecord}
 use Rattle.blocks.specs.declared.records.DriverRecord.{DriverRecord}
 use Rattle.blocks.specs.declared.records.NodeRecord.{NodeRecord}
 use Rattle.blocks.specs.declared.records.StatementRecord.{StatementRecord}
+use Rattle.blocks.specs.declared.records.RowRecord.{RowRecord}
 
 -- the n bytes from i on are zero
 unfoldable pub zerosAt : List ℕ → ℕ → ℕ → Bool
@@ -53,7 +55,10 @@ nodeOf r = record { kind = byteAt r 0; a = wordAt r 2; b = wordAt r 4; k = longA
 unfoldable pub statementOf : List ℕ → StatementRecord
 statementOf r = record { kind = byteAt r 0; a = wordAt r 2; b = wordAt r 4; c = wordAt r 6; set = longAt r 8; zeros = zerosAt r 1 1 }
 
--- "a model (signals, variables, processes, drivers, expressions, statements)"
+unfoldable pub rowOf : List ℕ → RowRecord
+rowOf r = record { codes = listBelow (byteAt r) 9; zeros = zerosAt r 9 3 }
+
+-- "a model (signals, variables, processes, drivers, expressions, statements)", and "A model may carry record kind 7"
 pub record Model : Type 0 where
   pub signals : List SignalRecord
   pub variables : List VariableRecord
@@ -61,6 +66,7 @@ pub record Model : Type 0 where
   pub drivers : List DriverRecord
   pub nodes : List NodeRecord
   pub statements : List StatementRecord
+  pub rows : List RowRecord
 
 -- the records of kind k over all blocks, in order
 unfoldable pub recordsOf : {A : Type 0} → (List ℕ → A) → ℕ → List ℕ → List A
@@ -76,6 +82,7 @@ modelOf m =
       drivers = recordsOf driverOf 4 m;
       nodes = recordsOf nodeOf 5 m;
       statements = recordsOf statementOf 6 m;
+      rows = recordsOf rowOf 7 m;
     }
 
 -- record n of each kind, and what stands for one that is not there
@@ -96,3 +103,6 @@ nodeAt M n = getD (M .nodes) n (record { kind = 0; a = 0; b = 0; k = 0; zeros = 
 
 abbrev pub statementAt : Model → ℕ → StatementRecord
 statementAt M n = getD (M .statements) n (record { kind = 0; a = 0; b = 0; c = 0; set = 0; zeros = false })
+
+abbrev pub rowAt : Model → ℕ → RowRecord
+rowAt M n = getD (M .rows) n (record { codes = []; zeros = false })

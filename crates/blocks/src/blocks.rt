@@ -12,6 +12,7 @@ ghost use Rattle.blocks.specs.Index.{indexSize, sectionOf, placed, Start
 use crate::index::DRIVERS_AT;
 use crate::index::NODES_AT;
 use crate::index::PROCESSES_AT;
+use crate::index::ROWS_AT;
 use crate::index::SIGNALS_AT;
 use crate::index::STATEMENTS_AT;
 use crate::index::Totals;
@@ -86,7 +87,7 @@ fn head_ok(m: &[u8], b: usize) -> bool
     let kind = byte(m, at + 2);
     (word(m, at) == b)
         & (1 <= kind)
-        & (kind <= 6)
+        & (kind <= 7)
         & (byte(m, at + 3) <= 42)
         & (byte(m, 512 * before(b) + 2) <= kind)
         & trailing_ok(m, b)
@@ -143,6 +144,7 @@ pub fn totals(m: &[u8]) -> Totals
         drivers: total(m, 4),
         nodes: total(m, 5),
         statements: total(m, 6),
+        rows: total(m, 7),
     }
 }
 
@@ -158,6 +160,7 @@ fn totals_ok(t: Totals) -> bool
         & (t.nodes <= 400)
         & (1 <= t.statements)
         & (t.statements <= 200)
+        & ((t.rows == 0) | (t.rows == 9))
 }
 
 // The first of the rules 1 to 4 that fails, or 0: t has the model's totals.
@@ -218,7 +221,8 @@ fn section(kind: usize) -> usize
         3 => PROCESSES_AT,
         4 => DRIVERS_AT,
         5 => NODES_AT,
-        _ => STATEMENTS_AT,
+        6 => STATEMENTS_AT,
+        _ => ROWS_AT,
     }
 }
 
@@ -231,7 +235,7 @@ pub fn put_index(m: &[u8], out: &mut [u16])
     ensures { λ r. ⌜ Starts (now (m .entry)) (now (out .exit)) ⌝ }
 {
     let mut kind = 1;
-    while kind < 7 {
+    while kind < 8 {
         let at = section(kind);
         put_kind(m, kind, at, out);
         kind += 1;

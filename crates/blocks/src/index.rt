@@ -2,24 +2,26 @@
 ghost use mathlib.Core.Path.{_≡_};
 ghost use Prim.Native.Nat.{_+_, _<_};
 ghost use lib.ListN.{length, getD};
-ghost use Rattle.blocks.specs.Records.{modelOf, signalAt, variableAt, processAt, driverAt, nodeAt, statementAt};
+ghost use Rattle.blocks.specs.Records.{modelOf, signalAt, variableAt, processAt, driverAt, nodeAt, statementAt, rowAt};
 ghost use Rattle.blocks.specs.Index.{indexSize, Starts};
 use crate::records::DriverRecord;
 use crate::records::NodeRecord;
 use crate::records::ProcessRecord;
+use crate::records::RowRecord;
 use crate::records::SignalRecord;
 use crate::records::StatementRecord;
 use crate::records::VariableRecord;
 use crate::records::read_driver;
 use crate::records::read_node;
 use crate::records::read_process;
+use crate::records::read_row;
 use crate::records::read_signal;
 use crate::records::read_statement;
 use crate::records::read_variable;
 
-// How many entries the index has, and where those of each kind of record, the types of the nodes and the drivers of the statements
-// begin (specs/Index).
-pub const INDEX_SIZE: usize = 1376;
+// How many entries the index has, and where those of each kind of record, the types of the nodes, the drivers of the statements and the
+// pair table begin (specs/Index).
+pub const INDEX_SIZE: usize = 1466;
 
 pub const SIGNALS_AT: usize = 0;
 
@@ -33,9 +35,13 @@ pub const NODES_AT: usize = 176;
 
 pub const STATEMENTS_AT: usize = 576;
 
-pub const TYPES_AT: usize = 776;
+pub const ROWS_AT: usize = 776;
 
-pub const ASSIGNMENTS_AT: usize = 1176;
+pub const TYPES_AT: usize = 785;
+
+pub const ASSIGNMENTS_AT: usize = 1185;
+
+pub const TABLE_AT: usize = 1385;
 
 pub type Index = [u16; INDEX_SIZE];
 
@@ -47,6 +53,7 @@ pub struct Totals {
     pub drivers: usize,
     pub nodes: usize,
     pub statements: usize,
+    pub rows: usize,
 }
 
 fn wide(x: u16) -> usize
@@ -115,4 +122,13 @@ pub fn statement_at<'a>(m: &'a [u8], index: &'a Index, n: usize) -> StatementRec
 {
     let start = wide(index[STATEMENTS_AT + n]);
     read_statement(&m[start..start + 12])
+}
+
+pub fn row_at<'a>(m: &'a [u8], index: &'a Index, n: usize) -> RowRecord
+    requires { ⌜ Starts (now m) (now index) ⌝ }
+    requires { ⌜ n < length (modelOf (now m) .rows) ⌝ }
+    ensures { λ r. ⌜ r ≡ rowAt (modelOf (now (m .entry))) n ⌝ }
+{
+    let start = wide(index[ROWS_AT + n]);
+    read_row(&m[start..start + 12])
 }

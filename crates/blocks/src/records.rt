@@ -1,9 +1,9 @@
-// The six kinds of records, as their 12 bytes name them. Signed fields are held as their 32 bits; `zeros` says that the bytes
+// The seven kinds of records, as their 12 bytes name them. Signed fields are held as their 32 bits; `zeros` says that the bytes
 // which a record does not name are zero.
 ghost use mathlib.Core.Path.{_≡_};
 ghost use Prim.Native.Nat.{_+_, _≤_, _<_};
 ghost use lib.ListN.{length};
-ghost use Rattle.blocks.specs.Records.{zerosAt, signalOf, variableOf, processOf, driverOf, nodeOf, statementOf};
+ghost use Rattle.blocks.specs.Records.{zerosAt, signalOf, variableOf, processOf, driverOf, nodeOf, statementOf, rowOf};
 use base::byte;
 use base::long32;
 use base::word;
@@ -55,6 +55,12 @@ pub struct StatementRecord {
     pub b: usize,
     pub c: usize,
     pub set: u32,
+    pub zeros: bool,
+}
+
+// A row of the model's own pair table.
+pub struct RowRecord {
+    pub codes: [u8; 9],
     pub zeros: bool,
 }
 
@@ -143,5 +149,15 @@ pub(crate) fn read_statement(r: &[u8]) -> StatementRecord
         c: word(r, 6),
         set: long32(r, 8),
         zeros: zeros(r, 1, 1),
+    }
+}
+
+pub(crate) fn read_row(r: &[u8]) -> RowRecord
+    requires { ⌜ length (now r) ≡ 12 ⌝ }
+    ensures { λ d. ⌜ d ≡ rowOf (now (r .entry)) ⌝ }
+{
+    RowRecord {
+        codes: [r[0], r[1], r[2], r[3], r[4], r[5], r[6], r[7], r[8]],
+        zeros: zeros(r, 9, 3),
     }
 }

@@ -39,8 +39,8 @@ whole =
       arithmetic = refl;
       faults = refl;
       all = refl;
-      adder-accepted = record { totals = refl; fields = refl; trees = refl; types = refl; owners = refl; nulls = refl };
-      scheduler-accepted = record { totals = refl; fields = refl; trees = refl; types = refl; owners = refl; nulls = refl };
+      adder-accepted = record { totals = refl; fields = refl; trees = refl; types = refl; owners = refl; nulls = refl; symmetric = refl; associative = refl };
+      scheduler-accepted = record { totals = refl; fields = refl; trees = refl; types = refl; owners = refl; nulls = refl; symmetric = refl; associative = refl };
       arithmetic-accepted = refl;
       faults-accepted = refl;
     }
@@ -55,7 +55,7 @@ division-used =
 
 inner-accepted : Accepted innerSum
 unfolding the-checks
-inner-accepted = record { totals = refl; fields = refl; trees = refl; types = refl; owners = refl; nulls = refl }
+inner-accepted = record { totals = refl; fields = refl; trees = refl; types = refl; owners = refl; nulls = refl; symmetric = refl; associative = refl }
 
 inner-named : AtFault innerSum reading 3 (failure 2 1)
 unfolding the-orders

@@ -16,6 +16,7 @@ use Rattle.base.proofs.Below.{and-left, and-right, every-at}
 use Rattle.blocks.specs.Blocks.{blocksOf, lengthOk, blockSum, sumOk, sumsOk, kindAt, countAt, trailingAt, trailingOk, headOk, headsOk}
 use Rattle.blocks.specs.Records.{Model, modelOf}
 use Rattle.blocks.specs.Totals.{blockRules}
+use Rattle.tables.specs.Tables.{tableRules}
 use Rattle.model.specs.Rules.{recordRules, rulesOf, refusalOf, Accepted}
 
 all-first : (f : ℕ → Bool) (n : ℕ) → f 0 ≡ true → allBelow (λ i. f (suc i)) n ≡ true → allBelow f (suc n) ≡ true
@@ -89,7 +90,7 @@ numbersOk m b =
     every
     (eqb (wordAt m (512 * b)) b
     ∷ leb 1 (kindAt m b)
-    ∷ leb (kindAt m b) 6
+    ∷ leb (kindAt m b) 7
     ∷ leb (countAt m b) 42
     ∷ leb (kindAt m (b - 1)) (kindAt m b)
     ∷ [])
@@ -107,7 +108,7 @@ heads-hold m (suc n) h t =
 -- no rule of the model applies
 pub accepted-bytes : (bs : List (List ℕ)) (M : Model) → passing bs ≡ true → lengthOk (flatten bs) ≡ true → blocksOf (flatten bs) ≡ length bs
     → allBelow (numbersOk (flatten bs)) (length bs) ≡ true → modelOf (flatten bs) ≡ M → Accepted M → refusalOf (flatten bs) ≡ 0
-unfolding refusalOf rulesOf blockRules recordRules firstFailing sumsOk headsOk
+unfolding refusalOf rulesOf blockRules recordRules tableRules firstFailing sumsOk headsOk
 accepted-bytes bs M passes size counted numbers read rules =
     let pass = all-pass bs (each-passes bs passes) in
     rw (
@@ -122,4 +123,6 @@ accepted-bytes bs M passes size counted numbers read rules =
       rules .types,
       rules .owners,
       rules .nulls,
+      rules .symmetric,
+      rules .associative,
     )

@@ -21,8 +21,8 @@ unfolding delayRows detector clashing the-checks
 delays-played =
     record {
       said = refl;
-      detector-accepted = record { totals = refl; fields = refl; trees = refl; types = refl; owners = refl; nulls = refl };
-      clashing-accepted = record { totals = refl; fields = refl; trees = refl; types = refl; owners = refl; nulls = refl };
+      detector-accepted = record { totals = refl; fields = refl; trees = refl; types = refl; owners = refl; nulls = refl; symmetric = refl; associative = refl };
+      clashing-accepted = record { totals = refl; fields = refl; trees = refl; types = refl; owners = refl; nulls = refl; symmetric = refl; associative = refl };
     }
 
 -- none of the inverter's five nodes is of kind 5

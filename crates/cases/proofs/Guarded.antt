@@ -21,7 +21,7 @@ unfolding guardedRows shared the-orders the-checks
 guarded-played =
     record {
       said = refl;
-      accepted = record { totals = refl; fields = refl; trees = refl; types = refl; owners = refl; nulls = refl };
+      accepted = record { totals = refl; fields = refl; trees = refl; types = refl; owners = refl; nulls = refl; symmetric = refl; associative = refl };
       one-off = refl;
       all-off = refl;
     }

@@ -16,7 +16,7 @@ inertial-played = record { left = refl; ninth-done = refl; ninth-fails = refl; a
 
 records-accepted : Accepted filtered
 unfolding filtered the-checks
-records-accepted = record { totals = refl; fields = refl; trees = refl; types = refl; owners = refl; nulls = refl }
+records-accepted = record { totals = refl; fields = refl; trees = refl; types = refl; owners = refl; nulls = refl; symmetric = refl; associative = refl }
 
 pub filtered-read : modelOf filteredBytes ≡ filtered
 unfolding the-reading flatten filteredBytes filteredBlocks filtered

@@ -36,7 +36,7 @@ orders-read = refl
 
 rules-hold : Accepted inverter
 unfolding the-checks inverter
-rules-hold = record { totals = refl; fields = refl; trees = refl; types = refl; owners = refl; nulls = refl }
+rules-hold = record { totals = refl; fields = refl; trees = refl; types = refl; owners = refl; nulls = refl; symmetric = refl; associative = refl }
 
 -- no rule of the model applies
 pub accepted-inverter : refusalOf inverterBytes ≡ 0

@@ -8,3 +8,4 @@ pub mod Claims
 pub mod Delays
 pub mod Waves
 pub mod Moves
+pub mod OwnTable

@@ -154,6 +154,7 @@ worker ns =
       drivers = [];
       nodes = ns;
       statements = statement 1 0 (length ns - 1) 0 0 ∷ [];
+      rows = [];
     }
 
 -- what one pick of process 0 leaves in variable 0, and the fault that its answer tells

@@ -21,6 +21,7 @@ adder =
       drivers = [];
       nodes = node 3 0 0 0 ∷ node 1 0 0 1 ∷ node 11 0 1 0 ∷ [];
       statements = statement 1 0 2 0 0 ∷ [];
+      rows = [];
     }
 
 -- "[p] 2,147,483,646 + 1 fits; one more is fault 1."
@@ -48,6 +49,7 @@ scheduler =
       drivers = driver 0 0 ∷ [];
       nodes = node 3 0 0 0 ∷ node 1 0 0 1 ∷ node 11 0 1 0 ∷ [];
       statements = statement 2 0 0 0 0 ∷ statement 1 0 2 0 0 ∷ [];
+      rows = [];
     }
 
 -- how many transactions driver 0 has pending after a list of orders

@@ -53,6 +53,7 @@ detector =
           ∷ statement 5 0 9 absent 2
           ∷ statement 5 0 absent absent 0
           ∷ [];
+      rows = [];
     }
 
 -- up to the delta step in which signal 0 rises, the picks after it, the time step and the delta step in which signal 1 alone rises
@@ -84,6 +85,7 @@ clashing =
       drivers = driver 0 0 ∷ driver 1 0 ∷ [];
       nodes = node 5 0 0 0 ∷ [];
       statements = statement 1 0 0 0 0 ∷ statement 5 0 absent absent 0 ∷ [];
+      rows = [];
     }
 
 unfoldable pub delayRows : List Row

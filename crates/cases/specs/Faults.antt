@@ -60,6 +60,7 @@ decider kind a =
       nodes =
           node 1 0 0 1 ∷ node 1 0 0 0 ∷ node 13 0 0 0 ∷ node 13 0 1 0 ∷ node 16 0 1 0 ∷ node 13 4 0 0 ∷ node kind a 5 0 ∷ [];
       statements = statement 1 0 6 0 0 ∷ [];
+      rows = [];
     }
 
 -- node 0 is 1, node 1 is -1, node 3 leaves the range. Process 0: signal 0 <= node b after node c
@@ -72,6 +73,7 @@ delayer b c =
       drivers = driver 0 0 ∷ [];
       nodes = node 1 0 0 1 ∷ node 1 0 0 (minus 1) ∷ node 1 0 0 most ∷ node 11 2 0 0 ∷ [];
       statements = statement 2 0 b c 0 ∷ [];
+      rows = [];
     }
 
 -- "the number of the first node that failed in the order of evaluation, 65,535 for faults 2 and 3, and 0 when the pick had no fault"
@@ -109,6 +111,7 @@ waiter =
       drivers = driver 0 0 ∷ [];
       nodes = node 1 0 0 1 ∷ node 1 0 0 0 ∷ node 16 0 1 0 ∷ node 13 2 0 0 ∷ [];
       statements = statement 2 0 0 1 0 ∷ statement 5 0 absent absent 0 ∷ statement 5 0 3 absent 1 ∷ [];
+      rows = [];
     }
 
 abbrev pub woken : List Order

@@ -38,6 +38,7 @@ shared =
           ∷ statement 6 1 0 1 0
           ∷ statement 5 0 absent absent 0
           ∷ [];
+      rows = [];
     }
 
 -- the same model as bytes: a block for each kind of which it has records
@@ -119,6 +120,7 @@ assigningNull kind drivers =
       drivers = drivers;
       nodes = node 1 0 0 0 ∷ [];
       statements = statement 6 0 0 0 0 ∷ statement 5 0 absent absent 0 ∷ [];
+      rows = [];
     }
 
 abbrev pub valueAfter : List Order → ℕ → ℕ

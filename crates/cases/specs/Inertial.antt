@@ -54,6 +54,7 @@ line xs =
       drivers = driver 0 0 ∷ [];
       nodes = nodesOf xs;
       statements = statementsOf 0 xs;
+      rows = [];
     }
 
 -- a transaction of a value
@@ -123,6 +124,7 @@ filtered =
           ∷ statement 7 0 4 5 0
           ∷ statement 5 0 absent absent 0
           ∷ [];
+      rows = [];
     }
 
 -- the same model as bytes: a block for each kind of which it has records

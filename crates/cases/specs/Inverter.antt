@@ -26,6 +26,7 @@ inverter =
       drivers = driver 0 1 ∷ driver 1 0 ∷ [];
       nodes = node 4 0 0 0 ∷ node 6 0 0 0 ∷ node 1 0 0 0 ∷ node 2 0 0 3 ∷ node 1 0 0 1 ∷ [];
       statements = statement 2 1 1 2 0 ∷ statement 5 0 absent absent 1 ∷ statement 2 0 3 4 0 ∷ statement 5 0 absent absent 0 ∷ [];
+      rows = [];
     }
 
 -- the same model as bytes: a block for each kind of which it has records

@@ -9,5 +9,6 @@ pub mod Guarded
 pub mod Claims
 pub mod Delays
 pub mod Moves
+pub mod OwnTable
 pub mod Table
 pub mod Waves

@@ -1,6 +1,6 @@
 // The bench cases of document 01, by the definitions alone: the proved table, what the inverter prints, and the claims over all
-// models and lists of orders, used on the inverter; its dump; a bus and a register whose drivers turn off; delays of 0; and inertial
-// delays.
+// models and lists of orders, used on the inverter; its dump; a bus and a register whose drivers turn off; delays of 0; inertial
+// delays; and a line with its own pair table.
 ghost use mathlib.Core.Path.{_≡_};
 ghost use lib.ListN.{length};
 ghost use Rattle.values.specs.Bench.{Holds};
@@ -13,6 +13,7 @@ ghost use Rattle.cases.specs.Waves.{inverterDump, InverterDumped};
 ghost use Rattle.cases.specs.Guarded.{guardedRows, GuardedPlayed};
 ghost use Rattle.cases.specs.Delays.{delayRows, DelaysPlayed, DelaysUsed};
 ghost use Rattle.cases.specs.Inertial.{inertialCases, InertialPlayed};
+ghost use Rattle.cases.specs.OwnTable.{ownRows, OwnTablePlayed, OwnTableUsed};
 ghost use Rattle.cases.specs.Claims.{settling, tally, InverterDetermined, SharedDetermined, FilteredDetermined, InverterLaws, InverterSets};
 
 // How many rows the proved table has; that they hold, that none is missing, and the laws of division and of faults used once.
@@ -82,4 +83,14 @@ pub fn inertial_cases() -> usize
     ensures { λ r. ⌜ FilteredDetermined ⌝ }
 {
     8
+}
+
+// How many rows the table of a line with its own pair table has; that they hold, and that two numberings of its drivers give one value.
+pub fn own_table_rows() -> usize
+    ensures { λ r. ⌜ r ≡ length ownRows ⌝ }
+    ensures { λ r. ⌜ Holds ownRows ⌝ }
+    ensures { λ r. ⌜ OwnTablePlayed ⌝ }
+    ensures { λ r. ⌜ OwnTableUsed ⌝ }
+{
+    12
 }

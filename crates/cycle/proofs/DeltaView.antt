@@ -172,7 +172,7 @@ module _ (M : Model) (fs : Facts M) (c : Config) (f : Valid M c) (set : ℕ) (a 
         (λ e. history-changed (c .signals) new s (λ k. past s k l) _ (parts .resolved .current s h ∙ rw (e, stands (32 * s) (omega arith), value)))
         (λ e. history-kept (c .signals) new s (λ k. past s k l) (parts .resolved .current s h ∙ rw (e, stands (32 * s) (omega arith)))))
       where
-        value : resolvedOr (undriven (signalAt M s) (getD (c .signals) (32 * s) 0)) (drivingIn M currents s (c .ndrivers)) ≡ resolvedOr (undriven (signalAt M s) (getD (historyOf (c .signals) s) 0 0)) (drivingOf M drivers-now s)
+        value : resolvedOr M (undriven (signalAt M s) (getD (c .signals) (32 * s) 0)) (drivingIn M currents s (c .ndrivers)) ≡ resolvedOr M (undriven (signalAt M s) (getD (historyOf (c .signals) s) 0 0)) (drivingOf M drivers-now s)
         value = rw (current-in (c .signals) s, driving-is M currents drivers-now (c .ndrivers) s (ndrivers-is M c (f .reachable)) current-is)
 
     signals-are : listBelow (historyOf new) (c .nsignals) ≡ signalsAfter M v

@@ -24,7 +24,7 @@ abbrev pub driverStart : Model → ℕ → ℕ
 driverStart M k = signalAt M (driverAt M k .signal) .start
 
 abbrev pub firstValue : Model → List ℕ → ℕ → ℕ → ℕ
-firstValue M currents ndrivers s = resolvedOr (signalAt M s .start) (drivingIn M currents s ndrivers)
+firstValue M currents ndrivers s = resolvedOr M (signalAt M s .start) (drivingIn M currents s ndrivers)
 
 -- entry i of histories of 32 equal values
 abbrev pub valueAt : List ℕ → ℕ → ℕ

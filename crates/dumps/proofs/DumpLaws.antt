@@ -9,13 +9,12 @@ use lib.Dec.{eqb, leb}
 use lib.ListN.{length, getD, drop, take-append-drop, length-map}
 use Rattle.base.specs.Rules.{_needs_, firstFailing}
 use Rattle.base.proofs.Below.{list-at, list-is, map-at}
-use Rattle.base.proofs.Rules.{none-left, passes, fails, later-decide, first-decides}
+use Rattle.base.proofs.Rules.{none-left, passes, fails, first-decides}
 use Rattle.blocks.specs.Records.{Model, modelOf, signalAt}
-use Rattle.blocks.specs.Totals.{blockRules}
 use Rattle.blocks.specs.declared.records.SignalRecord.{SignalRecord}
-use Rattle.model.specs.Rules.{rulesOf, recordRules, refusalOf}
+use Rattle.model.specs.Rules.{refusalOf}
 use Rattle.model.proofs.Facts.{facts}
-use Rattle.model.proofs.Rules.{model-decides, others-decide, accepted}
+use Rattle.model.proofs.Rules.{model-decides, others-decide, later-ones-decide, accepted}
 use Rattle.rules.specs.Configuration.{Configuration, first, currentOf, empty}
 use Rattle.rules.proofs.FirstReachable.{first-reachable}
 use Rattle.cycle.specs.Arrays.{EntriesAre}
@@ -53,7 +52,7 @@ module _ (m o : List ℕ) where
 
     by-room : runNumber m o ≡ 0 → dumpNumber m o out ≡ firstFailing ((21 needs leb (length (dumpOf m o)) (length out)) ∷ [])
     unfolding dumpNumber runNumber
-    by-room h = later-decide 20 (runRules m o) _ (unfold rulesOf blockRules recordRules in refl) h
+    by-room h = later-ones-decide m ((9 needs ordersOk o) ∷ []) _ refl h
 
     pub no-room : runNumber m o ≡ 0 → length out < length (dumpOf m o) → dumpNumber m o out ≡ 21
     no-room h l = by-room h ∙ sym (fails 21 _ _ refl (lt-leb _ _ l))

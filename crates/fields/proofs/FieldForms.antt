@@ -10,7 +10,7 @@ use mir.Syntax.{w64}
 use mir.Val.{Fits}
 use borrow.Author.Tests.{ne-eqb}
 use Rattle.base.specs.Below.{allBelow, every}
-use Rattle.blocks.specs.Records.{plain, register, Model, signalAt, variableAt, processAt, driverAt, nodeAt, statementAt}
+use Rattle.blocks.specs.Records.{plain, register, Model, signalAt, variableAt, processAt, driverAt, nodeAt, statementAt, rowAt}
 use Rattle.blocks.specs.Totals.{TotalsOf}
 use Rattle.blocks.specs.declared.index.Totals.{Totals}
 use Rattle.blocks.specs.declared.records.SignalRecord.{SignalRecord}
@@ -19,7 +19,7 @@ use Rattle.blocks.specs.declared.records.ProcessRecord.{ProcessRecord}
 use Rattle.blocks.specs.declared.records.DriverRecord.{DriverRecord}
 use Rattle.blocks.specs.declared.records.NodeRecord.{NodeRecord}
 use Rattle.blocks.specs.declared.records.StatementRecord.{StatementRecord}
-use Rattle.fields.specs.Fields.{valueOk, signalOk, variableOk, endOf, dueStart, processOk, covered, driverOk, nodeOk, ownerOf, inSpan, absent, statementOk, fieldsOk}
+use Rattle.fields.specs.Fields.{valueOk, signalOk, variableOk, endOf, dueStart, processOk, covered, driverOk, nodeOk, ownerOf, inSpan, absent, statementOk, rowOk, fieldsOk}
 
 pub signal-form : (d : SignalRecord) (r : Bool) → r ≡ valueOk (d .ty) (d .start) → ((((leb (d .ty) 1 && leb (d .kind) register) && (eqb (d .kind) plain || eqb (d .ty) 1)) && r) && d .zeros) ≡ signalOk d
 unfolding signalOk every
@@ -38,7 +38,7 @@ pub end-fits : (x : ℕ) → x < 131072 → Fits w64 x
 end-fits x h = omega arith
 
 pub fields-form :
-    (M : Model) {s v p c d n t : Bool} →
+    (M : Model) {s v p c d n t r : Bool} →
     s ≡ allBelow (λ k. signalOk (signalAt M k)) (length (M .signals)) →
     v ≡ allBelow (λ k. variableOk M (variableAt M k)) (length (M .variables)) →
     p ≡ allBelow (processOk M) (length (M .processes)) →
@@ -46,9 +46,10 @@ pub fields-form :
     d ≡ allBelow (λ k. driverOk M (driverAt M k)) (length (M .drivers)) →
     n ≡ allBelow (λ k. nodeOk M (nodeAt M k)) (length (M .nodes)) →
     t ≡ allBelow (λ k. statementOk M k (statementAt M k)) (length (M .statements)) →
-    ((((((s && v) && p) && c) && d) && n) && t) ≡ fieldsOk M
+    r ≡ allBelow (λ k. rowOk (rowAt M k)) (length (M .rows)) →
+    (((((((s && v) && p) && c) && d) && n) && t) && r) ≡ fieldsOk M
 unfolding fieldsOk every
-fields-form M e f g h i j k = rw (e, f, g, h, i, j, k)
+fields-form M e f g h i j k l = rw (e, f, g, h, i, j, k, l)
 
 module _ (M : Model) (t : Totals) (h : TotalsOf M t) where
   pub variable-form : (d : VariableRecord) (r : Bool) → r ≡ valueOk (d .ty) (d .start) → ((r && ltb (d .process) (t .processes)) && d .zeros) ≡ variableOk M d

@@ -1,16 +1,17 @@
--- The laws of record fields: what rule 5 says of signals, variables and nodes by their kinds. Assumes nothing.
+-- The laws of record fields: what rule 5 says of signals, variables, rows, and nodes by their kinds. Assumes nothing.
 use mathlib.Core.Path.{_≡_, refl}
-use mathlib.Core.Bool.{true, false≢true}
+use mathlib.Core.Bool.{Bool, true, false≢true}
 use mathlib.Core.Logic.{⊎-elim}
 use Prim.Native.Nat.{ℕ, _≤_, _<_}
 use native.Mathlib.Omega.{arith}
 use borrow.Author.Tests.{ne-eqb, eqb-true, ltb-true, leb-true}
 use lib.Dec.{T, leb, lit≤}
-use lib.ListN.{length}
-use Rattle.base.proofs.Below.{every-at, all-at, among, split}
-use Rattle.blocks.specs.Records.{plain, Model, signalAt, variableAt, nodeAt}
+use lib.ListN.{length, getD}
+use Rattle.base.specs.Below.{allBelow}
+use Rattle.base.proofs.Below.{and-left, every-at, all-at, among, split}
+use Rattle.blocks.specs.Records.{plain, Model, signalAt, variableAt, nodeAt, rowAt}
 use Rattle.blocks.specs.declared.records.NodeRecord.{NodeRecord}
-use Rattle.fields.specs.Fields.{valueOk, signalOk, variableOk, nodeOk, fieldsOk}
+use Rattle.fields.specs.Fields.{valueOk, signalOk, variableOk, nodeOk, rowOk, fieldsOk}
 use Rattle.fields.specs.Facts.{SignalFits, VariableFits}
 
 -- a type with a value is one of the three
@@ -41,6 +42,15 @@ module _ (M : Model) (ok : fieldsOk M ≡ true) where
   pub node-ok : (n : ℕ) → n < length (M .nodes) → nodeOk M (nodeAt M n) ≡ true
   unfolding fieldsOk
   node-ok n h = all-at (λ i. nodeOk M (nodeAt M i)) _ n h (every-at _ 5 ok)
+
+  -- what a row has in column i is a code
+  pub row-code : (n i : ℕ) → n < length (M .rows) → i < 9 → getD (rowAt M n .codes) i 0 < 9
+  unfolding fieldsOk rowOk
+  row-code n i h l =
+      let coded : ℕ → Bool = λ i. leb (getD (rowAt M n .codes) i 0) 8 in
+      let g = all-at (λ k. rowOk (rowAt M k)) _ n h (every-at _ 7 ok) in
+      let q = leb-true (getD (rowAt M n .codes) i 0) 8 (all-at coded 9 i l (and-left (allBelow coded 9) (rowAt M n .zeros) g)) in
+      omega arith
 
 module _ (M : Model) (d : NodeRecord) (ok : nodeOk M d ≡ true) where
   pub kind-least : 1 ≤ d .kind

@@ -3,16 +3,17 @@ use Prim.Native.Nat.{ℕ, zero, suc, _+_, _-_, _^_}
 use mathlib.Core.Bool.{Bool, false, not, _&&_, _||_}
 use mathlib.Core.List.{[], _∷_}
 use lib.Dec.{eqb, leb, ltb}
-use lib.ListN.{length}
+use lib.ListN.{length, getD}
 use Rattle.base.specs.Below.{allBelow, every}
 use Rattle.base.specs.Cases.{_∣_, _⇒_, _is_⇒_}
 use Rattle.base.specs.Course.{firstWith}
-use Rattle.blocks.specs.Records.{plain, register, Model, signalAt, variableAt, processAt, driverAt, nodeAt, statementAt}
+use Rattle.blocks.specs.Records.{plain, register, Model, signalAt, variableAt, processAt, driverAt, nodeAt, statementAt, rowAt}
 use Rattle.blocks.specs.declared.records.SignalRecord.{SignalRecord}
 use Rattle.blocks.specs.declared.records.VariableRecord.{VariableRecord}
 use Rattle.blocks.specs.declared.records.DriverRecord.{DriverRecord}
 use Rattle.blocks.specs.declared.records.NodeRecord.{NodeRecord}
 use Rattle.blocks.specs.declared.records.StatementRecord.{StatementRecord}
+use Rattle.blocks.specs.declared.records.RowRecord.{RowRecord}
 
 -- 5. "A record field is outside its values, not zero though unnamed, names nothing, breaks the rule of process spans, or
 -- jumps out of its process (operands of kinds 6 to 14 aside)." Item 2 of document 02: the operands of kinds 15 to 18 too
@@ -104,6 +105,10 @@ statementOk M n s =
     ∣ s .kind is 6 ⇒ every (ltb (s .a) (length (M .signals)) ∷ eqb (s .b) 0 ∷ isNode M (s .c) ∷ eqb (s .set) 0 ∷ s .zeros ∷ [])
     ∣ false
 
+-- "byte 0-8 a row of codes, 9-11 zero .. a code above 8 is 5"
+unfoldable pub rowOk : RowRecord → Bool
+rowOk d = allBelow (λ i. leb (getD (d .codes) i 0) 8) 9 && d .zeros
+
 unfoldable pub fieldsOk : Model → Bool
 fieldsOk M =
     every
@@ -114,4 +119,5 @@ fieldsOk M =
     ∷ allBelow (λ n. driverOk M (driverAt M n)) (length (M .drivers))
     ∷ allBelow (λ n. nodeOk M (nodeAt M n)) (length (M .nodes))
     ∷ allBelow (λ n. statementOk M n (statementAt M n)) (length (M .statements))
+    ∷ allBelow (λ n. rowOk (rowAt M n)) (length (M .rows))
     ∷ [])

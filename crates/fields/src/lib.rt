@@ -4,15 +4,16 @@ ghost use Prim.Native.Nat.{_+_, _^_, _≤_, _<_};
 ghost use lib.Dec.{ltb};
 ghost use lib.ListN.{length};
 ghost use Rattle.base.specs.Below.{allBelow};
-ghost use Rattle.blocks.specs.Records.{Model, modelOf, signalAt, variableAt, driverAt, nodeAt, statementAt};
+ghost use Rattle.blocks.specs.Records.{Model, modelOf, signalAt, variableAt, driverAt, nodeAt, statementAt, rowAt};
 ghost use Rattle.blocks.specs.Index.{Starts};
 ghost use Rattle.blocks.specs.Totals.{TotalsOf};
-ghost use Rattle.fields.specs.Fields.{valueOk, signalOk, variableOk, endOf, dueStart, processOk, covered, driverOk, nodeOk, ownerOf, inSpan, statementOk, fieldsOk};
+ghost use Rattle.fields.specs.Fields.{valueOk, signalOk, variableOk, endOf, dueStart, processOk, covered, driverOk, nodeOk, ownerOf, inSpan, statementOk, rowOk, fieldsOk};
 use blocks::index::Index;
 use blocks::index::Totals;
 use blocks::index::driver_at;
 use blocks::index::node_at;
 use blocks::index::process_at;
+use blocks::index::row_at;
 use blocks::index::signal_at;
 use blocks::index::statement_at;
 use blocks::index::variable_at;
@@ -20,6 +21,7 @@ use blocks::records::DriverRecord;
 use blocks::records::NodeRecord;
 use blocks::records::PLAIN;
 use blocks::records::REGISTER;
+use blocks::records::RowRecord;
 use blocks::records::SignalRecord;
 use blocks::records::StatementRecord;
 use blocks::records::VariableRecord;
@@ -272,6 +274,32 @@ fn statements_ok<'a>(m: &'a [u8], index: &'a Index, t: Totals) -> bool
     ok
 }
 
+fn row_ok(d: RowRecord) -> bool
+    ensures { λ r. ⌜ r ≡ rowOk d ⌝ }
+{
+    let mut ok = true;
+    let mut i = 0;
+    while i < 9 {
+        ok = ok & (d.codes[i] <= 8);
+        i += 1;
+    }
+    ok & d.zeros
+}
+
+fn rows_ok<'a>(m: &'a [u8], index: &'a Index, t: Totals) -> bool
+    requires { ⌜ Starts (now m) (now index) ⌝ }
+    requires { ⌜ TotalsOf (modelOf (now m)) t ⌝ }
+    ensures { λ r. ⌜ r ≡ allBelow (λ n. rowOk (rowAt (modelOf (now (m .entry))) n)) (length (modelOf (now (m .entry)) .rows)) ⌝ }
+{
+    let mut ok = true;
+    let mut n = 0;
+    while n < t.rows {
+        ok = ok & row_ok(row_at(m, index, n));
+        n += 1;
+    }
+    ok
+}
+
 // Rule 5 over the whole model.
 pub fn fields_ok<'a>(m: &'a [u8], index: &'a Index, t: Totals) -> bool
     requires { ⌜ Starts (now m) (now index) ⌝ }
@@ -285,4 +313,5 @@ pub fn fields_ok<'a>(m: &'a [u8], index: &'a Index, t: Totals) -> bool
         & drivers_ok(m, index, t)
         & nodes_ok(m, index, t)
         & statements_ok(m, index, t)
+        & rows_ok(m, index, t)
 }

@@ -4,11 +4,17 @@ use mathlib.Core.List.{List}
 use Prim.Native.Nat.{ℕ, _+_, _<_}
 use native.Mathlib.Omega.{arith}
 use borrow.Author.Count.{below-more}
+use lib.Dec.{lit≤}
 use lib.ListN.{length, getD, set}
 use lib.Seq.{getD-set-same, getD-set-other}
-use Rattle.blocks.specs.Index.{assignmentsAt}
+use Rattle.blocks.specs.Index.{typesAt, assignmentsAt, tableAt, placed}
 use Rattle.blocks.specs.Records.{modelOf, statementAt}
+use Rattle.blocks.proofs.Lookup.{nodes-most, statements-most}
+use Rattle.blocks.proofs.Places.{placed-before}
+use Rattle.blocks.proofs.Sections.{starts-kept}
 use Rattle.fields.specs.Fields.{ownerOf}
+use Rattle.tables.specs.Tables.{tableOf, TableIn}
+use Rattle.tables.proofs.Entries.{table-length, table-placed}
 use Rattle.model.specs.Rules.{Accepted}
 use Rattle.model.specs.Owners.{driverFor}
 use Rattle.model.specs.Index.{DriversBelow, DriversIn, Usable}
@@ -22,6 +28,21 @@ module _ (m index : List ℕ) (n v : ℕ) where
       (λ k l. getD-set-other index (assignmentsAt + n) (assignmentsAt + k) v 0 (λ u. omega arith) ∙ t k l)
       (getD-set-same index (assignmentsAt + n) v 0 h ∙ e)
 
--- what loading an accepted model gives
-pub usable : {m index : List ℕ} → Accepted (modelOf m) → DriversIn m index → Usable m index
-usable a d = record { starts = d .types .starts; accepted = a; type = d .types .type; driver = d .driver }
+-- what loading gives: an index with the drivers, in which the table was put
+module _ (m before after : List ℕ) (d : DriversIn m before) (e : after ≡ placed before tableAt (tableOf (modelOf m))) where
+  same : (i : ℕ) → i < tableAt → getD after i 0 ≡ getD before i 0
+  same i h = rw e (placed-before before tableAt (tableOf (modelOf m)) (rw (table-length, d .types .size) (lit≤ tt)) i h)
+
+  pub table-put : TableIn m after
+  table-put = table-placed m before after (d .types .size) e
+
+  pub usable : Accepted (modelOf m) → Usable m after
+  usable a =
+      let s = d .types .starts in
+      record {
+        starts = starts-kept m before after s (λ i h. same i (omega arith));
+        accepted = a;
+        type = λ k h. same (typesAt + k) (omega (arith, nodes-most (modelOf m) (s .totals))) ∙ d .types .type k h;
+        driver = λ k h. same (assignmentsAt + k) (omega (arith, statements-most (modelOf m) (s .totals))) ∙ d .driver k h;
+        table = table-put;
+      }

@@ -17,6 +17,9 @@ use Rattle.fields.specs.Fields.{ownerOf, valueOk, nodeOk}
 use Rattle.fields.proofs.Spans.{process-fits, owner-below, owner-spans}
 use Rattle.fields.proofs.NodeFields.{signal-fits, variable-fits, node-ok, kind-least, kind-most, constant-integer, constant-logic, names-variable, names-signal, delay-most}
 use Rattle.fields.proofs.StatementFields.{statement-ok}
+use Rattle.values.proofs.Resolution.{table-laws}
+use Rattle.tables.specs.Tables.{tableOf}
+use Rattle.tables.proofs.Entries.{table-closed, table-symmetric, table-associative}
 use Rattle.trees.specs.Trees.{integer, boolean, lowerOk, typeOf, statementTyped, typesOk}
 use Rattle.trees.proofs.Operands.{lower-a, lower-b, lower-ok, size-most}
 use Rattle.trees.proofs.NodeTypes.{type-integer, type-logic, type-variable, type-signal, type-not, type-logical, type-negate, type-arithmetic, type-equal, type-less, logical-known, integers-known, equal-known}
@@ -171,6 +174,7 @@ module _ (M : Model) (h : Accepted M) where
   facts =
       record {
         totals = totals;
+        pairs = table-laws (tableOf M) .pairs (table-closed M (h .totals) (h .fields)) (table-symmetric M (h .symmetric)) (table-associative M (h .associative));
         signal = signal-fits M (h .fields);
         variable = variable-fits M (h .fields);
         process = process-fits M (h .fields);

@@ -1,5 +1,5 @@
 -- The rules in checking order: those of the blocks, then those of the model. Assumes nothing.
-use mathlib.Core.Path.{_≡_, refl, sym}
+use mathlib.Core.Path.{_≡_, refl, sym, _∙_}
 use mathlib.Core.Bool.{true, false}
 use mathlib.Core.List.{List, _++_}
 use Prim.Native.Nat.{ℕ, _≤_}
@@ -8,14 +8,21 @@ use Rattle.base.specs.Rules.{Rule, firstFailing}
 use Rattle.base.proofs.Rules.{numbered, none-fails, later-decide, first-decides, first-most}
 use Rattle.blocks.specs.Blocks.{lengthOk, headsOk}
 use Rattle.blocks.specs.Records.{Model, modelOf}
+use Rattle.blocks.specs.Index.{tableAt, placed}
 use Rattle.blocks.specs.Totals.{totalsOk, blockRules}
 use Rattle.blocks.proofs.BlockForms.{blocks-numbered}
 use Rattle.fields.specs.Fields.{fieldsOk}
 use Rattle.trees.specs.Trees.{treesOk, typesOk}
+use Rattle.tables.specs.Tables.{tableOf, tableRules}
 use Rattle.model.specs.Nulls.{nullsOk}
 use Rattle.model.specs.Owners.{ownersOk}
 use Rattle.model.specs.Rules.{rulesOf, refusalOf, Accepted, recordRules}
 use Rattle.model.specs.Index.{DriversIn, Judged}
+use Rattle.model.proofs.Entries.{usable}
+
+-- the highest number of the model's own rules
+abbrev pub highest : ℕ
+highest = 25
 
 module _ (m : List ℕ) where
   -- a rule of the blocks fails
@@ -41,8 +48,8 @@ module _ (m : List ℕ) where
     unfolding blockRules
     totals-hold = none-fails 4 (blockRules m) (blocks-numbered m) h 3
 
-  rules-numbered : numbered 20 (rulesOf m) ≡ true
-  unfolding rulesOf blockRules recordRules
+  rules-numbered : numbered highest (rulesOf m) ≡ true
+  unfolding rulesOf blockRules recordRules tableRules
   rules-numbered = refl
 
   -- of rules behind the model's own: its refusal goes before them, and where it has none they decide
@@ -52,18 +59,23 @@ module _ (m : List ℕ) where
 
   pub others-decide : (rs : List Rule) → refusalOf m ≡ 0 → firstFailing (rulesOf m ++ rs) ≡ firstFailing rs
   unfolding refusalOf
-  others-decide rs h = later-decide 20 (rulesOf m) rs rules-numbered h
+  others-decide rs h = later-decide highest (rulesOf m) rs rules-numbered h
 
-  pub refusal-most : refusalOf m ≤ 20
+  -- and where rules behind it hold too, later ones decide
+  pub later-ones-decide : (rs ts : List Rule) → numbered highest rs ≡ true → firstFailing (rulesOf m ++ rs) ≡ 0 → firstFailing ((rulesOf m ++ rs) ++ ts) ≡ firstFailing ts
+  unfolding rulesOf blockRules recordRules tableRules
+  later-ones-decide rs ts n h = later-decide highest (rulesOf m ++ rs) ts n h
+
+  pub refusal-most : refusalOf m ≤ highest
   unfolding refusalOf
-  refusal-most = first-most 20 (rulesOf m) rules-numbered
+  refusal-most = first-most highest (rulesOf m) rules-numbered
 
   -- a model without refusal meets the rules of its records
   pub accepted : refusalOf m ≡ 0 → Accepted (modelOf m)
-  unfolding refusalOf rulesOf blockRules recordRules
+  unfolding refusalOf rulesOf blockRules recordRules tableRules
   accepted h =
-      let holds = none-fails 20 (rulesOf m) rules-numbered h in
-      record { totals = holds 3; fields = holds 4; trees = holds 5; types = holds 6; owners = holds 7; nulls = holds 8 }
+      let holds = none-fails highest (rulesOf m) rules-numbered h in
+      record { totals = holds 3; fields = holds 4; trees = holds 5; types = holds 6; owners = holds 7; nulls = holds 8; symmetric = holds 9; associative = holds 10 }
 
 -- what the rules of the records give, by the first of them that fails
 module _ (m index : List ℕ) where
@@ -94,16 +106,23 @@ module _ (m index : List ℕ) where
           unfolding recordRules firstFailing
           nulls-fail e = record { refusal = rw (a, b, c, d, e); usable = λ z. absurd (omega arith) }
 
-          pub all-hold : nullsOk M ≡ true → DriversIn m index → Judged m index 0
-          unfolding recordRules firstFailing
-          all-hold e i =
-              let s = i .types .starts in
-              record {
-                refusal = rw (a, b, c, d, e);
-                usable = λ z. record {
-                  starts = s;
-                  accepted = record { totals = s .totals; fields = a; trees = b; types = c; owners = d; nulls = e };
-                  type = i .types .type;
-                  driver = i .driver;
-                };
-              }
+          -- 24 and 25 decide: before has no table yet
+          module _ (e : nullsOk M ≡ true) (before : List ℕ) (i : DriversIn m before) where
+            accepts : firstFailing (tableRules M) ≡ 0 → Accepted M
+            unfolding tableRules
+            accepts z =
+                let holds = none-fails highest (tableRules M) refl z in
+                record {
+                  totals = i .types .starts .totals;
+                  fields = a;
+                  trees = b;
+                  types = c;
+                  owners = d;
+                  nulls = e;
+                  symmetric = holds 0;
+                  associative = holds 1;
+                }
+
+            pub table-decides : index ≡ placed before tableAt (tableOf M) → (r : ℕ) → r ≡ firstFailing (tableRules M) → Judged m index r
+            unfolding recordRules firstFailing
+            table-decides p r q = record { refusal = rw (a, b, c, d, e) q; usable = λ z. usable m before index i p (accepts (sym q ∙ z)) }

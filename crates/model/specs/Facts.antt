@@ -4,10 +4,12 @@ use mathlib.Core.Bool.{true}
 use mathlib.Core.Logic.{_⊎_}
 use Prim.Native.Nat.{ℕ, _^_, _≤_, _<_}
 use lib.ListN.{length}
+use Rattle.values.specs.Resolve.{pairIn, PairLaws}
 use Rattle.blocks.specs.Records.{Model, signalAt, variableAt, driverAt, nodeAt, statementAt}
 use Rattle.blocks.specs.declared.records.StatementRecord.{StatementRecord}
 use Rattle.fields.specs.Fields.{absent, ownerOf, valueOk}
 use Rattle.fields.specs.Facts.{SignalFits, VariableFits, Spans, ProcessFits}
+use Rattle.tables.specs.Tables.{tableOf}
 use Rattle.trees.specs.Trees.{integer, logic, boolean, sizeOf, typeOf}
 use Rattle.model.specs.Owners.{driverFor, readsOwn}
 
@@ -131,6 +133,7 @@ pub record StatementOf (M : Model) (n : ℕ) : Type 0 where
 -- an accepted model
 pub record Facts (M : Model) : Type 0 where
   pub totals : TotalsFit M
+  pub pairs : PairLaws (pairIn (tableOf M))
   pub signal : (n : ℕ) → n < length (M .signals) → SignalFits M n
   pub variable : (n : ℕ) → n < length (M .variables) → VariableFits M n
   pub process : (p : ℕ) → p < length (M .processes) → ProcessFits M p

@@ -1,5 +1,5 @@
 -- The index that a loaded model is used by: for each record where it begins, for each node its type, for each signal
--- assignment its driver.
+-- assignment its driver, and the model's pair table.
 use mathlib.Core.Path.{_≡_}
 use mathlib.Core.List.{List}
 use Prim.Native.Nat.{ℕ, _+_, _<_}
@@ -11,6 +11,7 @@ use Rattle.blocks.specs.Records.{modelOf, statementAt}
 use Rattle.fields.specs.Fields.{ownerOf}
 use Rattle.trees.specs.Types.{TypesIn}
 use Rattle.trees.specs.Trees.{typeOf}
+use Rattle.tables.specs.Tables.{TableIn}
 use Rattle.model.specs.Rules.{Accepted, refusalOf, recordRules}
 use Rattle.model.specs.Owners.{driverFor}
 use Rattle.model.specs.declared.load.Loaded.{Loaded}
@@ -26,12 +27,13 @@ pub record DriversIn (m index : List ℕ) : Type 0 where
   pub driver : DriversBelow m index (length (modelOf m .statements))
 
 -- an accepted model with its index: entry typesAt + n is the type of node n, entry assignmentsAt + n the driver of statement n where
--- that is a signal assignment
+-- that is a signal assignment, and from tableAt on stands the pair table
 pub record Usable (m index : List ℕ) : Type 0 where
   pub starts : Starts m index
   pub accepted : Accepted (modelOf m)
   pub type : (n : ℕ) → n < length (modelOf m .nodes) → getD index (typesAt + n) 0 ≡ typeOf (modelOf m) n
   pub driver : DriversBelow m index (length (modelOf m .statements))
+  pub table : TableIn m index
 
 -- what the rules of the records give where 1 to 4 hold: the number of the first that applies, and with 0 an index to use
 pub record Judged (m index : List ℕ) (r : ℕ) : Type 0 where

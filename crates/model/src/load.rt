@@ -15,6 +15,8 @@ use blocks::index::INDEX_SIZE;
 use blocks::index::Index;
 use blocks::index::Totals;
 use fields::fields_ok;
+use tables::put_table;
+use tables::table_refusal;
 use trees::trees::trees_ok;
 use trees::types::types_ok;
 
@@ -25,7 +27,7 @@ pub struct Loaded {
     pub index: Index,
 }
 
-// The first rule of the records that fails (5 to 8, then 20), or 0, and then an index to use.
+// The first rule of the records that fails (5 to 8, then 20, 24 and 25), or 0, and then an index to use.
 fn model_refusal(m: &[u8], index: &mut Index, t: Totals) -> usize
     requires { ⌜ length (now index) ≡ indexSize ⌝ }
     requires { ⌜ Starts (now m) (now index) ⌝ }
@@ -47,7 +49,8 @@ fn model_refusal(m: &[u8], index: &mut Index, t: Totals) -> usize
     if !nulls_ok(m, index, t) {
         return 20;
     }
-    0
+    put_table(m, index, t);
+    table_refusal(m, index, t)
 }
 
 // The number of the refusal, and with 0 the model's totals and index.

@@ -11,8 +11,7 @@ use borrow.Author.Tests.{eqb-true, leb-true, le-leb}
 use Rattle.base.specs.Below.{joinBelow, All}
 use Rattle.base.proofs.Cases.{by-test, either-way}
 use Rattle.base.proofs.Below.{_and_, among}
-use Rattle.values.specs.Resolve.{resolutionOf}
-use Rattle.values.proofs.Resolution.{standard-resolution}
+use Rattle.values.proofs.Resolution.{resolution-laws}
 use Rattle.blocks.specs.Records.{Model, signalAt, driverAt}
 use Rattle.blocks.specs.declared.records.SignalRecord.{SignalRecord}
 use Rattle.fields.specs.Fields.{valueOk}
@@ -67,10 +66,9 @@ of-code : (v : ℕ) → v < 9 → ValueOf logic v
 unfolding valueOk
 of-code v h = le-leb v 8 (omega arith)
 
-resolved-code : (other : ℕ) (vs : List ℕ) → other < 9 → All (λ v. v < 9) vs → resolvedOr other vs < 9
-unfolding resolutionOf
-resolved-code other [] h a = h
-resolved-code other (v ∷ vs) h a = standard-resolution .code (v ∷ vs) (λ k l. all-at (λ v. v < 9) 0 (v ∷ vs) a k l)
+resolved-code : (M : Model) → Facts M → (other : ℕ) (vs : List ℕ) → other < 9 → All (λ v. v < 9) vs → resolvedOr M other vs < 9
+resolved-code M fs other [] h a = h
+resolved-code M fs other (v ∷ vs) h a = resolution-laws _ (fs .pairs) .code (v ∷ vs) (λ k l. all-at (λ v. v < 9) 0 (v ∷ vs) a k l)
 
 -- what a driver of a logic signal adds to the resolution is a code
 codes : (d : SignalRecord) → d .ty ≡ logic → (x : Driven) → Carries d x → All (λ v. v < 9) (valuesOf x)
@@ -78,34 +76,33 @@ codes d e (To v) c = (code v (rw e at c), tt)
 codes d e Null c = tt
 
 -- the resolution of what one driver carries
-alone : (d : SignalRecord) (other : ℕ) (x : Driven) → ValueOf (d .ty) other → Carries d x → ValueOf (d .ty) (resolvedOr other (valuesOf x))
-unfolding resolutionOf
-alone d other (To v) h c = rw (standard-resolution .one v) c
-alone d other Null h c = h
+alone : (M : Model) → Facts M → (d : SignalRecord) (other : ℕ) (x : Driven) → ValueOf (d .ty) other → Carries d x → ValueOf (d .ty) (resolvedOr M other (valuesOf x))
+alone M fs d other (To v) h c = rw (resolution-laws _ (fs .pairs) .one v) c
+alone M fs d other Null h c = h
 
 module _ (M : Model) (fs : Facts M) (ds : List DriverState) (s other : ℕ) (here : s < length (M .signals))
     (each : (k : ℕ) → k < length (M .drivers) → driverAt M k .signal ≡ s → Carries (signalAt M s) (driverIn ds k .current))
     (else : ValueOf (signalAt M s .ty) other)
   where
     -- an integer signal has the value of its driver
-    of-integer : signalAt M s .ty ≡ integer → ValueOf (signalAt M s .ty) (resolvedOr other (drivingOf M ds s))
+    of-integer : signalAt M s .ty ≡ integer → ValueOf (signalAt M s .ty) (resolvedOr M other (drivingOf M ds s))
     unfolding drivingOf
     of-integer e = by-drivers (one-driver M ds s single (length (M .drivers)) (omega arith))
       where
         single : (i j : ℕ) → i < length (M .drivers) → j < length (M .drivers) → driverAt M i .signal ≡ s → driverAt M j .signal ≡ s → i ≡ j
         single i j h l p q = fs .single i j h l (p ∙ sym q) (rw p e)
 
-        by-drivers : Single M ds s (length (M .drivers)) → ValueOf (signalAt M s .ty) (resolvedOr other (drivingOf M ds s))
+        by-drivers : Single M ds s (length (M .drivers)) → ValueOf (signalAt M s .ty) (resolvedOr M other (drivingOf M ds s))
         by-drivers (no-driver q) = rw q else
-        by-drivers (its-driver k l t q) = rw q (alone (signalAt M s) other (driverIn ds k .current) else (each k l t))
+        by-drivers (its-driver k l t q) = rw q (alone M fs (signalAt M s) other (driverIn ds k .current) else (each k l t))
 
-    of-logic : signalAt M s .ty ≡ logic → ValueOf (signalAt M s .ty) (resolvedOr other (drivingOf M ds s))
+    of-logic : signalAt M s .ty ≡ logic → ValueOf (signalAt M s .ty) (resolvedOr M other (drivingOf M ds s))
     of-logic e =
         let l : ValueOf logic other = rw e at else in
         rw e
-        (of-code (resolvedOr other (drivingOf M ds s))
-        (resolved-code other (drivingOf M ds s) (code other l) (driving-all M ds s (λ v. v < 9) (λ k l t. codes (signalAt M s) e (driverIn ds k .current) (each k l t)))))
+        (of-code (resolvedOr M other (drivingOf M ds s))
+        (resolved-code M fs other (drivingOf M ds s) (code other l) (driving-all M ds s (λ v. v < 9) (λ k l t. codes (signalAt M s) e (driverIn ds k .current) (each k l t)))))
 
     -- the resolution of values of the signal's type is of that type
-    pub resolved-typed : ValueOf (signalAt M s .ty) (resolvedOr other (drivingOf M ds s))
-    resolved-typed = among (λ t. signalAt M s .ty ≡ t → ValueOf (signalAt M s .ty) (resolvedOr other (drivingOf M ds s))) 0 2 (signalAt M s .ty) (of-integer and of-logic and tt) (omega arith) (omega (arith, fs .signal s here .ty)) refl
+    pub resolved-typed : ValueOf (signalAt M s .ty) (resolvedOr M other (drivingOf M ds s))
+    resolved-typed = among (λ t. signalAt M s .ty ≡ t → ValueOf (signalAt M s .ty) (resolvedOr M other (drivingOf M ds s))) 0 2 (signalAt M s .ty) (of-integer and of-logic and tt) (omega arith) (omega (arith, fs .signal s here .ty)) refl

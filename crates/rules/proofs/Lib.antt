@@ -10,6 +10,7 @@ pub mod FirstReachable
 pub mod Invariant
 pub mod Lists
 pub mod Marks
+pub mod Numberings
 pub mod Outcomes
 pub mod Picks
 pub mod Sets

@@ -11,7 +11,8 @@ use lib.Dec.{eqb}
 use lib.ListN.{length, getD, replicate}
 use Rattle.base.specs.Below.{joinBelow, listBelow}
 use Rattle.base.specs.Cases.{_∣_, _⇒_}
-use Rattle.values.specs.Resolve.{resolutionOf}
+use Rattle.values.specs.Resolve.{pairIn, resolutionBy}
+use Rattle.tables.specs.Tables.{tableOf}
 use Rattle.blocks.specs.Records.{Model, signalAt, driverAt}
 use Rattle.rules.specs.declared.driven.Driven.{Driven}
 use Rattle.rules.specs.declared.driven.Driven.the-variants.{To, Null}
@@ -93,10 +94,10 @@ drivingBy M ds s k = eqb (driverAt M k .signal) s ⇒ valuesOf (driverIn ds k .c
 unfoldable pub drivingOf : Model → List DriverState → ℕ → List ℕ
 drivingOf M ds s = joinBelow (drivingBy M ds s) (length (M .drivers))
 
--- the resolution of the driving values, or other where there are none
-abbrev pub resolvedOr : ℕ → List ℕ → ℕ
-resolvedOr other [] = other
-resolvedOr other (v ∷ vs) = resolutionOf (v ∷ vs)
+-- the resolution of the driving values by the model's pair table, or other where there are none
+abbrev pub resolvedOr : Model → ℕ → List ℕ → ℕ
+resolvedOr M other [] = other
+resolvedOr M other (v ∷ vs) = resolutionBy (pairIn (tableOf M)) (v ∷ vs)
 
 -- "drivers have their signal's starting value"
 unfoldable pub firstDrivers : Model → List DriverState
@@ -104,7 +105,7 @@ firstDrivers M = map (λ d. record { current = To (signalAt M (d .signal) .start
 
 -- "a signal is the resolution of its drivers (its starting value if it has none)"
 unfoldable pub firstSignal : Model → ℕ → ℕ
-firstSignal M s = resolvedOr (signalAt M s .start) (drivingOf M (firstDrivers M) s)
+firstSignal M s = resolvedOr M (signalAt M s .start) (drivingOf M (firstDrivers M) s)
 
 -- "At first time and count are 0, all processes are ready at their first statement with no deadline and fault 0, variables have
 -- their starting values [..] Values before time 0 are that first current value." The node is "0 without a fault". The

@@ -3,6 +3,7 @@ pub mod Delays
 pub mod Evaluation
 pub mod Failing
 pub mod Invariant
+pub mod Numberings
 pub mod Orders
 pub mod Statements
 pub mod Steps

@@ -60,7 +60,7 @@ undriven d v = d .kind is bus ⇒ Z ∣ v
 
 -- what signal s becomes where it is active: "the resolution of all its drivers' current values"
 abbrev pub valueAfter : Model → Configuration → ℕ → ℕ
-valueAfter M c s = resolvedOr (undriven (signalAt M s) (currentOf (c .signals) s)) (drivingOf M (map (taken (c .time)) (c .drivers)) s)
+valueAfter M c s = resolvedOr M (undriven (signalAt M s) (currentOf (c .signals) s)) (drivingOf M (map (taken (c .time)) (c .drivers)) s)
 
 -- "each signal with such a driver becomes" that
 unfoldable pub signalAfter : Model → Configuration → ℕ → List ℕ

@@ -4,6 +4,7 @@ pub mod Demand3
 pub mod FaultLaws
 pub mod InTime
 pub mod ListLaws
+pub mod OwnTableLaws
 pub mod PlayLaws
 pub mod Runs
 pub mod SessionLaws

@@ -8,6 +8,7 @@ ghost use Rattle.session.specs.DelayLaws.{DelayLaws};
 ghost use Rattle.session.specs.Demand3.{Determinate};
 ghost use Rattle.session.specs.FaultLaws.{FaultLaws};
 ghost use Rattle.session.specs.ListLaws.{ListLaws};
+ghost use Rattle.session.specs.OwnTableLaws.{OwnTableLaws};
 ghost use Rattle.session.specs.Sessions.{ordersOk, lengthRules, SessionIs};
 ghost use Rattle.session.specs.SetLaws.{SetLaws};
 use crate::play::play;
@@ -50,6 +51,7 @@ pub fn session(model: &[u8], orders: &[u8], answers: &mut [u8]) -> Ended
     ensures { λ r. ⌜ FaultLaws ⌝ }
     ensures { λ r. ⌜ DelayLaws ⌝ }
     ensures { λ r. ⌜ SetLaws ⌝ }
+    ensures { λ r. ⌜ OwnTableLaws ⌝ }
 {
     let loaded = load(model);
     let refusal = loaded.refusal;

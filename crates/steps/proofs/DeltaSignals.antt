@@ -91,7 +91,7 @@ module _ (M : Model) (currents : List ℕ) (ndrivers active : ℕ) (old : List �
 
     -- it is active, and v the resolution of its drivers' values, o being its old value
     module _ (o v changes' : ℕ) (a : inSet active j ≡ true) (l : 32 * j < length new) (e : o ≡ getD new (32 * j) 0)
-        (is : v ≡ resolvedOr (undriven (signalAt M j) o) (drivingIn M currents j ndrivers)) (w : SetOf (λ s. inSet changes s || (eqb j s && not (eqb o v))) changes')
+        (is : v ≡ resolvedOr M (undriven (signalAt M j) o) (drivingIn M currents j ndrivers)) (w : SetOf (λ s. inSet changes s || (eqb j s && not (eqb o v))) changes')
       where
         abbrev new' : List ℕ
         new' = set new (32 * j) v

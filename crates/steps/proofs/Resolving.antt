@@ -1,14 +1,16 @@
 -- The driving values as the array of current values has them, and the loop that resolves them. Assumes nothing.
 use mathlib.Core.Path.{_≡_, refl}
 use mathlib.Core.Bool.{Bool, true, false, not, _&&_, _||_, or-true, or-false}
-use mathlib.Core.List.{List, [], _∷_, _++_, append-nil, foldl-append}
+use mathlib.Core.List.{List, [], _∷_, _++_, append-nil}
 use Prim.Native.Nat.{ℕ, _+_, _≤_, _<_}
 use native.Mathlib.Nat.{le-antisymm}
 use lib.Dec.{eqb}
 use lib.ListN.{length, getD}
 use Rattle.base.specs.Cases.{_∣_, _⇒_}
 use Rattle.base.proofs.Below.{join-none, join-more, join-same}
-use Rattle.values.specs.Resolve.{pairOf, resolutionBy, resolutionOf}
+use Rattle.values.specs.Resolve.{pairIn}
+use Rattle.values.proofs.Resolution.{some, some-more, resolution-more}
+use Rattle.tables.specs.Tables.{tableOf}
 use Rattle.blocks.specs.Records.{Model, driverAt}
 use Rattle.rules.specs.Configuration.{DriverState, driverIn, valuesOf, drivingBy, drivingOf, resolvedOr}
 use Rattle.waveforms.specs.Pending.{nullWord, drivenOf}
@@ -20,24 +22,14 @@ pub driving-is : (M : Model) (cs : List ℕ) (ds : List DriverState) (n s : ℕ)
 unfolding drivingIn drivingOf
 driving-is M cs ds n s e h = rw (← e) (join-same _ (drivingBy M ds s) n (λ k l. rw (h k l)))
 
--- there is a value
-abbrev pub some : List ℕ → Bool
-some [] = false
-some (v ∷ vs) = true
-
 -- one value more
-resolved-more : (other : ℕ) (vs : List ℕ) (x : ℕ) → resolvedOr other (vs ++ (x ∷ [])) ≡ (some vs ⇒ pairOf (resolvedOr other vs) x ∣ x)
-unfolding resolutionOf resolutionBy
-resolved-more other [] x = refl
-resolved-more other (v ∷ vs) x = foldl-append pairOf v vs (x ∷ [])
-
-some-more : (vs : List ℕ) (x : ℕ) → some (vs ++ (x ∷ [])) ≡ true
-some-more [] x = refl
-some-more (v ∷ vs) x = refl
+resolved-more : (M : Model) (other : ℕ) (vs : List ℕ) (x : ℕ) → resolvedOr M other (vs ++ (x ∷ [])) ≡ (some vs ⇒ pairIn (tableOf M) (resolvedOr M other vs) x ∣ x)
+resolved-more M other [] x = resolution-more (pairIn (tableOf M)) [] x
+resolved-more M other (v ∷ vs) x = resolution-more (pairIn (tableOf M)) (v ∷ vs) x
 
 -- v is the resolution of the values of the first k drivers, and b says that there is one
 pub record Resolving (M : Model) (cs : List ℕ) (s other k : ℕ) (b : Bool) (v : ℕ) : Type 0 where
-  pub value : v ≡ resolvedOr other (drivingIn M cs s k)
+  pub value : v ≡ resolvedOr M other (drivingIn M cs s k)
   pub found : b ≡ some (drivingIn M cs s k)
 
 -- what a driver adds: its word where it drives the signal and is not null
@@ -59,7 +51,7 @@ module _ (M : Model) (cs : List ℕ) (s other : ℕ) where
   unfolding drivingIn
   with k b e = rw (join-more, added (eqb (driverAt M k .signal) s) (getD cs k 0), e)
 
-  turn : (k : ℕ) (found : Bool) (v : ℕ) (b : Bool) → drives k ≡ b → Resolving M cs s other k found v → Resolving M cs s other (k + 1) (found || b) (b ⇒ (found ⇒ pairOf v (getD cs k 0) ∣ getD cs k 0) ∣ v)
+  turn : (k : ℕ) (found : Bool) (v : ℕ) (b : Bool) → drives k ≡ b → Resolving M cs s other k found v → Resolving M cs s other (k + 1) (found || b) (b ⇒ (found ⇒ pairIn (tableOf M) v (getD cs k 0) ∣ getD cs k 0) ∣ v)
   turn k found v true e r =
       record {
         value = rw (with k true e, resolved-more, r .found, r .value);
@@ -71,9 +63,10 @@ module _ (M : Model) (cs : List ℕ) (s other : ℕ) where
         found = rw (with k false e, append-nil, or-false) (r .found);
       }
 
-  pub resolving-more : (k d : ℕ) (found : Bool) (v r : ℕ) → d ≡ driverAt M k .signal → r ≡ (eqb d s && not (eqb (getD cs k 0) nullWord) ⇒ (found ⇒ pairOf v (getD cs k 0) ∣ getD cs k 0) ∣ v) → Resolving M cs s other k found v → Resolving M cs s other (k + 1) (found || (eqb d s && not (eqb (getD cs k 0) nullWord))) r
-  resolving-more k d found v r e q h = rw (q, e) (turn k found v (drives k) refl h)
+  -- t is the model's table
+  pub resolving-more : (t : List ℕ) → t ≡ tableOf M → (k d : ℕ) (found : Bool) (v r : ℕ) → d ≡ driverAt M k .signal → r ≡ (eqb d s && not (eqb (getD cs k 0) nullWord) ⇒ (found ⇒ pairIn t v (getD cs k 0) ∣ getD cs k 0) ∣ v) → Resolving M cs s other k found v → Resolving M cs s other (k + 1) (found || (eqb d s && not (eqb (getD cs k 0) nullWord))) r
+  resolving-more t i k d found v r e q h = rw (q, i, e) (turn k found v (drives k) refl h)
 
   -- all drivers are done
-  pub resolving-all : (k n : ℕ) (found : Bool) (v : ℕ) → k ≤ n → n ≤ k → Resolving M cs s other k found v → v ≡ resolvedOr other (drivingIn M cs s n)
+  pub resolving-all : (k n : ℕ) (found : Bool) (v : ℕ) → k ≤ n → n ≤ k → Resolving M cs s other k found v → v ≡ resolvedOr M other (drivingIn M cs s n)
   resolving-all k n found v h l r = rw (le-antisymm h l) at (r .value)

@@ -37,7 +37,7 @@ pub record KeptTo (old : List ℕ) (n : ℕ) (new : List ℕ) : Type 0 where
 -- the current value of signal s: where it is active, the resolution of the current values of those of the ndrivers drivers that are on
 unfoldable pub currentAfter : Model → List ℕ → ℕ → ℕ → List ℕ → ℕ → ℕ
 currentAfter M currents ndrivers active signals s =
-    inSet active s ⇒ resolvedOr (undriven (signalAt M s) (getD signals (32 * s) 0)) (drivingIn M currents s ndrivers)
+    inSet active s ⇒ resolvedOr M (undriven (signalAt M s) (getD signals (32 * s) 0)) (drivingIn M currents s ndrivers)
     ∣ getD signals (32 * s) 0
 
 -- the first n signals have their new current values, all else is as it was, and the set has the signals that changed

@@ -2,17 +2,20 @@
 -- Assumes nothing.
 use mathlib.Core.Path.{_≡_, refl, sym, ap, _∙_}
 use mathlib.Core.Logic.{∥∥₁-elim}
-use mathlib.Core.List.{List, [], _∷_, foldl, List·Permᴰ, List·Permᴰ·nil, List·Permᴰ·cons, List·Permᴰ·swap, List·Permᴰ·trans}
-use Prim.Native.Nat.{ℕ, _+_, _<_, _≤_}
+use mathlib.Core.List.{List, [], _∷_, _++_, foldl, foldl-append, List·Permᴰ, List·Permᴰ·nil, List·Permᴰ·cons, List·Permᴰ·swap, List·Permᴰ·trans}
+use mathlib.Core.Bool.{Bool, true, false}
+use Prim.Native.Nat.{ℕ, zero, suc, _+_, _<_, _≤_}
 use native.Mathlib.Nat.{ℕ-set, not-suc-le-zero}
 use native.Mathlib.Numerals.{add-one}
 use native.Mathlib.Omega.{arith}
-use lib.Dec.{lit<}
-use lib.ListN.{length, getD, drop, drop-of-length-le}
-use lib.Seq.{drop-cons}
-use Rattle.base.specs.Below.{allBelow}
+use lib.Dec.{ltb, lit<}
+use lib.ListN.{length, getD, take}
+use lib.Seq.{take-all, take-suc}
+use borrow.Author.Tests.{lt-ltb}
+use Rattle.base.specs.Below.{allBelow, listBelow}
+use Rattle.base.specs.Cases.{_∣_, _⇒_}
 use Rattle.values.specs.Nine.{codeOf}
-use Rattle.values.specs.Resolve.{standard, inRow, pairIn, pairOf, resolutionBy, closed, symmetric, associative, PairLaws, ResolutionLaws}
+use Rattle.values.specs.Resolve.{standardRows, entryOf, tableBy, standard, pairIn, pairOf, resolutionBy, closed, rowSymmetric, symmetric, pairAssociative, rowAssociative, associative, PairLaws, ResolutionLaws, TableLaws}
 use Rattle.values.proofs.Tables.{pair-laws}
 
 module _ (f : ℕ → ℕ → ℕ) (laws : PairLaws f) where
@@ -48,28 +51,59 @@ module _ (f : ℕ → ℕ → ℕ) (laws : PairLaws f) where
   pub resolution-laws : ResolutionLaws f
   resolution-laws = record { one = one-of; code = code-of; order = λ xs ys p. ∥∥₁-elim p (ℕ-set (resolutionBy f xs) (resolutionBy f ys)) order-of }
 
-pub standard-laws : PairLaws pairOf
-unfolding pairOf pairIn inRow standard closed symmetric associative allBelow codeOf
-standard-laws = pair-laws standard refl refl refl
+-- the laws of any table that passes the tests
+pub table-laws : (t : List ℕ) → TableLaws t
+table-laws t =
+    record {
+      pairs = pair-laws t;
+      resolutions = λ c s a. resolution-laws (pairIn t) (pair-laws t c s a);
+    }
+
+pub standard-closed : closed standard ≡ true
+unfolding pairIn standard tableBy listBelow entryOf standardRows closed allBelow codeOf
+standard-closed = refl
+
+pub standard-symmetric : symmetric standard ≡ true
+unfolding pairIn standard tableBy listBelow entryOf standardRows symmetric rowSymmetric allBelow codeOf
+standard-symmetric = refl
+
+pub standard-associative : associative standard ≡ true
+unfolding pairIn standard tableBy listBelow entryOf standardRows associative rowAssociative pairAssociative allBelow codeOf
+standard-associative = refl
 
 pub standard-resolution : ResolutionLaws pairOf
-standard-resolution = resolution-laws pairOf standard-laws
+unfolding pairOf
+standard-resolution = table-laws standard .resolutions standard-closed standard-symmetric standard-associative
 
--- a loop over the values: none; its begin, from the first value, and its next turn; what is left goes on from the result so far
+-- there is a value
+abbrev pub some : List ℕ → Bool
+some [] = false
+some (v ∷ vs) = true
+
+pub some-more : (vs : List ℕ) (x : ℕ) → some (vs ++ (x ∷ [])) ≡ true
+some-more [] x = refl
+some-more (v ∷ vs) x = refl
+
+-- one value more
 module _ (f : ℕ → ℕ → ℕ) where
-  pub none : (xs : List ℕ) → length xs ≡ 0 → 4 ≡ resolutionBy f xs
+  pub resolution-more : (vs : List ℕ) (x : ℕ) → resolutionBy f (vs ++ (x ∷ [])) ≡ (some vs ⇒ f (resolutionBy f vs) x ∣ x)
   unfolding resolutionBy
-  none [] h = refl
-  none (x ∷ xs) h = absurd (omega arith)
+  resolution-more [] x = refl
+  resolution-more (v ∷ vs) x = foldl-append f v vs (x ∷ [])
 
-  pub first : (xs : List ℕ) → 0 < length xs → foldl f (getD xs 0 0) (drop 1 xs) ≡ resolutionBy f xs
+  -- a loop over the values: it has resolved the first i
+  some-of : (xs : List ℕ) (i : ℕ) → i ≤ length xs → some (take i xs) ≡ ltb 0 i
+  some-of [] zero h = refl
+  some-of [] (suc i) h = absurd (not-suc-le-zero h)
+  some-of (x ∷ xs) zero h = refl
+  some-of (x ∷ xs) (suc i) h = sym (lt-ltb 0 (suc i) (omega arith))
+
+  pub resolved-none : (xs : List ℕ) → 4 ≡ resolutionBy f (take 0 xs)
   unfolding resolutionBy
-  first [] h = absurd (not-suc-le-zero h)
-  first (x ∷ xs) h = refl
+  resolved-none xs = refl
 
-  pub next : (xs : List ℕ) (a i : ℕ) → i < length xs → foldl f (f a (getD xs i 0)) (drop (i + 1) xs) ≡ foldl f a (drop i xs)
-  next xs a i h = rw (add-one, drop-cons xs i 0 h)
+  pub resolved-next : (xs : List ℕ) (i v : ℕ) → i < length xs → v ≡ resolutionBy f (take i xs) → (ltb 0 i ⇒ f v (getD xs i 0) ∣ getD xs i 0) ≡ resolutionBy f (take (i + 1) xs)
+  resolved-next xs i v h e = rw (add-one, take-suc xs i 0 h, resolution-more, some-of xs i (omega arith), e)
 
-  -- its end
-  pub done : (xs : List ℕ) (a i : ℕ) → length xs ≤ i → foldl f a (drop i xs) ≡ a
-  done xs a i h = rw (drop-of-length-le xs h)
+  pub resolved-all : (xs : List ℕ) (i v : ℕ) → i ≤ length xs → length xs ≤ i → v ≡ resolutionBy f (take i xs) → v ≡ resolutionBy f xs
+  resolved-all xs i v h l e = e ∙ ap (resolutionBy f) (take-all i xs l)

@@ -11,7 +11,7 @@ use second_kernel::builder::Builder;
 use second_kernel::cycle::{Config, READY};
 use second_kernel::model::{ABSENT, BOOLEAN, INTEGER, LOGIC};
 use second_kernel::session;
-use second_kernel::values::{Functions, SECOND};
+use second_kernel::values::{Functions, SECOND, STANDARD};
 use second_kernel::vhdl;
 use std::hint::black_box;
 use std::process::{exit, Command};
@@ -99,26 +99,44 @@ fn logical(turns: i32) -> Builder {
     b
 }
 
-/// A clock and fifteen processes that each assign a signal on every edge.
-fn fan() -> Builder {
+/// A clock and fifteen processes that each assign one of so many signals on every edge.
+fn clocked(signals: u16) -> Builder {
     let mut b = Builder::new();
-    for _ in 0..16 {
+    for _ in 0..=signals {
         b.signal(LOGIC, ZERO);
     }
     let (zero, one) = (b.integer(0), b.integer(1));
     let clock = b.read_signal(0);
     for n in 0..16u16 {
         let p = b.process();
-        b.driver(p, n);
+        let target = if n == 0 { 0 } else { 1 + (n - 1) % signals };
+        b.driver(p, target);
         let (value, delay) = if n == 0 {
             (b.unary(6, clock), one)
         } else {
-            let before = b.read_signal(n - 1);
+            let before = b.read_signal(target - 1);
             (b.binary(9, before, clock), zero)
         };
-        b.schedule(n, value, delay);
+        b.schedule(target, value, delay);
         b.wait(1, ABSENT, ABSENT);
     }
+    b
+}
+
+/// Each a signal of its own.
+fn fan() -> Builder {
+    clocked(15)
+}
+
+/// Five lines, each driven by three.
+fn shared() -> Builder {
+    clocked(5)
+}
+
+/// The same with the standard's resolution table as its own.
+fn own() -> Builder {
+    let mut b = shared();
+    b.table(&STANDARD);
     b
 }
 
@@ -326,7 +344,7 @@ struct Design {
     long: u64,
 }
 
-const DESIGNS: [Design; 5] = [
+const DESIGNS: [Design; 7] = [
     Design {
         name: "loop",
         build: |n| busy(n as i32),
@@ -351,6 +369,20 @@ const DESIGNS: [Design; 5] = [
     Design {
         name: "fan",
         build: |_| fan(),
+        stop: |n| n,
+        orders: 4_096,
+        long: 500_000,
+    },
+    Design {
+        name: "shared",
+        build: |_| shared(),
+        stop: |n| n,
+        orders: 4_096,
+        long: 500_000,
+    },
+    Design {
+        name: "own",
+        build: |_| own(),
         stop: |n| n,
         orders: 4_096,
         long: 500_000,
@@ -551,7 +583,10 @@ fn main() {
         "{:52} {:>8} {:>8} {:>8}",
         "quiet", steps[0], steps[1], steps[2]
     );
-    println!("fan, chain: an advance with the picks after it; quiet: an advance alone");
+    println!(
+        "fan, shared, own, chain: an advance with the picks after it; quiet: an advance alone"
+    );
+    println!("own: shared with the standard's resolution table as its own");
     println!();
     println!("nanoseconds a pick of sixteen busy processes: single picks, sets of all, settles of sixteen");
     println!("way       second   proved");

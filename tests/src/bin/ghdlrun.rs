@@ -34,9 +34,9 @@
 use second_kernel::builder::Builder;
 use second_kernel::cycle::{Config, Step, DELTA_LIMIT, NINTH, READY, TIME_LIMIT};
 use second_kernel::features::{
-    self, arithmetic, delay_zero, inertial, nulls, pick_set, Seen, FEATURES,
+    self, arithmetic, delay_zero, inertial, nulls, own_table, pick_set, Seen, FEATURES,
 };
-use second_kernel::gen::{self, order, set_of};
+use second_kernel::gen::{self, order, set_of, tables};
 use second_kernel::model::{self, Model, ABSENT, BUS, INTEGER, LOGIC, PLAIN, REGISTER};
 use second_kernel::numbers::Counts;
 use second_kernel::rng::Rng;
@@ -62,13 +62,15 @@ const WITH_SETS: usize = 1_000;
 /// What many models must show: nulls that come due in one lively model of five,
 /// operators that are done in one of ten, a delay of 0 that the current value would not
 /// tell in one of fifty, an inertial assignment that removes an unmarked transaction in one
-/// of ten, and sets of several processes in one of five.
-const OFTEN: [(&[&str], u64); 5] = [
+/// of ten, sets of several processes in one of five, and by the model's own resolution table
+/// values other than the standard's, of two, of three and of more, each in one of twenty.
+const OFTEN: [(&[&str], u64); 6] = [
     (&nulls::DUE, 5),
     (&arithmetic::OPERATORS, 10),
     (&delay_zero::TOLD, 50),
     (&[inertial::REMOVED], 10),
     (&pick_set::SEVERAL, 5),
+    (&own_table::TOLD, 20),
 ];
 
 /// Signal values at a time.
@@ -559,9 +561,12 @@ fn followed(start: i32, steps: i32) -> Case {
 }
 
 /// Sixteen processes drive a line, each at times of its own, to one of the nine values and
-/// a unit later to Z, or off where the line is a bus or a register.
-fn sixteen(kind: u8, turn: i32) -> Case {
+/// a unit later to Z, or off where the line is a bus or a register; some by their own table.
+fn sixteen(kind: u8, turn: i32, table: Option<u64>) -> Case {
     let mut b = Builder::new();
+    if let Some(seed) = table {
+        b.table(&tables::table(&mut Rng::new(seed)));
+    }
     let s = b.signal_of(LOGIC, kind, 4);
     let (zero, one, z) = (b.integer(0), b.integer(1), b.logic(4));
     for p in 0..16 {
@@ -576,7 +581,8 @@ fn sixteen(kind: u8, turn: i32) -> Case {
         b.wait(0, ABSENT, pause);
     }
     let bytes = b.encode();
-    let name = format!("sixteen processes, kind {kind}, each {turn} units or more");
+    let name =
+        format!("sixteen processes, kind {kind}, each {turn} units or more, table {table:?}");
     Case::new(name, b.m, &bytes)
 }
 
@@ -602,7 +608,8 @@ fn fixed() -> Vec<Case> {
         for at in [0, 3] {
             cases.extend((998..1_003).map(|k| counted(kind, at, k)));
         }
-        cases.extend([1, 2, 5].map(|turn| sixteen(kind, turn)));
+        cases.extend([1, 2, 5].map(|turn| sixteen(kind, turn, None)));
+        cases.extend((0..6).map(|seed| sixteen(kind, 2, Some(seed))));
     }
     cases.extend((997..1_002).map(|k| followed(3, k)));
     cases
@@ -799,13 +806,16 @@ fn main() {
     }
     let rows: usize = cases.iter().map(|c| c.changes.len() - 1).sum();
     let proved = cases.iter().filter(|c| c.proved).count();
-    let [nulls, operators, delays, inertial, sets] =
+    let tables = cases.iter().filter(|c| c.model.own_table().is_some());
+    let tables = tables.count();
+    let [nulls, operators, delays, inertial, sets, others] =
         OFTEN.map(|(names, _)| cases.iter().filter(|c| c.shows(names)).count());
     println!(
         "ghdlrun: {} models ({proved} played by the proved kernel, {nulls} with nulls that came due, \
          {operators} with products, quotients, mods or rems, {delays} with delays of 0 that the current \
          value would not tell, {inertial} with inertial assignments that removed an unmarked transaction, \
-         {sets} with sets of several processes), {rows} changes of settled values, {differ} models differ",
+         {sets} with sets of several processes, {tables} with their own resolution table, {others} of them with \
+         values other than the standard's), {rows} changes of settled values, {differ} models differ",
         cases.len(),
     );
     let _ = std::fs::remove_dir_all(&dir);

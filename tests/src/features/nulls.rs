@@ -277,7 +277,8 @@ impl Play<'_> {
         } else if !off.is_empty() {
             let last =
                 |list: &[usize]| -> Vec<u8> { list.iter().map(|&d| self.last[d] as u8).collect() };
-            let with = |more: Vec<u8>| values::resolve(&[last(&on), more].concat()) as i32;
+            let table = self.m.table();
+            let with = |more| values::resolve_by(table, &[last(&on), more].concat()) as i32;
             let (as_z, as_last) = (with(vec![values::Z; off.len()]), with(last(&off)));
             self.see(BUS_AMONG, bus);
             self.see(REGISTER_AMONG, !bus);

@@ -79,16 +79,9 @@ impl Maker<'_> {
         }
     }
 
-    /// A constant; the model has each once.
-    fn constant(&mut self, kind: u8, k: i32) -> u16 {
-        let found = |n: &NodeRecord| (n.kind, n.k) == (kind, k);
-        let old = self.b.m.nodes.iter().position(found);
-        old.map_or_else(|| self.b.node(kind, 0, 0, k), |n| n as u16)
-    }
-
     fn integer(&mut self, low: i64, high: i64) -> u16 {
         let k = self.rng.range(low, high) as i32;
-        self.constant(1, k)
+        self.b.shared_constant(1, k)
     }
 
     fn line(&mut self) -> u16 {
@@ -110,7 +103,7 @@ impl Maker<'_> {
             2 => self.assignment(),
             3 => {
                 // Past a null, or through it.
-                let (x, one) = (self.integer(0, 1), self.constant(1, 1));
+                let (x, one) = (self.integer(0, 1), self.b.shared_constant(1, 1));
                 let less = self.b.binary(14, x, one);
                 self.b.unless(less, next + 2);
                 self.b.null();
@@ -134,7 +127,7 @@ impl Maker<'_> {
             return;
         }
         let code = self.rng.choose(&[2, 3, 3, 4, 6, 7, 8]);
-        let value = self.constant(2, code);
+        let value = self.b.shared_constant(2, code);
         let kind = self.rng.choose(&[2, 2, 7]);
         self.b.statement(kind, line, value, delay, 0);
     }
@@ -156,7 +149,7 @@ impl Maker<'_> {
         match self.rng.weighted(&[3, 2, 2, 2]) {
             0 => {
                 let (kind, x, y) = self.rng.choose(&FAULTS);
-                let (x, y) = (self.constant(1, x), self.constant(1, y));
+                let (x, y) = (self.b.shared_constant(1, x), self.b.shared_constant(1, y));
                 let value = self.b.binary(kind, x, y);
                 self.b.assign(self.variable, value);
             }
@@ -165,11 +158,11 @@ impl Maker<'_> {
                 self.b.wait(0, ABSENT, minus);
             }
             2 => {
-                let (zero, one) = (self.constant(1, 0), self.constant(1, 1));
+                let (zero, one) = (self.b.shared_constant(1, 0), self.b.shared_constant(1, 1));
                 let minus = self.b.binary(DIFFERENCE, zero, one);
                 let line = self.line();
                 self.driven.insert(line);
-                let value = self.constant(2, 3);
+                let value = self.b.shared_constant(2, 3);
                 self.b.schedule(line, value, minus);
             }
             _ => self.ninth(),
@@ -187,7 +180,10 @@ impl Maker<'_> {
         let guarded = self.b.m.signals[line as usize].kind != PLAIN;
         for n in 0..9 {
             let code = self.rng.choose(&[2, 3]);
-            let (value, delay) = (self.constant(2, code), self.constant(1, n + 1));
+            let (value, delay) = (
+                self.b.shared_constant(2, code),
+                self.b.shared_constant(1, n + 1),
+            );
             match guarded && self.rng.chance(1, 4) {
                 true => self.b.release(line, delay),
                 false => self.b.schedule(line, value, delay),

@@ -91,15 +91,8 @@ impl Maker<'_> {
         self.b.m.signals[signal as usize].kind != PLAIN
     }
 
-    /// A constant; the model has each once.
-    fn constant(&mut self, kind: u8, k: i32) -> u16 {
-        let found = |n: &NodeRecord| (n.kind, n.k) == (kind, k);
-        let old = self.b.m.nodes.iter().position(found);
-        old.map_or_else(|| self.b.node(kind, 0, 0, k), |n| n as u16)
-    }
-
     fn integer(&mut self, k: i32) -> u16 {
-        self.constant(1, k)
+        self.b.shared_constant(1, k)
     }
 
     /// An assignment after a delay of at least 0: null where the value is none.
@@ -136,8 +129,8 @@ impl Maker<'_> {
         let (one, other) = self.rng.choose(codes);
         Scene {
             signal,
-            one: self.constant(2, one as i32),
-            other: self.constant(2, other as i32),
+            one: self.b.shared_constant(2, one as i32),
+            other: self.b.shared_constant(2, other as i32),
         }
     }
 

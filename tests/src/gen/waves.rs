@@ -95,15 +95,8 @@ impl Maker<'_> {
         }
     }
 
-    /// A constant; the model has each once.
-    fn constant(&mut self, kind: u8, k: i32) -> u16 {
-        let found = |n: &NodeRecord| (n.kind, n.k) == (kind, k);
-        let old = self.b.m.nodes.iter().position(found);
-        old.map_or_else(|| self.b.node(kind, 0, 0, k), |n| n as u16)
-    }
-
     fn delay(&mut self, units: i64) -> u16 {
-        self.constant(1, units as i32 * self.unit)
+        self.b.shared_constant(1, units as i32 * self.unit)
     }
 
     /// One that gives its signals transactions at the same few times, again and again.
@@ -139,7 +132,7 @@ impl Maker<'_> {
                 self.b.unary(10, read)
             } else {
                 last = self.value(ty, last);
-                self.constant(1 + ty, last)
+                self.b.shared_constant(1 + ty, last)
             };
             self.b.schedule(s, value, delay);
         }
@@ -154,7 +147,7 @@ impl Maker<'_> {
         let ty = self.b.m.signals[s as usize].ty;
         let zero = self.delay(0);
         let (some, back) = (self.value(ty, 0), self.b.read_signal(s));
-        let some = self.constant(1 + ty, some);
+        let some = self.b.shared_constant(1 + ty, some);
         let v = self.b.variable(ty, self.b.m.processes.len() as u8 - 1, 0);
         self.b.assign(v, back);
         self.b.schedule(s, some, zero);
@@ -170,7 +163,7 @@ impl Maker<'_> {
         let v = self.b.variable(INTEGER, p, 0);
         let pause = self.rng.range(0, 12);
         let pause = self.delay(pause);
-        let zero = self.constant(1, 0);
+        let zero = self.b.shared_constant(1, 0);
         let fails = self.b.binary(QUOTIENT, zero, zero);
         self.b.wait(0, ABSENT, pause);
         self.b.assign(v, fails);

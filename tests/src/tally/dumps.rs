@@ -232,38 +232,35 @@ mod tests {
 
     #[test]
     fn wrong_bytes_are_found() {
-        let kernels: [(&str, Dump); 3] = [
-            ("proved kernel 0 behind its dump", &|m, o, out| {
+        let kernels: [(&[&str], Dump); 3] = [
+            (&["proved kernel 0 behind its dump"], &|m, o, out| {
                 let (number, length) = write(m, o, out);
                 out[length..].fill(0);
                 (number, length)
             }),
             // Written before a refusal.
-            ("proved kernel 36 behind its dump", &|m, o, out| {
+            (&["proved kernel 36 behind its dump"], &|m, o, out| {
                 let written = write(m, o, out);
                 if written.0 == OUTPUT && !out.is_empty() {
                     out[0] = b'$';
                 }
                 written
             }),
-            (
-                "second kernel \"z!\", proved kernel \"x!\"",
-                &|m, o, out| {
-                    let written = write(m, o, out);
-                    let text = &mut out[..written.1];
-                    for n in 1..text.len() {
-                        if text[n - 1] == b'\n' && text[n] == b'z' {
-                            text[n] = b'x';
-                        }
+            (&["second kernel \"z", "proved kernel \"x"], &|m, o, out| {
+                let written = write(m, o, out);
+                let text = &mut out[..written.1];
+                for n in 1..text.len() {
+                    if text[n - 1] == b'\n' && text[n] == b'z' {
+                        text[n] = b'x';
                     }
-                    written
-                },
-            ),
+                }
+                written
+            }),
         ];
         for (words, kernel) in kernels {
             let message = told(kernel);
-            let found = message.contains(": byte ") && message.ends_with(words);
-            assert!(found, "{words}: {message}");
+            let found = words.iter().all(|words| message.contains(words));
+            assert!(found && message.contains(": byte "), "{message}");
         }
     }
 

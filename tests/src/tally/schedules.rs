@@ -1,21 +1,29 @@
 //! Schedules of generated models: lists that pick the same statements one by one, by
 //! sets or by settles come to the same end with as many picks, and a set order does what
-//! single picks of its processes do in every arrangement. Each list is played here and,
-//! where one is given, by another kernel.
+//! single picks of its processes do in every arrangement. The signals of a model with its own
+//! resolution table have the same values where its processes, and so its drivers, are numbered
+//! otherwise. Each list is played here and, where one is given, by another kernel.
 
 use super::{part, play, print_shown, Session};
 use crate::cycle::{Config, Step, READY, STOPPED, WAITING};
 use crate::dump::{dump, DUMP};
 use crate::features::{replay, Player};
+use crate::gen::numbering::{place, renumbered};
 use crate::gen::{self, order, set_of, Played};
-use crate::model::{encode, Model};
+use crate::model::{encode, Model, LOGIC};
 use crate::moves::ADVANCE;
 use crate::numbers::Counts;
 use crate::rng::Rng;
 use crate::session::{session, ANSWER, DELTA, ORDER, PICK, PICK_SET, READ, SETTLE, TIME};
+use crate::values;
 
 /// Picks of a list that is arranged otherwise, at most.
 const MOST: usize = 1_000;
+
+/// Steps of a list that is played with processes numbered otherwise, and picks before each, at
+/// most.
+const STEPS: usize = 24;
+const PICKS: u16 = 500;
 
 /// How the picks of a list are arranged.
 const ONE_BY_ONE: &str = "single picks";
@@ -47,6 +55,14 @@ const SETS: [&str; 6] = [
     "a set of which one stops",
     "a set of which none stops, another had",
 ];
+/// What a delta step resolves by the model's own table, by models numbered otherwise: values
+/// that stand in another order, and of these such that the standard's table gives another.
+const NUMBERED: [&str; 4] = [
+    "two values in another order",
+    "three values or more in another order",
+    "two, the standard's table gives another",
+    "three or more, the standard's gives another",
+];
 
 #[derive(Default)]
 pub struct ScheduleTally {
@@ -63,6 +79,9 @@ pub struct ScheduleTally {
     /// Sets held against single picks, and the arrangements of these.
     pub sets: u64,
     pub arrangements: u64,
+    /// Models with their own table that are numbered otherwise, and the values read.
+    pub numbered: u64,
+    pub values: u64,
 }
 
 /// Arranges the lists of `n` models from seed `seed` on; model i has the seed `seed + i`.
@@ -80,6 +99,7 @@ pub fn schedules(n: u64, seed: u64, other: Option<Session>) -> Result<ScheduleTa
         t.models += 1;
         t.arrange(rng, &game, &orders)
             .and_then(|()| t.set(rng, &game, &orders))
+            .and_then(|()| t.renumber(rng, &game))
             .map_err(|found| format!("schedules: first difference at seed {seed}: {found}"))?;
     }
     Ok(t)
@@ -132,6 +152,24 @@ impl Game<'_> {
             Some(at) => Err(format!("{what}: another end, {}", part(at))),
             None => Ok(found),
         }
+    }
+}
+
+/// Err where a list has another answer, or signals have other values then, on two games whose
+/// processes are numbered otherwise.
+fn numbered_alike(game: &Game, other: &Game, orders: &[u8]) -> Result<(), String> {
+    let (a, b) = (game.play(orders)?, other.play(orders)?);
+    let pairs = a.answers.chunks(ANSWER).zip(b.answers.chunks(ANSWER));
+    let differ = pairs.enumerate().find(|(_, (one, two))| one != two);
+    if let Some((n, (one, two))) = differ {
+        let order = &orders[ORDER * n..][..ORDER];
+        return Err(format!(
+            "numbered otherwise: {two:?} to {order:?}, not {one:?}"
+        ));
+    }
+    match (a.end.time, a.end.signals, a.end.earlier) == (b.end.time, b.end.signals, b.end.earlier) {
+        true => Ok(()),
+        false => Err("numbered otherwise: another end".into()),
     }
 }
 
@@ -360,7 +398,14 @@ fn arrangements(rng: &mut Rng, list: &[usize]) -> Vec<Vec<usize>> {
 
 /// All that schedules must show.
 fn names() -> Vec<&'static str> {
-    [&FORMS[..], &REFUSED.map(|row| row.0), &ENDS, &SETS].concat()
+    [
+        &FORMS[..],
+        &REFUSED.map(|row| row.0),
+        &ENDS,
+        &SETS,
+        &NUMBERED,
+    ]
+    .concat()
 }
 
 impl ScheduleTally {
@@ -446,6 +491,53 @@ impl ScheduleTally {
         Ok(())
     }
 
+    /// Plays a model with its own table also with its processes numbered otherwise: settles
+    /// to rest, reads of all signals and the steps that fit.
+    fn renumber(&mut self, rng: &mut Rng, game: &Game) -> Result<(), String> {
+        let m = game.m;
+        if m.own_table().is_none() || m.processes.len() < 2 {
+            return Ok(());
+        }
+        let mut numbers: Vec<usize> = (0..m.processes.len()).collect();
+        match rng.chance(1, 2) {
+            true => numbers.reverse(),
+            false => rng.shuffle(&mut numbers),
+        }
+        let new = renumbered(m, &numbers);
+        let other = Game {
+            model: encode(&new),
+            m: &new,
+            ..*game
+        };
+        let mut list = Played::new(m);
+        let mut seen = [false; NUMBERED.len()];
+        for _ in 0..STEPS {
+            list.order(order(SETTLE, 0, PICKS));
+            if list.c.lowest_ready().is_some() {
+                // What is picked first then depends on the numbers.
+                list.orders.truncate(list.orders.len() - ORDER);
+                break;
+            }
+            let step = list.c.fitting();
+            if list.step() != 0 {
+                break;
+            }
+            for s in 0..m.signals.len() {
+                list.order(order(READ, s as u8, 0));
+                self.values += 1;
+                if step == Step::Delta {
+                    other_order(m, &list.c, &numbers, s, &mut seen);
+                }
+            }
+        }
+        numbered_alike(game, &other, &list.orders)?;
+        self.numbered += 1;
+        for (what, shown) in NUMBERED.into_iter().zip(seen) {
+            self.see(what, shown);
+        }
+        Ok(())
+    }
+
     /// Err where something occurred less often than `least`.
     pub fn require(&self, least: u64) -> Result<(), String> {
         let names = names();
@@ -470,14 +562,38 @@ impl ScheduleTally {
             self.sets, self.arrangements
         );
         print_shown("of them", &self.shown, &SETS);
+        println!(
+            "models with their own table numbered otherwise: {}, {} values read alike",
+            self.numbered, self.values
+        );
+        print_shown("of them", &self.shown, &NUMBERED);
     }
+}
+
+/// Looks at the values that are on a signal, in the order of its drivers and in that of the
+/// numbers: the rows of `NUMBERED`.
+fn other_order(m: &Model, c: &Config, numbers: &[usize], s: usize, seen: &mut [bool; 4]) {
+    let pairs = m.drivers.iter().zip(&c.drivers);
+    let own = pairs.filter(|(d, _)| d.signal as usize == s && m.signals[s].ty == LOGIC);
+    let on = own.filter_map(|(d, driver)| Some((place(numbers, d.process), driver.current?)));
+    let mut on: Vec<(usize, i32)> = on.collect();
+    let codes = |on: &[(usize, i32)]| -> Vec<u8> { on.iter().map(|v| v.1 as u8).collect() };
+    let before = codes(&on);
+    on.sort();
+    if before == codes(&on) {
+        return;
+    }
+    let many = (before.len() > 2) as usize;
+    seen[many] = true;
+    seen[2 + many] |= values::resolve(&before) as i32 != c.signals[s][0];
 }
 
 #[cfg(test)]
 mod tests {
     use super::*;
     use crate::builder::Builder;
-    use crate::cases::{inverter, inverter_orders, orders, team, Turn};
+    use crate::cases::{drivers, inverter, inverter_orders, orders, team, watched, Turn};
+    use crate::gen::tables::open_drain;
     use crate::tally::tests::own;
 
     fn game(b: &Builder) -> Game<'_> {
@@ -577,6 +693,45 @@ mod tests {
             "it: another end, process 0, standing"
         );
         assert!(told(&[1], &[2]).starts_with("it: another end, driver 0"));
+    }
+
+    #[test]
+    fn other_values_are_told() {
+        let b = drivers("01Z");
+        let (one, list) = (game(&b), watched(&b, 1));
+        let told = |change: fn(&mut Builder)| {
+            let mut b = b.clone();
+            b.m = renumbered(&b.m, &[2, 0, 1]);
+            change(&mut b);
+            numbered_alike(&one, &game(&b), &list)
+        };
+        assert_eq!(told(|_| ()), Ok(()));
+        // 0 with 1 is 0 then, and not X.
+        let message = told(|b| b.table(&open_drain())).unwrap_err();
+        assert!(message.contains("to [4, 0, 0, 0], not"), "{message}");
+        // A value of before alone.
+        let list = orders(&[(SETTLE, 0, 9)]);
+        let mut first = b.clone();
+        first.m.signals[0].start = 2;
+        assert!(numbered_alike(&one, &game(&first), &list).is_err());
+    }
+
+    // Which of the values stand in another order.
+    #[test]
+    fn orders_of_values() {
+        let of = |letters: &str, numbers: &[usize]| {
+            let b = drivers(letters);
+            let mut c = Config::first(&b.m);
+            c.settle(&b.m, 99);
+            c.step(&b.m, Step::Delta).unwrap();
+            let mut seen = [false; 4];
+            other_order(&b.m, &c, numbers, 0, &mut seen);
+            seen
+        };
+        assert_eq!(of("01", &[0, 1]), [false; 4]);
+        assert_eq!(of("11", &[1, 0]), [false; 4]);
+        assert_eq!(of("01", &[1, 0]), [true, false, false, false]);
+        assert_eq!(of("01Z", &[0, 2, 1]), [false, true, false, false]);
     }
 
     #[test]

@@ -1,14 +1,13 @@
 //! Lists a model and orders as the texts that `text.rs` reads.
 
+use crate::table;
 use second_kernel::model::*;
 use std::collections::BTreeSet;
 use std::fmt::Write;
 
-const CODES: &[u8] = b"UX01ZWLH-";
-
 fn value(ty: u8, v: i32) -> String {
     match ty {
-        LOGIC => format!("'{}'", CODES[v as usize] as char),
+        LOGIC => format!("'{}'", table::letter(v as u8)),
         BOOLEAN => (v == 1).to_string(),
         _ => v.to_string(),
     }
@@ -82,6 +81,10 @@ pub fn model(m: &Model) -> String {
     let mut out = String::new();
     for (n, s) in m.signals.iter().enumerate() {
         let _ = writeln!(out, "signal s{n} {}{} {}", type_name(s.ty), kind_name(s.kind), value(s.ty, s.start));
+    }
+    if !m.rows.is_empty() {
+        let rows: String = m.rows.iter().map(|row| format!("  {}\n", table::listed(row))).collect();
+        let _ = write!(out, "table\n{rows}");
     }
     let targets: BTreeSet<u16> = m.statements.iter().filter(|s| s.kind == 3 || s.kind == 4).map(|s| s.a).collect();
     for (p, q) in m.processes.iter().enumerate() {
@@ -175,6 +178,7 @@ mod tests {
     #[test]
     fn a_listing_makes_a_model_that_does_the_same() {
         let (mut compared, mut with_null, mut with_inertial, mut with_division, mut with_delay_0, mut failed) = (0, 0, 0, 0, 0, 0);
+        let mut with_table = 0;
         for seed in 0..4_000 {
             let mut rng = Rng::new(seed);
             let m = gen::model(&mut rng);
@@ -190,6 +194,7 @@ mod tests {
                 with_inertial += m.statements.iter().any(|s| s.kind == 7) as usize;
                 with_division += m.nodes.iter().any(|d| (16..=18).contains(&d.kind)) as usize;
                 with_delay_0 += m.nodes.iter().any(|d| d.kind == 5 && d.k == 0) as usize;
+                with_table += !m.rows.is_empty() as usize;
             }
         }
         assert!(compared > 500, "{compared} models compared");
@@ -197,6 +202,7 @@ mod tests {
         assert!(with_inertial > 100, "{with_inertial} of them with an inertial assignment");
         assert!(with_division > 100, "{with_division} of them with a division");
         assert!(with_delay_0 > 50, "{with_delay_0} of them with a delay of 0");
+        assert!(with_table > 50, "{with_table} of them with a table of their own");
         assert!(failed > 30, "{failed} nodes that failed");
     }
 
@@ -240,6 +246,21 @@ process p1
 ";
         let blocks = text::model(listed).expect("a listing is a model text");
         assert_eq!(model(&load(&blocks).expect("an accepted model")), listed);
+    }
+
+    // Of all codes, and of few, many of them 8, whose letter starts comments elsewhere; most of these tables are refused.
+    #[test]
+    fn a_listed_table_is_made_again() {
+        let mut m = made_again(&cases::inverter().m).expect("an accepted model");
+        let mut rng = Rng::new(10);
+        for n in 0..300 {
+            let codes = [9, 2, 1][n % 3];
+            m.rows = vec![[0; 9]; 9];
+            m.rows.iter_mut().flatten().for_each(|code| *code = 8 - rng.below(codes) as u8);
+            let listed = model(&m);
+            assert!(listed.starts_with("signal s0 logic '0'\nsignal s1 logic '0'\ntable\n  "), "{listed}");
+            assert_eq!(text::model(&listed), Ok(encode(&m)), "{listed}");
+        }
     }
 
     #[test]

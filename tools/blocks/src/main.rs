@@ -4,6 +4,7 @@
 mod explain;
 mod list;
 mod moves;
+mod table;
 mod text;
 
 use second_kernel::model::{self, Model};
@@ -53,10 +54,11 @@ fn write(name: &str, bytes: &[u8]) -> Result<(), String> {
 fn run(words: &[&str]) -> Result<(), String> {
     match words {
         ["make", from, to] => {
-            let bytes = text::model(&read_text(from)?).map_err(|e| format!("{from}: {e}"))?;
+            let text = read_text(from)?;
+            let bytes = text::model(&text).map_err(|e| format!("{from}: {e}"))?;
             match model::judge(&bytes) {
                 0 => write(to, &bytes),
-                n => Err(format!("{from}: the kernel would refuse this model with {n}")),
+                n => Err(format!("{from}: {}", text::refusal(&text, n))),
             }
         }
         ["list", from] => {
@@ -114,6 +116,7 @@ mod tests {
     use super::*;
     use second_kernel::cases;
     use second_kernel::folder::Folder;
+    use second_kernel::values::STANDARD;
 
     /// The inverter's orders of before: settle 10, advance three times, settle 10, advance twice, read 1.
     #[rustfmt::skip]
@@ -131,6 +134,69 @@ mod tests {
         let said = run(&["move", &name("model"), &name("orders"), &name(new)]);
         let said = said.map_err(|e| e.replace(&name(""), ""));
         (said, read(&name(new)).expect("a file"))
+    }
+
+    /// What `run` says of this command with a file `from` of these bytes, and what the file `to` has then, if it is there.
+    fn run_on(command: &str, bytes: &[u8]) -> (Result<(), String>, Option<Vec<u8>>) {
+        let folder = Folder::new().expect("a folder");
+        let name = |file: &str| folder.0.join(file).display().to_string();
+        folder.put("from", bytes).expect("a file");
+        let (from, to) = (name("from"), name("to"));
+        let said = match command {
+            "make" => run(&[command, &from, &to]),
+            _ => run(&[command, &from]),
+        };
+        (said.map_err(|e| e.replace(&name(""), "")), read(&to).ok())
+    }
+
+    /// The inverter with a table of its own, the standard's.
+    fn with_table() -> Model {
+        let mut b = cases::inverter();
+        b.table(&STANDARD);
+        b.m
+    }
+
+    #[test]
+    fn a_refused_table_is_told_and_no_model_is_written() {
+        let m = with_table();
+        let (said, written) = run_on("make", list::model(&m).as_bytes());
+        assert_eq!((said, written.map(|blocks| model::judge(&blocks))), (Ok(()), Some(0)));
+        let mut asymmetric = m.clone();
+        asymmetric.rows[2][3] = 2;
+        let mut neither = asymmetric.clone();
+        neither.rows[8][8] = 3;
+        let pair = "from: line 6: the table is not symmetric: row 0, column 1 has 0, and row 1, column 0 has X; \
+                    the kernel would refuse this model with 24";
+        let mut triple = m.clone();
+        triple.rows[8][8] = 3;
+        let triple_told = "from: line 7: the table is not associative: 1 with - is X, and that with - is X; but - with - is 1, \
+                           and 1 with that is 1; the kernel would refuse this model with 25";
+        for (refused, told) in [(asymmetric, pair), (neither, pair), (triple, triple_told)] {
+            assert_eq!(run_on("make", list::model(&refused).as_bytes()), (Err(told.to_string()), None));
+        }
+    }
+
+    #[test]
+    fn a_refused_table_is_not_listed() {
+        let m = with_table();
+        assert_eq!(run_on("list", &model::encode(&m)), (Ok(()), None));
+        let changed = |change: fn(&mut Model)| {
+            let mut m = m.clone();
+            change(&mut m);
+            model::encode(&m)
+        };
+        for (blocks, number) in [
+            (changed(|m| m.rows.truncate(8)), 4),
+            (changed(|m| m.rows.truncate(1)), 4),
+            (changed(|m| m.rows.push([0; 9])), 4),
+            (changed(|m| m.rows[3][8] = 9), 5),
+            (changed(|m| m.rows[8][0] = 255), 5),
+            (changed(|m| m.rows[2][3] = 2), 24),
+            (changed(|m| m.rows[8][8] = 3), 25),
+        ] {
+            let error = format!("from: the kernel refuses this model with {number}");
+            assert_eq!(run_on("list", &blocks), (Err(error), None));
+        }
     }
 
     #[cfg(not(feature = "library"))]

@@ -1,6 +1,7 @@
 //! Reads model texts and order texts. One item a line; `--` starts a comment.
 //!
 //!     signal NAME TYPE [bus|register] VALUE
+//!     table                           the model's own resolution table: its nine rows are the lines that follow
 //!     process NAME                    opens a process: what follows is its own
 //!     variable NAME TYPE VALUE
 //!     LABEL:                          names the next statement
@@ -21,6 +22,11 @@
 //! for earlier times stays. With `inertial` (kind 7) only the transactions right before the new one that have its value stay, so
 //! a pulse shorter than the delay vanishes. VHDL's own default is inertial: there an assignment without a word is what `inertial`
 //! is here. Null has no inertial form.
+//!
+//! A table stands where a signal can, at most once. A row is nine of the characters U X 0 1 Z W L H -, with blanks between them or
+//! none; rows and columns are in that order. `-` is a value there: nine values are read first, and `--` among them starts no
+//! comment. `table` alone on a line begins a table; elsewhere it may be a name. The kernel refuses a table that is not symmetric
+//! (24) or not associative (25).
 //!
 //! EXPRESSION: an integer, a logic value as '0' or 'U', a name, `SIGNAL delayed K`, `not e`, `- e`, `e OP e` with OP one of
 //! `and or xor = < + - * / mod rem`, and parentheses. As in VHDL, `not` binds strongest, then `* / mod rem`, `+ -`, `= <`, and
@@ -47,11 +53,10 @@
 //! A process stands in a set once; which stands first does not matter. `advance` is for texts of before: their orders are made as
 //! they were, with a warning, and `blocks move` moves them over.
 
+use crate::table;
 use second_kernel::model::*;
 use std::collections::BTreeSet;
 use std::fmt;
-
-const CODES: &str = "UX01ZWLH-";
 
 #[derive(Clone, PartialEq, Debug)]
 enum Token {
@@ -66,7 +71,7 @@ impl fmt::Display for Token {
         match self {
             Token::Word(w) => write!(f, "`{w}`"),
             Token::Number(n) => write!(f, "`{n}`"),
-            Token::Logic(c) => write!(f, "`'{}'`", CODES.as_bytes()[*c as usize] as char),
+            Token::Logic(c) => write!(f, "`'{}'`", table::letter(*c)),
             Token::Sign(s) => write!(f, "`{s}`"),
         }
     }
@@ -99,9 +104,12 @@ fn not_reserved(word: String) -> Result<String, String> {
     Ok(word)
 }
 
+fn uncommented(line: &str) -> &str {
+    line.split("--").next().unwrap_or("")
+}
+
 fn tokens(line: &str) -> Result<Vec<Token>, String> {
-    let line = line.split("--").next().unwrap_or("");
-    let mut rest = line.trim_start();
+    let mut rest = uncommented(line).trim_start();
     let mut out = Vec::new();
     while let Some(c) = rest.chars().next() {
         let used = if c.is_ascii_digit() {
@@ -113,9 +121,9 @@ fn tokens(line: &str) -> Result<Vec<Token>, String> {
             out.push(Token::Word(rest[..n].to_string()));
             n
         } else if c == '\'' {
-            let value = rest[1..].chars().next().and_then(|v| CODES.find(v));
+            let value = rest[1..].chars().next().and_then(table::code);
             match (value, rest.get(2..3)) {
-                (Some(v), Some("'")) => out.push(Token::Logic(v as u8)),
+                (Some(v), Some("'")) => out.push(Token::Logic(v)),
                 _ => return Err("a logic value is one of U X 0 1 Z W L H - between quotes".to_string()),
             }
             3
@@ -147,6 +155,8 @@ struct Reader {
     // a jump: the statement, the label and the line
     jumps: Vec<(usize, String, usize)>,
     drivers: BTreeSet<(u8, u8)>,
+    // the lines of `table` and of its rows
+    table: Vec<usize>,
     items: Vec<Token>,
     at: usize,
 }
@@ -358,9 +368,41 @@ impl Reader {
         }
     }
 
+    fn open_table(&mut self, line: usize) -> Result<(), String> {
+        if let Some(first) = self.table.first() {
+            return Err(format!("a second table: line {first} has the model's table"));
+        }
+        self.table.push(line);
+        Ok(())
+    }
+
+    /// Is the table under way, and the line one of its own, a row or a comment?
+    fn in_table(&mut self, line: &str, number: usize) -> Result<bool, String> {
+        let row = table::row(line);
+        let said = uncommented(line).trim();
+        if self.table.is_empty() || self.model.rows.len() == 9 {
+            return match row {
+                Some(_) if !said.is_empty() => {
+                    Err("a row outside a table: a table is the word `table` and the nine rows that follow".to_string())
+                }
+                _ => Ok(false),
+            };
+        }
+        match row {
+            Some(row) => {
+                self.table.push(number);
+                self.model.rows.push(row);
+            }
+            None if !said.is_empty() => return Err(table::no_row(said, self.model.rows.len() as u8)),
+            None => {}
+        }
+        Ok(true)
+    }
+
     fn item(&mut self, line: usize) -> Result<(), String> {
         let word = self.word()?;
         match word.as_str() {
+            "table" if self.peek().is_none() => self.open_table(line),
             "signal" | "variable" => {
                 let name = self.new_name()?;
                 let ty = type_of(&self.word()?)?;
@@ -400,11 +442,13 @@ impl Reader {
     }
 }
 
-/// The blocks of a model text.
-pub fn model(text: &str) -> Result<Vec<u8>, String> {
+fn read(text: &str) -> Result<Reader, String> {
     let mut r = Reader::default();
     for (i, line) in text.lines().enumerate() {
         let at = |e: String| format!("line {}: {e}", i + 1);
+        if r.in_table(line, i + 1).map_err(at)? {
+            continue;
+        }
         r.items = tokens(line).map_err(at)?;
         r.at = 0;
         if !r.items.is_empty() {
@@ -419,7 +463,24 @@ pub fn model(text: &str) -> Result<Vec<u8>, String> {
         r.model.statements[s].a = target.ok_or_else(|| format!("line {line}: there is no label `{label}`"))?.1;
     }
     r.model.drivers = r.drivers.iter().map(|&(process, signal)| DriverRecord { process, signal }).collect();
-    Ok(encode(&r.model))
+    match r.table.first() {
+        Some(line) if r.model.rows.len() < 9 => Err(format!("line {line}: the table has {} rows, not nine", r.model.rows.len())),
+        _ => Ok(r),
+    }
+}
+
+/// The blocks of a model text.
+pub fn model(text: &str) -> Result<Vec<u8>, String> {
+    Ok(encode(&read(text)?.model))
+}
+
+/// What is told of a text whose model the kernel refuses with this number.
+pub fn refusal(text: &str, number: u32) -> String {
+    let why = read(text).ok().and_then(|r| {
+        let (row, shown) = table::refusal(r.model.own_table()?, number)?;
+        Some(format!("line {}: {shown}; ", r.table[1 + row as usize]))
+    });
+    format!("{}the kernel would refuse this model with {number}", why.unwrap_or_default())
 }
 
 /// What is told of a line that is no order.
@@ -796,6 +857,141 @@ process p0
         ] {
             let text = format!("signal s logic bus 'Z'\nprocess p\nvariable v logic '0'\n{statement}");
             assert_eq!(model(&text), Err(format!("line 4: {error}")), "{statement}");
+        }
+    }
+
+    // The standard's, as document 01 prints it.
+    const ROWS: [&str; 9] =
+        ["UUUUUUUUU", "UXXXXXXXX", "UX0X0000X", "UXX11111X", "UX01ZWLHX", "UX01WWWWX", "UX01LWLWX", "UX01HWWHX", "UXXXXXXXX"];
+
+    /// A model text with these rows, and behind them the process p, which waits.
+    fn with_rows(rows: &[&str]) -> String {
+        let rows: String = rows.iter().map(|row| format!("  {row}\n")).collect();
+        format!("table\n{rows}process p\nwait\n")
+    }
+
+    // The blocks of the table are those without it and one more, of the nine rows.
+    #[test]
+    fn a_table_of_the_models_own() {
+        let rest = model("process p\nwait").expect("a model text");
+        let blocks = model(&with_rows(&ROWS)).expect("a model text");
+        let (before, last) = blocks.split_at(rest.len());
+        assert_eq!(before, rest);
+        assert_eq!(last.len(), BLOCK);
+        assert_eq!(last[..4], [2, 0, 7, 9]);
+        for (n, row) in ROWS.iter().enumerate() {
+            let codes: Vec<u8> = row.bytes().map(second_kernel::values::code).collect();
+            assert_eq!(last[4 + RECORD * n..][..RECORD], [&codes[..], &[0; 3]].concat(), "{row}");
+        }
+        assert_eq!(judge(&blocks), 0);
+        assert_eq!(list::model(&load(&blocks).expect("an accepted model")), with_rows(&ROWS).replace("p\nwait", "p0\n  wait"));
+    }
+
+    // Anywhere a signal can, and also where its rows have blanks, empty lines and comments between.
+    #[test]
+    fn where_a_table_stands() {
+        let table = format!("table\n{}\n", ROWS.join("\n"));
+        let blanks = ROWS.map(|row| row.chars().map(|c| format!(" {c}")).collect::<String>()).join(" -- a row\n\n");
+        let commented = format!("\ttable -- rows and columns\n-- U X 0 1 Z W L H -\n{blanks}-- the last\n--\n");
+        let items =
+            ["signal s logic 'Z'\n", "process p\n", "variable v logic '0'\n", "l:\n", "v := s\n", "goto l"].map(String::from);
+        let expected = model(&[&table, &items.concat()].map(String::as_str).concat()).expect("a model text");
+        assert_eq!(load(&expected).map(|m| m.rows.len()), Ok(9));
+        for place in 0..=items.len() {
+            for table in [&table, &commented] {
+                let mut lines = items.to_vec();
+                lines.insert(place, format!("\n{table}"));
+                assert_eq!(model(&lines.concat()).as_ref(), Ok(&expected), "{place}");
+            }
+        }
+    }
+
+    // Among a row's nine characters `--` starts no comment.
+    #[test]
+    fn rows_of_dashes() {
+        let blocks = model(&with_rows(&["---------"; 9])).expect("a model text");
+        let m = load(&blocks).expect("an accepted model");
+        assert_eq!(m.rows, [[8; 9]; 9]);
+        assert_eq!(model(&list::model(&m)), Ok(blocks));
+        // A tenth line of them is a comment, as elsewhere.
+        assert_eq!(model(&with_rows(&["---------"; 10])), model(&with_rows(&["---------"; 9])));
+    }
+
+    #[test]
+    fn table_may_be_a_name() {
+        for text in [
+            "signal table logic '0'\nprocess p\ntable <= not table after 0\nwait on table",
+            "process table\nvariable table integer 0\ntable := table + 1\nwait",
+            "process p\ntable:\nwait\ngoto table",
+        ] {
+            let blocks = model(text).expect(text);
+            assert_eq!(judge(&blocks), 0, "{text}");
+            assert!(load(&blocks).expect(text).rows.is_empty(), "{text}");
+        }
+    }
+
+    #[test]
+    fn wrong_tables_are_told_with_their_line() {
+        let outside = "a row outside a table: a table is the word `table` and the nine rows that follow";
+        let table = with_rows(&ROWS);
+        let changed = |number: usize, row: &'static str| {
+            let mut rows = ROWS;
+            rows[number] = row;
+            with_rows(&rows)
+        };
+        for (text, line, error) in [
+            (with_rows(&ROWS[..8]), 10, "`p` is none of U X 0 1 Z W L H -: the table's row of - is due here"),
+            (with_rows(&[]), 2, "`p` is none of U X 0 1 Z W L H -: the table's row of U is due here"),
+            ("process p\nwait\ntable\n".to_string(), 3, "the table has 0 rows, not nine"),
+            (format!("process p\nwait\n\ntable\n{}", ROWS[..8].join("\n-- \n")), 4, "the table has 8 rows, not nine"),
+            (with_rows(&[&ROWS[..], &ROWS[8..]].concat()), 11, outside),
+            (with_rows(&[&ROWS[..], &["", "-- the tenth", "0 0 0 0 0 0 0 0 0"]].concat()), 13, outside),
+            (format!("{table}U X 0 1 Z W L H - -- a header"), 13, outside),
+            (ROWS.join("\n"), 1, outside),
+            (changed(0, "UUUUUUUU"), 2, "the table's row of U has nine values, not 8"),
+            (changed(2, "UX0X0000XX"), 4, "the table's row of 0 has nine values, not 10"),
+            (changed(2, "UX0X0000X - -"), 4, "the table's row of 0 has nine values, not 11"),
+            (changed(3, "UXX1111 -- seven"), 5, "the table's row of 1 has nine values, not 7"),
+            (changed(8, "U"), 10, "the table's row of - has nine values, not 1"),
+            (changed(4, "UX01zWLHX"), 6, "`z` is none of U X 0 1 Z W L H -: the table's row of Z is due here"),
+            (changed(5, "UX01W?WWX"), 7, "`?` is none of U X 0 1 Z W L H -: the table's row of W is due here"),
+            (changed(6, "UX01LWLWX, W"), 8, "`,` is none of U X 0 1 Z W L H -: the table's row of L is due here"),
+            (changed(7, "'UX01HWWHX'"), 9, "`'` is none of U X 0 1 Z W L H -: the table's row of H is due here"),
+            (format!("{table}{table}"), 13, "a second table: line 1 has the model's table"),
+            (format!("-- one\n{table}\ntable"), 15, "a second table: line 2 has the model's table"),
+            (changed(8, "table"), 10, "`t` is none of U X 0 1 Z W L H -: the table's row of - is due here"),
+            (table.replace("table", "table UUUUUUUUU"), 1, "`table` begins no item"),
+            (table.replace("table", "Table"), 1, "`Table` begins no item"),
+        ] {
+            assert_eq!(model(&text), Err(format!("line {line}: {error}")), "{text}");
+        }
+    }
+
+    // Like wrong types, this is the kernel's to refuse; the entries are told where the table is what it refuses.
+    #[test]
+    fn refused_tables_are_told_with_their_line() {
+        let zero_z = "the table is not symmetric: row 0, column Z has Z, and row Z, column 0 has 0; ";
+        let zero_dash_dash =
+            "the table is not associative: 0 with - is X, and that with - is X; but - with - is 0, and 0 with that is 0; ";
+        let l_l_h = "the table is not associative: L with L is H, and that with H is H; but L with H is W, and L with that is W; ";
+        let changed = |changes: &[(usize, &'static str)]| {
+            let mut rows = ROWS;
+            changes.iter().for_each(|&(n, row)| rows[n] = row);
+            with_rows(&rows)
+        };
+        let asymmetric = changed(&[(2, "UX0XZ000X")]);
+        for (text, number, told) in [
+            (with_rows(&ROWS), 0, String::new()),
+            (asymmetric.clone(), 24, format!("line 4: {zero_z}")),
+            (changed(&[(2, "UX0XZ000X -- 0"), (8, "UXXXXXXX0")]), 24, format!("line 4: {zero_z}")),
+            (format!("-- one\n{asymmetric}").replace("  UX0XZ", "\n-- 0\n  UX0XZ"), 24, format!("line 7: {zero_z}")),
+            (changed(&[(8, "UXXXXXXX0")]), 25, format!("line 4: {zero_dash_dash}")),
+            (changed(&[(6, "UX01LWHWX")]), 25, format!("line 8: {l_l_h}")),
+            (format!("{asymmetric}wait until 1"), 7, String::new()),
+            (format!("signal s logic '0'\n{asymmetric}s <= null after 0"), 20, String::new()),
+        ] {
+            assert_eq!(model(&text).map(|blocks| judge(&blocks)), Ok(number), "{text}");
+            assert_eq!(refusal(&text, number), format!("{told}the kernel would refuse this model with {number}"), "{text}");
         }
     }
 

@@ -23,12 +23,16 @@ nodes-ok-requires c κs = c .before .before .before .before .before .before .pre
 statements-ok-requires : tie.Need-statements-ok-requires
 statements-ok-requires c κs = c .before .before .before .before .before .before .before .pre
 
+rows-ok-requires : tie.Need-rows-ok-requires
+rows-ok-requires c κs = c .before .before .before .before .before .before .before .before .pre
+
 returns : tie.Need-returns
 returns c =
-    let d = c .before .before in
+    let n = c .before .before in
+    let d = n .before in
     let p = d .before .before in
-    fields-form _ (p .before .before .signals-ok .ensures) (p .before .variables-ok .ensures) (p .processes-ok .ensures) (d .before .all-covered .ensures) (d .drivers-ok .ensures) (c .before .nodes-ok .ensures)
-    (c .statements-ok .ensures)
+    fields-form _ (p .before .before .signals-ok .ensures) (p .before .variables-ok .ensures) (p .processes-ok .ensures) (d .before .all-covered .ensures) (d .drivers-ok .ensures) (n .nodes-ok .ensures)
+    (c .before .statements-ok .ensures) (c .rows-ok .ensures)
 
 pub fields-ok-spec : {M : Type 1} → statement M
 fields-ok-spec =
@@ -41,4 +45,5 @@ fields-ok-spec =
     drivers-ok-requires
     nodes-ok-requires
     statements-ok-requires
+    rows-ok-requires
     returns)

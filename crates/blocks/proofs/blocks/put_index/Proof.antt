@@ -11,10 +11,10 @@ use Rattle.blocks.proofs.blocks.put_index.Statement.{statement}
 use Rattle.blocks.proofs.blocks.put_index.Tie as tie
 
 abbrev Inv-loop : tie.InvT-loop
-Inv-loop m out₀ kind₀ out kind = (1 ≤ kind) × (kind ≤ 7) × (length out ≡ length out₀) × Filled m kind out
+Inv-loop m out₀ kind₀ out kind = (1 ≤ kind) × (kind ≤ 8) × (length out ≡ length out₀) × Filled m kind out
 
 abbrev μ-loop : tie.MeasureT-loop
-μ-loop m out₀ kind₀ out kind = 7 - kind
+μ-loop m out₀ kind₀ out kind = 8 - kind
 
 loop-holds : tie.Need-loop-holds Inv-loop μ-loop
 loop-holds c = let a = c .before .before in (search needs, search needs, refl, filled-none _ (a .pre .1 .0) (a .pre .1 .1 .0) (a .args .out .now))
@@ -51,7 +51,7 @@ same-length c = search needs
 returns : tie.Need-returns Inv-loop μ-loop
 returns c =
     let a = c .before .before .before .before in
-    let e : c .before .loop .kind ≡ 7 = omega arith in
+    let e : c .before .loop .kind ≡ 8 = omega arith in
     filled-all _ (a .pre .1 .0) (a .pre .1 .1 .0) (c .before .loop .out) (rw e at (c .before .loop .inv .3))
 
 pub put-index-spec : {M : Type 1} → statement M

@@ -1,5 +1,5 @@
 use mathlib.Core.Path.{sym, _∙_}
-use Rattle.blocks.proofs.Lookup.{signals-length, variables-length, processes-length, drivers-length, nodes-length, statements-length}
+use Rattle.blocks.proofs.Lookup.{signals-length, variables-length, processes-length, drivers-length, nodes-length, statements-length, rows-length}
 use Rattle.blocks.proofs.blocks.totals.Statement.{statement}
 use Rattle.blocks.proofs.blocks.totals.Tie as tie
 
@@ -21,9 +21,13 @@ total-requires-5 c κs = tt
 total-requires-6 : tie.Need-total-requires-6
 total-requires-6 c κs = tt
 
+total-requires-7 : tie.Need-total-requires-7
+total-requires-7 c κs = tt
+
 returns : tie.Need-returns
 returns c =
-    let c5 = c .before in
+    let c6 = c .before in
+    let c5 = c6 .before in
     let c4 = c5 .before in
     let c3 = c4 .before in
     let c2 = c3 .before in
@@ -33,7 +37,8 @@ returns c =
       processes = c3 .total3 .ensures ∙ sym (processes-length _);
       drivers = c4 .total4 .ensures ∙ sym (drivers-length _);
       nodes = c5 .total5 .ensures ∙ sym (nodes-length _);
-      statements = c .total6 .ensures ∙ sym (statements-length _);
+      statements = c6 .total6 .ensures ∙ sym (statements-length _);
+      rows = c .total7 .ensures ∙ sym (rows-length _);
     }
 
 pub totals-spec : {M : Type 1} → statement M
@@ -46,4 +51,5 @@ totals-spec =
     total-requires-4
     total-requires-5
     total-requires-6
+    total-requires-7
     returns)

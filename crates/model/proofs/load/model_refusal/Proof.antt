@@ -5,7 +5,9 @@ use Rattle.blocks.specs.Records.{modelOf}
 use Rattle.fields.specs.Fields.{fieldsOk}
 use Rattle.trees.specs.Trees.{treesOk, typesOk}
 use Rattle.model.specs.Owners.{ownersOk}
-use Rattle.model.proofs.Rules.{fields-fail, trees-fail, types-fail, owners-fail, nulls-fail, all-hold}
+use Rattle.model.specs.Nulls.{nullsOk}
+use Rattle.model.proofs.Entries.{table-put}
+use Rattle.model.proofs.Rules.{fields-fail, trees-fail, types-fail, owners-fail, nulls-fail, table-decides}
 use Rattle.model.proofs.load.model_refusal.Statement.{statement}
 use Rattle.model.proofs.load.model_refusal.Tie as tie
 
@@ -72,12 +74,30 @@ returns-5 c =
     let c2 = c3 .before .before .before in
     nulls-fail _ _ (fields (c2 .before .before .before)) (trees c2) (types c3) (owners c4) (sym (c .before .nulls-ok .ensures) ∙ not-true _ (c .if5 .taken))
 
+nulls : (c : tie.Else5) → nullsOk (modelOf (c .before .before .before .before .before .before .before .before .before .before .before .before .before .before .before .before .args .m .now)) ≡ true
+nulls c = sym (c .before .nulls-ok .ensures) ∙ not-false _ (c .if5 .left)
+
+put-table-requires : tie.Need-put-table-requires
+put-table-requires c κs =
+    let d = c .before .before .before .before .before .owners-ok .ensures .1 in
+    let c1 = c .before .before .before .before .before .before .before .before .before .before .before .before .before in
+    (d .types .size, (d .types .starts, c1 .before .before .before .before .pre .1 .1))
+
+table-refusal-requires : tie.Need-table-refusal-requires
+table-refusal-requires c κs =
+    let p = c .before in
+    let c4 = p .before .before .before .before .before in
+    let c1 = c4 .before .before .before .before .before .before .before .before .before in
+    (table-put _ _ _ (c4 .before .owners-ok .ensures .1) (p .put-table .ensures), c1 .before .before .before .before .pre .1 .1)
+
 returns-6 : tie.Need-returns-6
 returns-6 c =
-    let c4 = c .before .before .before in
+    let p = c .before .before in
+    let c5 = p .before .before in
+    let c4 = c5 .before .before .before in
     let c3 = c4 .before .before .before in
     let c2 = c3 .before .before .before in
-    all-hold _ _ (fields (c2 .before .before .before)) (trees c2) (types c3) (owners c4) (sym (c .before .nulls-ok .ensures) ∙ not-false _ (c .if5 .left)) (c4 .before .owners-ok .ensures .1)
+    table-decides _ _ (fields (c2 .before .before .before)) (trees c2) (types c3) (owners c4) (nulls c5) _ (c4 .before .owners-ok .ensures .1) (p .put-table .ensures) _ (c .table-refusal .ensures)
 
 pub model-refusal-spec : {M : Type 1} → statement M
 model-refusal-spec =
@@ -93,4 +113,6 @@ model-refusal-spec =
     returns-4
     nulls-ok-requires
     returns-5
+    put-table-requires
+    table-refusal-requires
     returns-6)

@@ -8,37 +8,23 @@ use Rattle.steps.proofs.resolve.resolved.Statement.{statement}
 use Rattle.steps.proofs.resolve.resolved.Tie as tie
 
 abbrev Inv-loop : tie.InvT-loop
-Inv-loop m index currents ndrivers s other found₀ v₀ k₀ found v k = (k ≤ ndrivers) × Resolving (modelOf m) currents s other k found v
+Inv-loop m index currents ndrivers s other table found₀ v₀ k₀ found v k = (k ≤ ndrivers) × Resolving (modelOf m) currents s other k found v
 
 abbrev μ-loop : tie.MeasureT-loop
-μ-loop m index currents ndrivers s other found₀ v₀ k₀ found v k = ndrivers - k
+μ-loop m index currents ndrivers s other table found₀ v₀ k₀ found v k = ndrivers - k
 
 loop-holds : tie.Need-loop-holds Inv-loop μ-loop
 loop-holds c = search (needs, resolving-none)
 
 driver-at-requires : tie.Need-driver-at-requires Inv-loop μ-loop
-driver-at-requires c κs = search needs
-
-mul-x : tie.Need-mul-x Inv-loop μ-loop
-mul-x c = search needs
-
-element-copy-out-x : tie.Need-element-copy-out-x Inv-loop μ-loop
-element-copy-out-x c = search needs
-
-joined-requires : tie.Need-joined-requires Inv-loop μ-loop
-joined-requires c κs = search needs
-
-add-k : tie.Need-add-k Inv-loop μ-loop
-add-k c = search needs
-
-loop-less : tie.Need-loop-less Inv-loop μ-loop
-loop-less c = search needs
+driver-at-requires c κs = let p = c .before .before .before .before .before .pre in (p .0 .usable .starts, rw (p .1) at (c .loop-test .taken))
 
 loop-again : tie.Need-loop-again Inv-loop μ-loop
 loop-again c =
     let head = c .before .before .before .before .before .loop in
     let d = c .before .before .before .driver-at .ensures in
-    (search needs, resolving-more _ _ _ _ (head .k) _ _ _ _ (ap (λ (d : DriverRecord). d .signal) d) (c .joined .ensures) (head .inv .1))
+    let t = c .before .before .before .before .before .before .before .before .before .pre .0 .usable .table .table in
+    (search needs, resolving-more _ _ _ _ _ t (head .k) _ _ _ _ (ap (λ (d : DriverRecord). d .signal) d) (c .joined .ensures) (head .inv .1))
 
 returns : tie.Need-returns Inv-loop μ-loop
 returns c = search (needs, resolving-all)
@@ -49,12 +35,16 @@ resolved-spec =
     (tie.spec
     Inv-loop
     μ-loop
+    (λ c. search needs)
+    (λ c. search needs)
+    (λ c. search needs)
+    (λ c. search needs)
     loop-holds
     driver-at-requires
-    mul-x
-    element-copy-out-x
-    joined-requires
-    add-k
-    loop-less
+    (λ c. search needs)
+    (λ c. search needs)
+    (λ c κs. search needs)
+    (λ c. search needs)
+    (λ c. search needs)
     loop-again
     returns)
