@@ -133,6 +133,7 @@ pub record StatementOf (M : Model) (n : ℕ) : Type 0 where
 -- an accepted model
 pub record Facts (M : Model) : Type 0 where
   pub totals : TotalsFit M
+  -- the order of two values, and the grouping of three, is free in its pair table
   pub pairs : PairLaws (pairIn (tableOf M))
   pub signal : (n : ℕ) → n < length (M .signals) → SignalFits M n
   pub variable : (n : ℕ) → n < length (M .variables) → VariableFits M n

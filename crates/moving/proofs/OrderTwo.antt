@@ -2,15 +2,14 @@
 use mathlib.Core.Path.{_≡_, refl, sym, _∙_}
 use mathlib.Core.Bool.{true, false, true≢false, _&&_}
 use mathlib.Core.Option.{Option, none, some}
-use Prim.Native.Nat.{ℕ, zero, suc}
-use native.Mathlib.Numerals.{add-one}
+use Prim.Native.Nat.{ℕ}
 use native.Mathlib.Omega.{arith}
 use borrow.Author.Tests.{eq-eqb, ne-eqb}
 use lib.Dec.{eqb, leb, ltb}
 use lib.ListN.{length}
-use Rattle.base.specs.Below.{anyBelow, allBelow}
+use Rattle.base.specs.Below.{anyBelow}
 use Rattle.base.specs.Bytes.{byteAt}
-use Rattle.base.proofs.Below.{all-none, all-more, all-fails}
+use Rattle.base.proofs.Below.{all-of, all-fails}
 use Rattle.base.proofs.Cases.{by-test, either-way}
 use Rattle.blocks.specs.Records.{Model}
 use Rattle.rules.specs.Configuration.{Configuration, deltaLimit, lastTime}
@@ -54,13 +53,9 @@ module _ (M : Model) (c : Configuration) where
     order-is = either-way (eqb (o .argument) 0 && eqb (o .count) 0) (λ p. rw (k, p) advance-is) (λ p. rw (k, p) (delta refl (λ z. omega arith)))
 
 -- answers are alike where outcomes are
-self-alike : (f : ℕ → ℕ) (n : ℕ) → allBelow (λ i. eqb (f i) (f i)) n ≡ true
-self-alike f zero = all-none (λ i. eqb (f i) (f i))
-self-alike f (suc n) = rw (← add-one n) (all-more (λ i. eqb (f i) (f i)) n (self-alike f n) (eq-eqb (f n) (f n) refl))
-
 alike : {d r : Outcome} → d ≡ r → sameAnswer d r ≡ true
 unfolding sameAnswer
-alike {d} {r} e = rw e (self-alike (byteAt (answerOf r)) 16)
+alike {d} {r} e = rw e (all-of _ 16 (λ i l. eq-eqb (byteAt (answerOf r) i) (byteAt (answerOf r) i) refl))
 
 -- and are not where one begins with 22
 unlike : (d r : Outcome) → byteAt (answerOf d) 0 ≡ 22 → Other r → sameAnswer d r ≡ false

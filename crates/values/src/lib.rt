@@ -175,6 +175,7 @@ fn pair_associative(table: &[u16], x: u32, y: u32) -> bool
     ok
 }
 
+// Whether x and each two values may be grouped either way.
 fn row_associative(table: &[u16], x: u32) -> bool
     requires { ⌜ length (now table) ≡ entries ⌝ }
     ensures { λ r. ⌜ r ≡ rowAssociative (now (table .entry)) x ⌝ }
