@@ -5,7 +5,7 @@ use crate::dump::{pack, DUMP, WORDS};
 use crate::values::Functions;
 
 extern "C" {
-    fn gontrafiby_resolve(values: *const u8, len: usize) -> u32;
+    fn gontrafiby_resolve(values: *const u32, len: usize) -> u32;
     fn gontrafiby_not(x: u32) -> u32;
     fn gontrafiby_and(x: u32, y: u32) -> u32;
     fn gontrafiby_or(x: u32, y: u32) -> u32;
@@ -37,7 +37,10 @@ extern "C" {
 /// The resolution of some values, and the operators, on words.
 pub const VALUES: Functions = Functions {
     // Safety: the pointer and the length are those of one slice; the others take numbers.
-    resolve: |v| unsafe { gontrafiby_resolve(v.as_ptr(), v.len()) },
+    resolve: |v| {
+        let codes: Vec<u32> = v.iter().map(|&code| code.into()).collect();
+        unsafe { gontrafiby_resolve(codes.as_ptr(), codes.len()) }
+    },
     not: |x| unsafe { gontrafiby_not(x) },
     and: |x, y| unsafe { gontrafiby_and(x, y) },
     or: |x, y| unsafe { gontrafiby_or(x, y) },

@@ -14,7 +14,7 @@ ghost use Rattle.exports.specs.Dump.{wordOf};
 use crate::dump::dump;
 
 #[no_mangle]
-pub extern "C" fn gontrafiby_resolve(values: &[u8]) -> u32
+pub extern "C" fn gontrafiby_resolve(values: &[u32]) -> u32
     ensures { λ r. ⌜ r ≡ resolutionOf (now (values .entry)) ⌝ }
 {
     values::resolve(values)

@@ -2,8 +2,6 @@
 ghost use mathlib.Core.Path.{_≡_};
 ghost use Prim.Native.Nat.{_<_};
 ghost use lib.ListN.{length};
-ghost use Rattle.base.specs.Cases.{_∣_, _⇒_};
-ghost use Rattle.values.specs.Resolve.{entries, pairIn};
 ghost use Rattle.blocks.specs.Records.{modelOf, signalAt};
 ghost use Rattle.rules.specs.Configuration.{resolvedOr};
 ghost use Rattle.rules.specs.Steps.{undriven};
@@ -16,17 +14,6 @@ use blocks::index::signal_at;
 use blocks::records::BUS;
 use values::ENTRIES;
 use waveforms::driver::NULL;
-
-// The resolution v of the values found so far, with x where it drives.
-fn joined(table: &[u16], drives: bool, found: bool, v: u32, x: u32) -> u32
-    requires { ⌜ length (now table) ≡ entries ⌝ }
-    ensures { λ r. ⌜ r ≡ (drives ⇒ (found ⇒ pairIn (now (table .entry)) v x ∣ x) ∣ v) ⌝ }
-{
-    if drives {
-        return values::joined(table, found, v, x);
-    }
-    v
-}
 
 // The resolution of the current values of the drivers of signal s that are on, by the table that the index holds, or other where there are
 // none.
@@ -42,20 +29,24 @@ pub fn resolved<'a>(
     requires { ⌜ ndrivers ≡ length (modelOf (now m) .drivers) ⌝ }
     ensures { λ r. ⌜ r ≡ resolvedOr (modelOf (now (m .entry))) other (drivingIn (modelOf (now (m .entry))) (now (currents .entry)) s ndrivers) ⌝ }
 {
-    let whole = &index[..];
-    let table = &whole[TABLE_AT..TABLE_AT + ENTRIES];
-    let mut found = false;
-    let mut v = other;
+    let mut driving = [0u32; 64];
+    let mut n = 0;
     let mut k = 0;
     while k < ndrivers {
         let d = driver_at(m, index, k);
         let x = currents[k];
-        let drives = (d.signal == s) & (x != NULL);
-        v = joined(table, drives, found, v, x);
-        found = found | drives;
+        if (d.signal == s) & (x != NULL) {
+            driving[n] = x;
+            n += 1;
+        }
         k += 1;
     }
-    v
+    if n == 0 {
+        return other;
+    }
+    let whole = &index[..];
+    let table = &whole[TABLE_AT..TABLE_AT + ENTRIES];
+    values::resolve_by(table, &driving[..n])
 }
 
 // What signal s becomes where all its drivers are null: a bus Z, and any other keeps its value.

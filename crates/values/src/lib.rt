@@ -49,13 +49,7 @@ fn code(x: u32) -> usize
     if x < 9 { x as usize } else { 1 }
 }
 
-fn wide(x: u8) -> u32
-    ensures { λ r. ⌜ r ≡ x ⌝ }
-{
-    x as u32
-}
-
-fn wide16(x: u16) -> u32
+fn wide(x: u16) -> u32
     ensures { λ r. ⌜ r ≡ x ⌝ }
 {
     x as u32
@@ -85,11 +79,11 @@ pub fn pair(table: &[u16], x: u32, y: u32) -> u32
 {
     let i = code(x);
     let j = code(y);
-    wide16(table[9 * i + j])
+    wide(table[9 * i + j])
 }
 
 // The resolution v of the values so far, if there are any, with one value more.
-pub fn joined(table: &[u16], some: bool, v: u32, x: u32) -> u32
+fn joined(table: &[u16], some: bool, v: u32, x: u32) -> u32
     requires { ⌜ length (now table) ≡ entries ⌝ }
     ensures { λ r. ⌜ r ≡ (some ⇒ pairIn (now (table .entry)) v x ∣ x) ⌝ }
 {
@@ -97,14 +91,14 @@ pub fn joined(table: &[u16], some: bool, v: u32, x: u32) -> u32
 }
 
 // The resolution of all of the values, by the table given.
-fn resolve_by(table: &[u16], values: &[u8]) -> u32
+pub fn resolve_by(table: &[u16], values: &[u32]) -> u32
     requires { ⌜ length (now table) ≡ entries ⌝ }
     ensures { λ r. ⌜ r ≡ resolutionBy (pairIn (now (table .entry))) (now (values .entry)) ⌝ }
 {
     let mut result = Z;
     let mut i = 0;
     while i < values.len() {
-        result = joined(table, 0 < i, result, wide(values[i]));
+        result = joined(table, 0 < i, result, values[i]);
         i += 1;
     }
     result
@@ -124,7 +118,7 @@ fn standard_table() -> [u16; ENTRIES]
 }
 
 // The resolution of all of the values, by the standard's table.
-pub fn resolve(values: &[u8]) -> u32
+pub fn resolve(values: &[u32]) -> u32
     ensures { λ r. ⌜ r ≡ resolutionOf (now (values .entry)) ⌝ }
     ensures { λ r. ⌜ ResolutionLaws pairOf ⌝ }
 {

@@ -9,7 +9,7 @@ unfolding pairIn
 returns c =
     let j = c .before .before .code2 .ensures .0 in
     let i = c .before .before .before .code .ensures .0 in
-    (rw (← i, ← j) (c .wide16 .ensures), table-laws _)
+    (rw (← i, ← j) (c .wide .ensures), table-laws _)
 
 pub pair-spec : {M : Type 1} → statement M
 pair-spec =

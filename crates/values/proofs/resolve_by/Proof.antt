@@ -19,8 +19,8 @@ loop-holds c = (search needs, resolved-none _ (c .before .before .args .values .
 
 loop-again : tie.Need-loop-again Inv-loop μ-loop
 loop-again c =
-    let head = c .before .before .before .before in
-    (search needs, rw (c .joined .ensures, c .before .wide .ensures) (resolved-next _ _ (head .loop .i) _ (search needs) (head .loop .inv .1)))
+    let head = c .before .before .before in
+    (search needs, rw (c .joined .ensures) (resolved-next _ _ (head .loop .i) _ (search needs) (head .loop .inv .1)))
 
 returns : tie.Need-returns Inv-loop μ-loop
 returns c = resolved-all _ _ _ _ (c .before .loop .inv .0) (search needs) (c .before .loop .inv .1)
@@ -33,7 +33,7 @@ resolve-by-spec =
     μ-loop
     loop-holds
     (λ c. search needs)
-    (λ c κs. search needs)
+    (λ c. search needs)
     (λ c κs. search needs)
     (λ c. search needs)
     (λ c. search needs)
