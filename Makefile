@@ -6,7 +6,7 @@ LIB := $(CURDIR)/target/staticlib
 CARGO := cargo --quiet
 PEER := --release --offline --manifest-path tests/Cargo.toml
 BLOCKS := --release --offline --manifest-path tools/blocks/Cargo.toml
-PROVED := KERNEL_LIB_DIR=$(LIB) $(CARGO) run $(PEER) --features dumps,moves --bin
+PROVED := KERNEL_LIB_DIR=$(LIB) $(CARGO) run $(PEER) --features dumps,moves,loops --bin
 
 run:
 	@sh tools/run
@@ -35,22 +35,26 @@ proved: setup tools
 	$(PROVED) compare moves 20000 1
 	$(PROVED) compare limits
 	$(PROVED) compare dumps 20000 1
+	$(PROVED) compare loops 20000 1
 	$(PROVED) viewer 50 1
 	KERNEL_LIB_DIR=$(LIB) sh tests/ghdl/run.sh 200 1
 	$(CARGO) run $(PEER) --bin edge target/bin/playbench
 	$(CARGO) run $(PEER) --bin edge dump target/bin/dumpbench
+	$(CARGO) run $(PEER) --bin edge loop target/bin/loopbench
 
 bench: setup
 	rt staticlib exports
+	rt staticlib loop_exports
 	bench/run
-	KERNEL_LIB_DIR=$(LIB) $(CARGO) run $(PEER) --features proved --bin judgebench
+	KERNEL_LIB_DIR=$(LIB) $(CARGO) run $(PEER) --features proved,loops --bin judgebench
 
-# With the proved library, for blocks move.
+# With the proved libraries, for blocks move and blocks loops.
 tools: prove
 	rt staticlib move_exports
+	rt staticlib loop_exports
 	KERNEL_LIB_DIR=$(LIB) $(CARGO) build $(BLOCKS) --features library
 
-# Without it: no proof, and all but blocks move.
+# Without them: no proof, and all but these two.
 blocks:
 	$(CARGO) build $(BLOCKS)
 

@@ -1,14 +1,15 @@
 #!/bin/sh
-# The examples: each text makes its blocks and orders, their listings make the same ones again, the proved playbench and dumpbench
-# and the second kernel's print what is expected, also of the orders for the wave viewer and of steps that are refused, single picks
-# come to the end of the sets, and each node that failed is explained as stored. A model with its own resolution table, and the same
-# one without, print what is expected of each. A stored list of before moves over; a refused move or table writes nothing. README.md
-# shows some of these lines.
+# The examples: each text makes its blocks and orders, their listings make the same ones again, the proved programs and the second
+# kernel's print what is expected, also of the orders for the wave viewer and of steps that are refused, single picks come to the
+# end of the sets, and each node that failed is explained as stored. A model with its own resolution table, and the same one
+# without, print what is expected of each. Loops without delay are told as stored, and else there are none; no run has more delta
+# steps at one time than the bound that is told. A stored list of before moves over; a refused move or table writes nothing.
+# README.md shows some of these lines.
 set -eu
 top=$(cd "$(dirname "$0")/.." && pwd)
 blocks=$top/tools/blocks/target/release/blocks
 proved=$top/target/bin
-cargo build --quiet --release --offline --manifest-path "$top/tests/Cargo.toml" --bin playbench --bin dumpbench
+cargo build --quiet --release --offline --manifest-path "$top/tests/Cargo.toml" --bin playbench --bin dumpbench --bin loopbench
 second=$top/tests/target/release
 work=$(mktemp -d)
 trap 'rm -rf "$work"' EXIT
@@ -36,6 +37,28 @@ explain() { # FOLDER: the nodes in its expected output
         "$blocks" explain "$1/model" "$node"
     done
 }
+most() { # ANSWERS: the most delta steps done at one time, by the answers to the orders here
+    answered orders "$1" | awk -F '\t' '
+        { split($2, answer, " ") }
+        $1 == "delta" && answer[1] == 0 && ++steps[answer[6]] > most { most = steps[answer[6]] }
+        END { print most + 0 }'
+}
+loops() { # BASE ANSWERS: what is told of the loops of BASE.txt, of which the model here is made, and which gives these answers
+    "$blocks" loops "$1.txt" >said
+    if [ -e "$1.loops" ]; then
+        cmp said "$1.loops"
+    else
+        printf 'none\nat most P + 1 = %d delta steps at any one time\n' $(($(grep -c '^process ' "$1.txt") + 1)) | cmp said -
+    fi
+    head -n 1 said >line
+    prints loopbench line
+    "$blocks" loops model | head -n 1 | cmp - line
+    bound=$(sed -n 's/^at most P + 1 = \([0-9]*\) .*/\1/p' said)
+    if [ -n "$bound" ] && [ "$(most "$2")" -gt "$bound" ]; then
+        echo "examples.sh: $1 has more than $bound delta steps at one time" >&2
+        exit 1
+    fi
+}
 in_readme() { # the lines on standard input
     while IFS= read -r line; do
         grep -qF "    $line" "$top/README.md" || { echo "README.md does not show '$line'" >&2; exit 1; }
@@ -55,13 +78,14 @@ for folder in "$top"/examples/*/; do
         "$blocks" list model >listed
         "$blocks" make listed again
         cmp again model
-        if [ -e "${text%.txt}.expected" ]; then # a model that gives something else by these orders
-            prints playbench "${text%.txt}.expected"
-            prints dumpbench "${text%.txt}.vcd"
-        else
-            prints playbench "$folder/expected"
-            prints dumpbench "$folder/dump.vcd"
+        base=${text%.txt}
+        answers=$folder/expected dump=$folder/dump.vcd
+        if [ -e "$base.expected" ]; then # a model that gives something else by these orders
+            answers=$base.expected dump=$base.vcd
         fi
+        prints playbench "$answers"
+        prints dumpbench "$dump"
+        loops "$base" "$answers"
     done
     if [ -e "$folder/singles.txt" ]; then
         told "$folder/expected" >of_sets
@@ -159,6 +183,44 @@ says said 'the kernel would refuse this model with 24'
 refuses_row UX0HHWWHX UX0HHWW1X 'line 12: the table is not associative: 1 with H is H, and that with H is 1; but H with H is 1, '
 says said 'but H with H is 1, and 1 with that is Z; the kernel would refuse this model with 25'
 echo "tables of their own: told where they are refused"
+
+# The ring without delay, on and on: 1,000 delta steps at time 0, and the next is refused. The odometer reaches its bound.
+ring=$top/examples/ring_oscillator
+odometer=$top/examples/odometer
+cp "$ring/model" model
+yes 'settle 100
+delta' | head -n 2002 >long.txt
+"$blocks" orders long.txt orders
+"$second/playbench" >long.expected
+prints playbench long.expected
+[ "$(most long.expected)" -eq 1000 ]
+tail -n 1 long.expected >last
+grep -q '^16 ' last
+in_readme <last
+cp "$odometer/orders" orders
+[ "$(most "$odometer/expected")" -eq 5 ]
+in_readme <"$ring/model.loops"
+in_readme <"$ring/delayed.loops"
+in_readme <"$odometer/model.loops"
+in_readme <"$odometer/period.loops"
+answered orders "$odometer/expected" | awk -F '\t' '/^delta/ && $2 ~ / 20$/ { print $2 }' | in_readme
+cp short model
+echo 1 >line
+prints loopbench line
+told_as() { # WORDS FILE: `blocks loops FILE` fails, and says these words
+    if "$blocks" loops "$2" >said 2>&1; then
+        echo "examples.sh: blocks loops $2 is not refused" >&2
+        exit 1
+    fi
+    says said "$1"
+}
+told_as 'short: the kernel refuses this model with 1' short
+told_as 'nowhere: ' nowhere
+sed "s/ after 0/ after '0'/" "$ring/model.txt" >changed.txt
+told_as 'changed.txt: the kernel would refuse this model with 7' changed.txt
+sed 's/^process first/process/' "$ring/model.txt" >changed.txt
+told_as 'changed.txt: line 8: something is missing at the end of the line' changed.txt
+echo "loops without delay: told before a run, and a run has them"
 
 in_readme <"$inverter/expected"
 in_readme <"$inverter/dump.vcd"

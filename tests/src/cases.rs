@@ -2,6 +2,7 @@
 //! limits of orders and answers.
 
 mod dumps;
+mod loops;
 mod own_table;
 mod pick_set;
 mod two_orders;
@@ -16,6 +17,7 @@ use crate::session::ORDER;
 pub use crate::session::{DELTA, PICK, PICK_SET, READ, SETTLE, TIME};
 use crate::values::code;
 pub use dumps::{in_turn, integers_in_turn, longest_dump, nine_in_turn, no_signals};
+pub use loops::full_of_waits;
 pub use own_table::{own_tables, refused_tables, sums, with_table};
 pub use pick_set::{mixed_team, team, Turn};
 pub use two_orders::unused_bytes;

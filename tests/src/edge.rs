@@ -1,7 +1,7 @@
-//! Holds a program that plays or dumps the files `model` and `orders` of its folder
-//! against the text that the second kernel prints: sessions of each number, files
-//! of lengths on both sides of the limits and far beyond, the paper's bench cases
-//! and random sessions. A file that cannot be read and a write that fails must be
+//! Holds a program that plays or dumps the files `model` and `orders` of its folder, or
+//! checks `model` alone, against the text that the second kernel prints: sessions of each
+//! number, files of lengths on both sides of the limits and far beyond, the paper's bench
+//! cases and random sessions. A file that cannot be read and a write that fails must be
 //! told on standard error.
 
 mod benches;
@@ -9,8 +9,8 @@ mod sessions;
 
 use crate::cases::{in_64_blocks, inverter, inverter_orders};
 use crate::folder::Folder;
-use crate::numbers::{self, Counts};
-pub use benches::{Bench, DUMP, PLAY};
+use crate::numbers::Counts;
+pub use benches::{Bench, DUMP, LOOP, PLAY};
 pub use sessions::{sessions, Case, Group};
 use sessions::{RANDOM, RANDOM_SESSIONS};
 use std::fs;
@@ -106,7 +106,7 @@ impl Findings {
         for (_, counts, _) in &self.groups {
             all.extend(counts);
         }
-        all.require("session number", &occurring(), 10)?;
+        all.require("session number", &self.bench.numbers(), 10)?;
         all.require("session number", &[0], 100)?;
         let random = self.groups.iter().find(|g| g.0 == RANDOM_SESSIONS);
         let (_, random, _) = random.ok_or("no random sessions")?;
@@ -126,7 +126,7 @@ impl Findings {
     }
 
     pub fn print(&self) {
-        let numbers = [&[0], &occurring()[..]].concat();
+        let numbers = [&[0], &self.bench.numbers()[..]].concat();
         let head: String = numbers.iter().map(|n| format!("{n:6}")).collect();
         println!("{:20}{head}   lines", "sessions by number");
         for (name, counts, lines) in &self.groups {
@@ -148,9 +148,18 @@ impl Findings {
     }
 }
 
-/// The session numbers that a program can print.
-fn occurring() -> Vec<u32> {
-    [numbers::MODEL, &[numbers::ORDERS]].concat()
+/// Puts the files that the program reads into a folder.
+fn put_files(bench: &Bench, folder: &Folder, case: &Case) -> Result<(), String> {
+    files(bench, case)
+        .into_iter()
+        .try_for_each(|(name, bytes)| folder.put(name, bytes))
+}
+
+/// The names of these files, and what is in them.
+fn files<'c>(bench: &Bench, case: &'c Case) -> Vec<(&'static str, &'c [u8])> {
+    let all = [("model", &case.model[..]), ("orders", &case.orders)];
+    let read = all.into_iter().filter(|file| bench.files.contains(&file.0));
+    read.collect()
 }
 
 /// Runs the program on the sessions.
@@ -159,8 +168,7 @@ fn play_all(program: Program, groups: &[Group], found: &mut Findings) -> Result<
     for (group, list) in groups {
         let (mut counts, mut printed) = (Counts::default(), 0);
         for case in list {
-            folder.put("model", &case.model)?;
-            folder.put("orders", &case.orders)?;
+            put_files(found.bench, &folder, case)?;
             let output = run(program, &folder, Stdio::piped())?;
             let expected = (found.bench.print)(&case.model, &case.orders);
             if let Err(e) = judge_output(found.bench, case, &expected, &output) {
@@ -184,11 +192,11 @@ fn play_all(program: Program, groups: &[Group], found: &mut Findings) -> Result<
 /// A file that is missing, or is a folder: it is named on standard error, and
 /// nothing is printed.
 fn unreadable(program: Program, found: &mut Findings) -> Result<(), String> {
-    for name in ["model", "orders"] {
+    let case = Case::new("", &inverter().encode(), &inverter_orders(), 0);
+    for name in found.bench.files {
         for kind in ["no file", "a folder in place of file"] {
             let folder = Folder::new()?;
-            folder.put("model", &inverter().encode())?;
-            folder.put("orders", &inverter_orders())?;
+            put_files(found.bench, &folder, &case)?;
             fs::remove_file(folder.0.join(name)).map_err(|e| e.to_string())?;
             if kind != "no file" {
                 fs::create_dir(folder.0.join(name)).map_err(|e| e.to_string())?;
@@ -217,7 +225,7 @@ fn piecemeal(program: Program, found: &mut Findings) -> Result<(), String> {
     ] {
         let folder = Folder::new()?;
         let mut writers = vec![];
-        for (name, bytes) in [("model", &case.model), ("orders", &case.orders)] {
+        for (name, bytes) in files(found.bench, &case) {
             folder.put(&format!("all of {name}"), bytes)?;
             let script =
                 "mkfifo $0; (head -c 7 \"all of $0\"; sleep 0.1; tail -c +8 \"all of $0\") >$0";
@@ -257,8 +265,7 @@ fn unwritable(program: Program, found: &mut Findings) -> Result<(), String> {
         (found.bench.long)(),
     ] {
         let folder = Folder::new()?;
-        folder.put("model", &case.model)?;
-        folder.put("orders", &case.orders)?;
+        put_files(found.bench, &folder, &case)?;
         let full = fs::OpenOptions::new().write(true).open("/dev/full");
         let full = full.map_err(|e| format!("/dev/full: {e}"))?;
         let output = run(program, &folder, full.into())?;
@@ -300,7 +307,7 @@ mod tests {
 
     #[test]
     fn cases_come_out_as_said() {
-        for bench in [&PLAY, &DUMP] {
+        for bench in [&PLAY, &DUMP, &LOOP] {
             for (group, list) in sessions(bench) {
                 for case in list {
                     let text = (bench.print)(&case.model, &case.orders);
@@ -323,9 +330,24 @@ mod tests {
     }
 
     #[test]
+    fn the_longest_chain_is_long() {
+        let case = (LOOP.long)();
+        let text = (LOOP.print)(&case.model, &case.orders);
+        assert_eq!(text, "chain 0 15 14 13 12 11 10 9 8 7 6 5 4 3 2 1\n");
+    }
+
+    #[test]
     fn a_number_stands_alone() {
         assert_eq!(number_of("9\n"), 9);
-        for played in ["", "0 0 4 0 0 0\n", "$end\n", "9", "9\n9\n"] {
+        for played in [
+            "",
+            "0 0 4 0 0 0\n",
+            "$end\n",
+            "9",
+            "9\n9\n",
+            "none\n",
+            "chain 4\n",
+        ] {
             assert_eq!(number_of(played), 0, "{played}");
         }
     }

@@ -4,6 +4,7 @@ mod calculation;
 mod crowds;
 mod edges;
 mod lines;
+pub mod loops;
 pub mod numbering;
 mod pulses;
 pub mod tables;

@@ -39,7 +39,11 @@ pub struct Counts<K = u32>(BTreeMap<K, u64>);
 
 impl<K: Copy + Ord + Display> Counts<K> {
     pub fn add(&mut self, number: K) {
-        *self.0.entry(number).or_default() += 1;
+        self.add_many(number, 1);
+    }
+
+    pub fn add_many(&mut self, number: K, many: u64) {
+        *self.0.entry(number).or_default() += many;
     }
 
     pub fn of(&self, number: K) -> u64 {

@@ -4,6 +4,7 @@
 //! feature is.
 
 mod dumps;
+mod loops;
 mod moves;
 mod schedules;
 
@@ -19,6 +20,7 @@ use crate::numbers::{self, Counts};
 use crate::session::{session, DELTA, PICK, PICK_SET, SETTLE, TIME};
 pub use dumps::Dump;
 use dumps::DumpTally;
+pub use loops::Check;
 pub use moves::Move;
 use moves::{as_before, MoveTally, Stored};
 use std::collections::{BTreeMap, BTreeSet};
@@ -36,6 +38,7 @@ pub struct Other<'a> {
     pub session: Option<Session<'a>>,
     pub dump: Option<Dump<'a>>,
     pub move_over: Option<Move<'a>>,
+    pub check: Option<Check<'a>>,
 }
 
 impl Other<'_> {
@@ -83,11 +86,14 @@ const CONDITION_SESSIONS: u64 = 100;
 const DUMPS: u64 = 100;
 /// Each thing that stored lists show, 100 times among the 20,000 of `make test`.
 const MOVES: u64 = 200;
+/// Each thing that checks for loops show or that decides them, 200 times among the 20,000
+/// of `make test`.
+const LOOPS: u64 = 100;
 /// Each thing that schedules show.
 const SCHEDULES: u64 = 100;
 
 /// What `tally` and `compare` do: `models N SEED`, `sessions N SEED`, `schedules N SEED`,
-/// `moves N SEED`, `dumps N SEED` or `limits`, in this kernel and in the other one where it is
+/// `moves N SEED`, `dumps N SEED`, `loops N SEED` or `limits`, in this kernel and in the other one where it is
 /// given.
 pub fn run(name: &str, other: Other) -> Result<(), String> {
     let arguments: Vec<String> = std::env::args().skip(1).collect();
@@ -138,6 +144,16 @@ pub fn run(name: &str, other: Other) -> Result<(), String> {
             counts.require(least.number, least.feature)?;
             format!("{n} lists moved over from seed {seed} on")
         }
+        Some("loops") => {
+            let (n, seed) = (number(1, "N")?, number(2, "SEED")?);
+            other.has(other.session, "sessions")?;
+            other.has(other.check, "loops")?;
+            let counts = loops::loops(n, seed, other.check, other.session)?;
+            counts.print();
+            let least = least(n, LOOPS);
+            counts.require(least.number, least.feature)?;
+            format!("{n} checked models from seed {seed} on")
+        }
         Some("limits") => {
             let counts = limits(other)?;
             counts.print();
@@ -149,7 +165,7 @@ pub fn run(name: &str, other: Other) -> Result<(), String> {
         }
         _ => {
             return Err(format!(
-                "use: {name} models N SEED | sessions N SEED | schedules N SEED | moves N SEED | dumps N SEED | limits"
+                "use: {name} models N SEED | sessions N SEED | schedules N SEED | moves N SEED | dumps N SEED | loops N SEED | limits"
             ))
         }
     };
@@ -694,6 +710,7 @@ impl SessionTally {
 #[cfg(test)]
 mod tests {
     use super::*;
+    use crate::loops::check;
     use crate::moves::move_over;
     use crate::vcd::write::write;
 
@@ -714,6 +731,7 @@ mod tests {
         session: Some(&own),
         dump: Some(&write),
         move_over: Some(&move_over),
+        check: Some(&check),
     };
 
     fn judged_by<'a>(judge: Judge<'a>) -> Other<'a> {

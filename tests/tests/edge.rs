@@ -1,11 +1,12 @@
 //! The second kernel's programs pass `edge`; with something wrong around one, it does
 //! not.
 
-use second_kernel::edge::{examine, sessions, Bench, Findings, Group, DUMP, PLAY};
+use second_kernel::edge::{examine, sessions, Bench, Findings, Group, DUMP, LOOP, PLAY};
 use std::process::Command;
 
 const PLAYBENCH: &str = env!("CARGO_BIN_EXE_playbench");
 const DUMPBENCH: &str = env!("CARGO_BIN_EXE_dumpbench");
+const LOOPBENCH: &str = env!("CARGO_BIN_EXE_loopbench");
 
 /// What is found about a shell script that runs `playbench` as "$0", on the
 /// lengths and every fortieth of the other sessions.
@@ -18,10 +19,16 @@ fn found_of_dumps(script: &str) -> Findings {
     found_on(&DUMP, DUMPBENCH, script, 40)
 }
 
+/// The same of `loopbench`.
+fn found_of_loops(script: &str) -> Findings {
+    found_on(&LOOP, LOOPBENCH, script, 30)
+}
+
 /// The same of either on one of so many of the other sessions.
 fn found_on(bench: &'static Bench, path: &str, script: &str, every: usize) -> Findings {
     let mut groups: Vec<Group> = sessions(bench);
-    for (_, list) in &mut groups[2..] {
+    let lengths = if bench.plays() { 2 } else { 1 };
+    for (_, list) in &mut groups[lengths..] {
         let mut n = 0;
         list.retain(|_| {
             n += 1;
@@ -46,6 +53,7 @@ fn the_second_kernels_programs_pass() {
     for (bench, path, shown) in [
         (&PLAY, PLAYBENCH, ["with a node", "of a negative value"]),
         (&DUMP, DUMPBENCH, ["a time left out", "that is never left"]),
+        (&LOOP, LOOPBENCH, ["of one process", "a process above 9"]),
     ] {
         let examined = examine(bench, &|| Command::new(path), &sessions(bench));
         let mut found = examined.expect("the program can be run");
@@ -99,6 +107,42 @@ fn wrong_dumps_are_found() {
         let found = found_of_dumps(script);
         assert!(wrong(&found, words), "{script}");
     }
+}
+
+#[test]
+fn wrong_chains_are_found() {
+    for (script, words) in [
+        // Other words, a line end, a chain without its word, its last process or the others,
+        // two digits cut to one, `none` for a refused model and for a chain of one.
+        ("\"$0\" | sed 's/none/no/'", "64 blocks: line 1"),
+        ("\"$0\" | sed 's/$/ /'", "64 blocks: line 1"),
+        ("\"$0\" | tr -d '\\n'", "64 blocks: line 1"),
+        ("\"$0\" | sed 's/chain //'", "pipes, a chain of 16"),
+        ("\"$0\" | sed 's/ 1$//'", "pipes, a chain of 16"),
+        ("\"$0\" | sed 's/ 1\\([0-9]\\)/ \\1/'", "random sessions"),
+        (
+            "\"$0\" | sed 's/^\\(chain [0-9]*\\).*/\\1/'",
+            "random sessions",
+        ),
+        ("\"$0\" | sed 's/^[0-9]*$/none/'", "damaged models"),
+        ("\"$0\" | sed 's/^chain [0-9]*$/none/'", "random sessions"),
+        ("\"$0\" | sed 's/^chain/chain:/'", "random sessions"),
+        // A file that it does not need.
+        (
+            "[ -f orders ] || echo none; exec \"$0\"",
+            "64 blocks: line 2",
+        ),
+    ] {
+        let found = found_of_loops(script);
+        assert!(wrong(&found, words), "{script}: {:?}", found.wrong);
+    }
+    let cut = found_of_loops("head -c 32768 model >m && mv m model; exec \"$0\"");
+    assert!(wrong(&cut, "64 blocks and 512 bytes more of blocks"));
+    assert!(!wrong(&cut, "64 blocks, each total at its limit"));
+    let silent = found_of_loops("exec \"$0\" 2>/dev/null");
+    assert!(wrong(&silent, "no file `model`"));
+    assert!(wrong(&silent, "a write that fails, a chain of 16"));
+    assert_eq!(silent.wrong.len(), 6);
 }
 
 #[test]

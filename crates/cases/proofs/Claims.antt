@@ -12,6 +12,7 @@ use lib.ListN.{length}
 use Rattle.base.specs.Below.{allBelow}
 use Rattle.base.specs.Cases.{_∣_, _⇒_}
 use Rattle.base.proofs.Below.{split, all-at}
+use Rattle.sets.specs.Sets.{inSet}
 use Rattle.determinacy.specs.Arrangements.{occurrences, Arranges}
 use Rattle.determinacy.specs.Kernel.{NormalForm}
 use Rattle.determinacy.specs.Determinacy.{Exactly}
@@ -19,7 +20,6 @@ use Rattle.values.specs.Nine.{‘0’, Z}
 use Rattle.blocks.specs.Records.{Model, modelOf}
 use Rattle.rules.specs.declared.driven.Driven.the-variants.{Null}
 use Rattle.rules.specs.Configuration.{Configuration, first}
-use Rattle.rules.specs.Steps.{inSet}
 use Rattle.rules.specs.Orders.{refused, isReady, picked}
 use Rattle.session.specs.Demand3.{Bytes, picksOf, advancesOf, kernelOf, tallyOf}
 use Rattle.session.proofs.Demand3.{determinate}

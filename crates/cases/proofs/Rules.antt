@@ -2,6 +2,7 @@
 use Prim.Native.Nat.{ℕ}
 use Rattle.base.specs.Below.{sumBelow, every, allBelow, anyBelow, joinBelow, listBelow}
 use Rattle.base.specs.Course.{upTo, course, firstWith}
+use Rattle.sets.specs.Sets.{inSet}
 use Rattle.values.specs.Nine.{codeOf, low, high}
 use Rattle.values.specs.Operators.{notOf}
 use Rattle.values.specs.Resolve.{standardRows, entryOf, tableBy, standard, pairIn, pairOf, resolutionBy, resolutionOf, rowSymmetric, symmetric, pairAssociative, rowAssociative, associative}
@@ -18,7 +19,7 @@ use Rattle.rules.specs.Configuration.{drivingOf, firstDrivers, firstSignal, fir
 use Rattle.rules.specs.Evaluation.{ranged, negateOf, sumOf, differenceOf, equalOf, lessOf, productOf, divided, valueBy, nextValue, evalOf}
 use Rattle.rules.specs.Failing.{orderBy, nextOrder, evaluationOrder}
 use Rattle.rules.specs.Statements.{withDelay, effectBy, effectOf, kept, before, added, equalValue, marked, leftBy, scheduled, overflows, nextPlace, driverAfter, applied, stepped}
-use Rattle.rules.specs.Steps.{transactionDue, taken, deadlineDue, active, undriven, signalAfter, signalsAfter, earlierAfter, inSet, changedIn, wokenIf, wokenAt, processAfterDelta, deltaStep, shifted, timeStep}
+use Rattle.rules.specs.Steps.{transactionDue, taken, deadlineDue, active, undriven, signalAfter, signalsAfter, earlierAfter, changedIn, wokenIf, wokenAt, processAfterDelta, deltaStep, shifted, timeStep}
 use Rattle.rules.specs.Orders.{isReady, isStopped, picked, dueTimes, dueNow, deltaStepped, timeStepped, lowestReady, settledFrom, settled, someMember, membersBelow, steppedBelow, pickedSet, readOf}
 use Rattle.session.specs.Lists.{orderOf, ordersOf, isKnown, performed, answerOf, playedBy}
 

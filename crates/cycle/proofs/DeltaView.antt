@@ -1,24 +1,24 @@
 -- The struct after a delta step holds the configuration after the delta step of the rules. Assumes nothing.
 use mathlib.Core.Path.{_≡_, refl, sym, ap, _∙_, subst}
-use mathlib.Core.Bool.{Bool, false, not, _&&_, or-false, and-false}
+use mathlib.Core.Bool.{Bool, false, not, _&&_, and-false}
 use mathlib.Core.List.{List, [], _∷_, map, map-append}
-use mathlib.Core.Logic.{⊎-elim}
 use Prim.Native.Nat.{ℕ, zero, suc, _+_, _*_, _≤_, _<_}
-use native.Mathlib.Nat.{add-zero, eq-or-lt-of-le}
+use native.Mathlib.Nat.{add-zero}
 use native.Mathlib.Omega.{arith}
 use lib.Dec.{eqb}
 use lib.ListN.{length, getD}
 use borrow.Author.Tests.{eqb-true, eqb-false, eq-eqb}
 use Rattle.base.specs.Below.{anyBelow, listBelow}
-use Rattle.base.proofs.Below.{map-at, any-same, list-first, list-same, list-length, list-at}
+use Rattle.base.proofs.Below.{map-at, any-same, any-fewer, list-first, list-same, list-length, list-at}
 use Rattle.base.proofs.Cases.{by-test, choices-same}
+use Rattle.sets.specs.Sets.{inSet, SetOf}
 use Rattle.blocks.specs.Records.{Model, signalAt, statementAt}
 use Rattle.blocks.specs.declared.records.StatementRecord.{StatementRecord}
 use Rattle.fields.specs.Fields.{absent}
 use Rattle.model.specs.Facts.{Facts}
 use Rattle.rules.specs.Configuration.{DriverState, ProcessState, Configuration, driverIn, currentOf, drivingOf, resolvedOr, waiting}
 use Rattle.rules.specs.Evaluation.{Environment, environmentOf, evalOf}
-use Rattle.rules.specs.Steps.{transactionDue, taken, active, withCurrent, undriven, signalAfter, signalsAfter, earlierAfter, inSet, changedIn, wokenBy, wokenIf, wokenAt, processAfterDelta, deltaStep}
+use Rattle.rules.specs.Steps.{transactionDue, taken, active, withCurrent, undriven, signalAfter, signalsAfter, earlierAfter, changedIn, wokenBy, wokenIf, wokenAt, processAfterDelta, deltaStep}
 use Rattle.rules.specs.Orders.{advanceDone}
 use Rattle.rules.specs.Invariant.{ProcessValid}
 use Rattle.rules.proofs.AdvanceReachable.{delta-reachable}
@@ -26,7 +26,7 @@ use Rattle.expressions.specs.Reading.{arrays}
 use Rattle.waveforms.specs.Pending.{drivenOf, pendingOf, noDriver}
 use Rattle.waveforms.specs.declared.driver.Driver.{Driver}
 use Rattle.steps.specs.Entries.{historyOf, earlierOf, drivingIn}
-use Rattle.steps.specs.Delta.{SetOf, activeIn, KeptTo, currentAfter, ResolvedTo, stateOf, entryOf, wokenFor, wokenIn, afterDelta, ProcessesValid, WokenTo}
+use Rattle.steps.specs.Delta.{activeIn, KeptTo, currentAfter, ResolvedTo, stateOf, entryOf, wokenFor, wokenIn, afterDelta, ProcessesValid, WokenTo}
 use Rattle.steps.specs.declared.delta.Processes.{Processes}
 use Rattle.steps.proofs.Shifts.{history-at}
 use Rattle.steps.proofs.Resolving.{driving-is}
@@ -38,16 +38,6 @@ use Rattle.cycle.proofs.ViewLaws.{history-in, driver-in, process-in, ns
 use Rattle.cycle.proofs.Advances.{few-signals}
 use Rattle.cycle.proofs.ArraysAgree.{value-listed}
 use Rattle.cycle.proofs.DeltaDrivers.{slotOf, heldBy, TakenSlot, first-due, withDrivers, Taking, time-most}
-
--- a test that fails from n on
-any-fewer : (f : ℕ → Bool) (n m : ℕ) → n ≤ m → ((i : ℕ) → n ≤ i → i < m → f i ≡ false) → anyBelow f m ≡ anyBelow f n
-unfolding anyBelow
-any-fewer f n zero h z = let e : n ≡ 0 = omega arith in rw e
-any-fewer f n (suc m) h z =
-    ⊎-elim
-    (λ (e : n ≡ suc m). rw e)
-    (λ (l : n < suc m). rw (any-fewer f n m (omega arith) (λ i a b. z i a (omega arith)), z m (omega arith) (omega arith)) (or-false (anyBelow f n)))
-    (eq-or-lt-of-le h)
 
 map-below : {A B : Type 0} (f : A → B) (g : ℕ → A) (n : ℕ) → map f (listBelow g n) ≡ listBelow (λ i. f (g i)) n
 unfolding listBelow

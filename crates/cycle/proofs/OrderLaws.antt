@@ -14,10 +14,10 @@ use Rattle.base.proofs.Below.{split, any-same}
 use Rattle.base.specs.Cases.{_∣_, _⇒_}
 use Rattle.base.proofs.Cases.{by-test, either-way}
 use Rattle.base.proofs.Course.{any-first}
+use Rattle.sets.specs.Sets.{inSet}
 use Rattle.blocks.specs.Records.{Model}
 use Rattle.model.specs.Facts.{Facts}
 use Rattle.rules.specs.Configuration.{processIn}
-use Rattle.rules.specs.Steps.{inSet}
 use Rattle.rules.specs.Orders.{Outcome, Settled, refused, isReady, isStopped, picked, lowestReady, settledFrom, settled, setBits, someMember, pickedSet, readOf}
 use Rattle.rules.proofs.Invariant.{failure-small}
 use Rattle.rules.proofs.Sets.{all-in, no-member, members-same, chosen, none-above}

@@ -9,13 +9,13 @@ use lib.ListN.{length, getD, set, length-set}
 use lib.Seq.{getD-set-same, getD-set-other}
 use borrow.Author.Tests.{eq-eqb, ne-eqb, ltb-true}
 use Rattle.base.proofs.Below.{and-left, and-right}
+use Rattle.sets.specs.Sets.{inSet}
 use Rattle.blocks.specs.Records.{Model, signalAt, driverAt, statementAt}
 use Rattle.fields.specs.Fields.{ownerOf}
 use Rattle.fields.specs.Facts.{Spans}
 use Rattle.model.specs.Facts.{Facts}
 use Rattle.rules.specs.Configuration.{driverIn, lastTime}
 use Rattle.rules.specs.Statements.{nextPlace, applied, effectBy, effectOf, stepped}
-use Rattle.rules.specs.Steps.{inSet}
 use Rattle.rules.specs.Orders.{Settled, isReady}
 use Rattle.rules.specs.Invariant.{DriverValid, EffectFits, StoreFits, ScheduleFits}
 use Rattle.rules.specs.declared.driven.Driven.{Driven}

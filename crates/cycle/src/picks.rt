@@ -20,7 +20,7 @@ use rules::READY;
 use rules::STOPPED;
 use rules::WAITING;
 use rules::effect::Effect;
-use steps::sets::has;
+use sets::has;
 ghost use Rattle.cycle.specs.Turns.{picksRefusal, turnsOf, Tellable, Named, replyOf};
 
 // The picks that an order asks for.

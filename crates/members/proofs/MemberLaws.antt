@@ -10,7 +10,7 @@ use borrow.Author.Tests.{le-leb, lt-leb, ne-eqb}
 use Rattle.base.specs.Below.{anyBelow}
 use Rattle.base.specs.Cases.{_∣_, _⇒_}
 use Rattle.base.proofs.Below.{any-start, any-next, any-more, any-found}
-use Rattle.rules.specs.Steps.{inSet}
+use Rattle.sets.specs.Sets.{inSet}
 use Rattle.rules.specs.Orders.{setBits, someMember}
 use Rattle.members.specs.Members.{readyIn, setRefusal}
 

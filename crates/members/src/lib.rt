@@ -4,7 +4,7 @@ ghost use Prim.Native.Nat.{_≤_};
 ghost use Rattle.members.specs.Members.{pickRefusal, setRefusal, stoppedIn};
 use rules::READY;
 use rules::STOPPED;
-use steps::sets::has;
+use sets::has;
 
 // The refusal of a pick of process p, or 0.
 pub fn pick_refusal(standings: &[usize; 16], nprocesses: usize, p: usize) -> usize

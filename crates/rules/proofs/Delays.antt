@@ -14,13 +14,14 @@ use Rattle.base.specs.Below.{anyBelow}
 use Rattle.base.proofs.Cases.{choices-by}
 use Rattle.base.proofs.Below.{split}
 use Rattle.base.proofs.Course.{course-same}
+use Rattle.sets.specs.Sets.{inSet}
 use Rattle.blocks.specs.Records.{Model, nodeAt, statementAt}
 use Rattle.blocks.specs.declared.records.StatementRecord.{StatementRecord}
 use Rattle.trees.specs.Trees.{typeOf}
 use Rattle.rules.specs.Configuration.{Configuration, processIn, lastTime, deltaLimit}
 use Rattle.rules.specs.Evaluation.{environmentOf, nextValue, evalOf}
 use Rattle.rules.specs.Statements.{effectBy, effectOf, applied, stepped}
-use Rattle.rules.specs.Steps.{signalAfter, signalsAfter, earlierAfter, wokenAt, processAfterDelta, deltaStep, timeStep, inSet}
+use Rattle.rules.specs.Steps.{signalAfter, signalsAfter, earlierAfter, wokenAt, processAfterDelta, deltaStep, timeStep}
 use Rattle.rules.specs.Orders.{Outcome, isReady, isStopped, pickDone, picked, dueTimes, earliest, dueNow, advanceDone, advancing, deltaOrder, timeOrder, deltaStepped, timeStepped, lowestReady, Settled, settledFrom, settleDone, settled, setBits, someMember, steppedBelow, setDone, pickedSet, readOf}
 use Rattle.rules.specs.Delays.{NoDelayOfZero, formerEnvironment, withoutEarlier}
 use Rattle.rules.proofs.Evaluation.{read-same}

@@ -11,10 +11,10 @@ use lib.ListN.{length}
 use Rattle.base.specs.Below.{allBelow, sumBelow}
 use Rattle.base.proofs.Below.{all-at, any-none, any-same}
 use Rattle.base.proofs.Cases.{either-way}
+use Rattle.sets.specs.Sets.{inSet}
 use Rattle.blocks.specs.Records.{Model}
 use Rattle.rules.specs.Configuration.{Configuration}
 use Rattle.rules.specs.Statements.{stepped}
-use Rattle.rules.specs.Steps.{inSet}
 use Rattle.rules.specs.Orders.{isReady, setBits, someMember, membersBelow, steppedBelow}
 use Rattle.rules.proofs.Picks.{standing-stays}
 

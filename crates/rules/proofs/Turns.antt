@@ -12,10 +12,10 @@ use borrow.Author.Tests.{lt-ltb, le-ltb}
 use Rattle.base.proofs.Below.{split}
 use Rattle.base.proofs.Cases.{either-way}
 use Rattle.base.proofs.Course.{first-found, first-none}
+use Rattle.sets.specs.Sets.{inSet}
 use Rattle.blocks.specs.Records.{Model}
 use Rattle.rules.specs.Configuration.{Configuration}
 use Rattle.rules.specs.Statements.{stepped}
-use Rattle.rules.specs.Steps.{inSet}
 use Rattle.rules.specs.Orders.{Settled, isReady, lowestReady, settledFrom, setBits, membersBelow, steppedBelow}
 use Rattle.rules.proofs.Picks.{standing-stays}
 use Rattle.rules.proofs.Sets.{Chosen, all-in, members-more, members-stay, members-none, members-most, stepped-none, stepped-more, stepped-stay, later-stay}

@@ -8,10 +8,11 @@ use lib.ListN.{length}
 use Rattle.base.specs.Below.{anyBelow, sumBelow, joinBelow}
 use Rattle.base.specs.Cases.{_∣_, _⇒_}
 use Rattle.base.specs.Course.{firstWith}
+use Rattle.sets.specs.Sets.{inSet}
 use Rattle.blocks.specs.Records.{Model}
 use Rattle.rules.specs.Configuration.{deltaLimit, lastTime, Transaction, ProcessState, Configuration, driverIn, processIn, currentOf, ready, stopped}
 use Rattle.rules.specs.Statements.{stepped}
-use Rattle.rules.specs.Steps.{transactionDue, deadlineDue, inSet, deltaStep, timeStep}
+use Rattle.rules.specs.Steps.{transactionDue, deadlineDue, deltaStep, timeStep}
 
 -- an order's answer and the configuration it hands back: the refusal or 0, byte 1, the picks made, bytes 4 to 7 as a number
 pub record Outcome : Type 0 where

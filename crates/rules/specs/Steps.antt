@@ -2,11 +2,12 @@
 use mathlib.Core.Bool.{Bool, false, not, _&&_}
 use mathlib.Core.List.{List, [], _∷_, _++_, map}
 use mathlib.Core.Option.{Option, none, some}
-use Prim.Native.Nat.{ℕ, _+_, _-_, _/_, _%_, _^_, min}
+use Prim.Native.Nat.{ℕ, _+_, _-_, min}
 use lib.Dec.{eqb}
 use lib.ListN.{length, getD, take, replicate}
 use Rattle.base.specs.Below.{anyBelow, listBelow}
 use Rattle.base.specs.Cases.{_∣_, _⇒_, _is_⇒_}
+use Rattle.sets.specs.Sets.{inSet}
 use Rattle.values.specs.Nine.{Z}
 use Rattle.blocks.specs.Records.{bus, Model, signalAt, driverAt, statementAt}
 use Rattle.blocks.specs.declared.records.SignalRecord.{SignalRecord}
@@ -74,10 +75,6 @@ signalsAfter M c = listBelow (signalAfter M c) (length (M .signals))
 -- "the value that the signal had before the latest delta step", once that of c is done
 unfoldable pub earlierAfter : Model → Configuration → List ℕ
 earlierAfter M c = listBelow (currentOf (c .signals)) (length (M .signals))
-
--- bit n of a set
-unfoldable pub inSet : ℕ → ℕ → Bool
-inSet set n = eqb (set / 2 ^ n % 2) 1
 
 -- "a signal of its set changed value", from the values old to the values new
 unfoldable pub changedIn : Model → ℕ → List (List ℕ) → List (List ℕ) → Bool

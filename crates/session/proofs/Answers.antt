@@ -1,16 +1,17 @@
--- What the bytes of an answer and of an order say: the refusal, the picks made, the fault and its node, the fields.
+-- What the bytes of an answer and of an order say: the refusal, the picks made, the time, the fault and its node, the fields.
 -- Assumes nothing.
 use mathlib.Core.Path.{_≡_, refl, ap, _∙_}
 use mathlib.Core.List.{List, [], _∷_}
-use Prim.Native.Nat.{ℕ, suc, _*_, _/_, _≤_, _<_}
+use Prim.Native.Nat.{ℕ, suc, _+_, _*_, _/_, _%_, _≤_, _<_}
 use native.Mathlib.Omega.{arith}
 use lib.ListN.{length, take, drop}
 use lib.Seq.{getD-take, getD-drop}
 use Rattle.base.specs.Below.{listBelow, All}
 use Rattle.base.specs.Bytes.{byteAt, wordAt}
 use Rattle.base.proofs.Below.{list-all, list-first, list-same}
+use Rattle.rules.specs.Configuration.{lastTime}
 use Rattle.rules.specs.Orders.{Outcome, faultAndNode}
-use Rattle.session.specs.Lists.{Order, orderOf, ordersOf, orderBytes, answerOf}
+use Rattle.session.specs.Lists.{Order, orderOf, ordersOf, byteOf, orderBytes, answerOf, timeIn}
 use Rattle.session.specs.Demand3.{Bytes}
 
 -- byte 0 is the refusal
@@ -22,6 +23,28 @@ refusal-byte r h = omega arith
 pub picks-word : (r : Outcome) → r .picks < 65536 → wordAt (answerOf r) 2 ≡ r .picks
 unfolding answerOf
 picks-word r h = omega arith
+
+-- bytes 8 to 15 are the time after the order
+module _ (t : ℕ) where
+  low-word : byteOf 0 t + 256 * byteOf 1 t ≡ t % 65536
+  low-word = omega arith
+
+  next-word : byteOf 2 t + 256 * byteOf 3 t ≡ t / 65536 % 65536
+  next-word = omega arith
+
+  third-word : byteOf 4 t + 256 * byteOf 5 t ≡ t / 4294967296 % 65536
+  third-word = omega arith
+
+  last-word : t ≤ lastTime → byteOf 6 t + 256 * byteOf 7 t ≡ 0
+  last-word h = omega arith
+
+  eight-bytes : t ≤ lastTime → byteOf 0 t + 256 * byteOf 1 t + 65536 * (byteOf 2 t + 256 * byteOf 3 t)
+      + 4294967296 * (byteOf 4 t + 256 * byteOf 5 t + 65536 * (byteOf 6 t + 256 * byteOf 7 t)) ≡ t
+  eight-bytes h = rw (low-word, next-word, third-word, last-word h) (omega arith)
+
+pub time-bytes : (r : Outcome) → r .after .time ≤ lastTime → timeIn (answerOf r) ≡ r .after .time
+unfolding answerOf
+time-bytes r = eight-bytes (r .after .time)
 
 -- bytes 4 to 7 of a fault and a node: byte 4 is the fault, byte 5 zero, bytes 6-7 are the node
 module _ (r : Outcome) {f n : ℕ} (e : r .value ≡ faultAndNode f n) (small : f ≤ 4) (short : n ≤ 65535) where

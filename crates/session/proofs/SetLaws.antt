@@ -1,7 +1,7 @@
 -- Picks of sets: the set's processes in rising order are one arrangement, and all arrangements come to one end (`determinacy`).
 -- Assumes nothing.
 use mathlib.Core.Path.{_≡_, refl, sym, ap, _∙_}
-use mathlib.Core.Bool.{true, false, true≢false, _&&_}
+use mathlib.Core.Bool.{true, true≢false, _&&_}
 use mathlib.Core.Logic.{_≢_, ⊎-elim}
 use mathlib.Core.List.{List, [], _∷_}
 use Prim.Native.Nat.{ℕ, zero, suc, _+_, _≤_, _<_}
@@ -15,6 +15,7 @@ use Rattle.base.specs.Below.{anyBelow, sumBelow, joinBelow}
 use Rattle.base.specs.Cases.{_∣_, _⇒_}
 use Rattle.base.proofs.Below.{split, and-left, and-right, join-none, join-more}
 use Rattle.base.proofs.Cases.{either-way}
+use Rattle.sets.specs.Sets.{inSet}
 use Rattle.determinacy.specs.Arrangements.{occurrences, Arranges, stepsOf, CanStep}
 use Rattle.determinacy.proofs.Arranged.{occurrences-append, steps-append, arranged as by-arranging}
 use Rattle.blocks.specs.Records.{Model, modelOf}
@@ -22,7 +23,6 @@ use Rattle.model.specs.Facts.{Facts}
 use Rattle.model.proofs.Facts.{facts}
 use Rattle.model.proofs.Rules.{accepted}
 use Rattle.rules.specs.Configuration.{Configuration, first}
-use Rattle.rules.specs.Steps.{inSet}
 use Rattle.rules.specs.Invariant.{Reachable}
 use Rattle.rules.specs.Orders.{Outcome, setBits, someMember, membersBelow, steppedBelow, setDone, pickedSet, picked}
 use Rattle.rules.proofs.FirstReachable.{first-reachable}

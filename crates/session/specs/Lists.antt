@@ -1,11 +1,11 @@
 -- Orders and answers as bytes, and lists of orders of any length.
 use mathlib.Core.Bool.{Bool, false, not, _&&_}
 use mathlib.Core.List.{List, [], _∷_}
-use Prim.Native.Nat.{ℕ, _*_, _/_, _%_, _^_}
+use Prim.Native.Nat.{ℕ, _+_, _*_, _/_, _%_, _^_}
 use lib.Dec.{eqb}
 use lib.ListN.{length, take, drop}
 use Rattle.base.specs.Below.{listBelow}
-use Rattle.base.specs.Bytes.{byteAt, wordAt}
+use Rattle.base.specs.Bytes.{byteAt, wordAt, longAt}
 use Rattle.base.specs.Cases.{_∣_, _⇒_, _is_⇒_}
 use Rattle.blocks.specs.Records.{Model}
 use Rattle.rules.specs.Configuration.{Configuration, first}
@@ -75,6 +75,10 @@ answerBytes refusal byte picks value time =
 
 unfoldable pub answerOf : Outcome → List ℕ
 answerOf r = answerBytes (r .refusal) (r .byte) (r .picks) (r .value) (r .after .time)
+
+-- the time of an answer, its bytes 8 to 15
+abbrev pub timeIn : List ℕ → ℕ
+timeIn a = longAt a 8 + 4294967296 * longAt a 12
 
 -- what a list of orders gives: an answer to each, and the end configuration
 pub record Played : Type 0 where

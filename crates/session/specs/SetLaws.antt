@@ -4,11 +4,11 @@ use mathlib.Core.Bool.{Bool, _&&_}
 use mathlib.Core.List.{List, [], _∷_}
 use Prim.Native.Nat.{ℕ}
 use lib.Dec.{ltb}
+use Rattle.sets.specs.Sets.{inSet}
 use Rattle.determinacy.specs.Arrangements.{Arranges}
 use Rattle.blocks.specs.Records.{Model, modelOf}
 use Rattle.model.specs.Rules.{refusalOf}
 use Rattle.rules.specs.Configuration.{Configuration}
-use Rattle.rules.specs.Steps.{inSet}
 use Rattle.rules.specs.Orders.{setBits}
 use Rattle.session.specs.Lists.{Order, order, performed, played, after}
 use Rattle.session.specs.Demand3.{picksOf}

@@ -11,6 +11,7 @@ use lib.Seq.{getD-set-same, getD-set-other}
 use borrow.Author.Tests.{eqb-true, eq-eqb, ne-eqb}
 use Rattle.base.specs.Below.{anyBelow}
 use Rattle.base.proofs.Cases.{by-test}
+use Rattle.sets.specs.Sets.{inSet}
 use Rattle.blocks.specs.Records.{Model, statementAt}
 use Rattle.blocks.specs.declared.records.StatementRecord.{StatementRecord}
 use Rattle.fields.specs.Fields.{absent}
@@ -22,7 +23,7 @@ use Rattle.rules.specs.declared.value.Value.the-variants.{Of, Fault}
 use Rattle.rules.specs.Configuration.{ProcessState, ready, waiting, lastTime}
 use Rattle.rules.specs.Evaluation.{Environment, evalOf}
 use Rattle.rules.specs.Statements.{nextPlace, stops}
-use Rattle.rules.specs.Steps.{inSet, deadlineAt, deadlineDue, wakes, wokenBy}
+use Rattle.rules.specs.Steps.{deadlineAt, deadlineDue, wakes, wokenBy}
 use Rattle.rules.specs.Invariant.{ProcessValid}
 use Rattle.rules.proofs.Effects.{own-statement}
 use Rattle.waveforms.specs.Pending.{never}

@@ -12,14 +12,15 @@ use lib.Seq.{getD-set-same, getD-set-other}
 use borrow.Author.Count.{below-none, below-more}
 use borrow.Author.Tests.{eq-eqb, ne-eqb}
 use Rattle.base.proofs.Below.{any-start, any-next}
+use Rattle.sets.specs.Sets.{inSet, SetOf}
 use Rattle.blocks.specs.Records.{Model, signalAt, driverAt}
 use Rattle.blocks.specs.declared.records.DriverRecord.{DriverRecord}
 use Rattle.model.specs.Facts.{Facts}
 use Rattle.rules.specs.Configuration.{resolvedOr}
-use Rattle.rules.specs.Steps.{undriven, inSet}
+use Rattle.rules.specs.Steps.{undriven}
 use Rattle.steps.specs.Entries.{drivingIn}
-use Rattle.steps.specs.Delta.{SetOf, activeIn, KeptTo, currentAfter, ResolvedTo}
-use Rattle.steps.proofs.SignalSets.{in-none}
+use Rattle.steps.specs.Delta.{activeIn, KeptTo, currentAfter, ResolvedTo}
+use Rattle.sets.proofs.Bits.{in-none}
 
 -- one driver after the other
 module _ (M : Model) (due : List ℕ) (t : ℕ) where

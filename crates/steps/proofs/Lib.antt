@@ -2,4 +2,3 @@ pub mod DeltaProcesses
 pub mod DeltaSignals
 pub mod Resolving
 pub mod Shifts
-pub mod SignalSets

@@ -7,22 +7,19 @@ use lib.Dec.{eqb}
 use lib.ListN.{length, getD}
 use Rattle.base.specs.Below.{anyBelow}
 use Rattle.base.specs.Cases.{_∣_, _⇒_}
+use Rattle.sets.specs.Sets.{inSet, SetOf}
 use Rattle.blocks.specs.Records.{Model, signalAt, driverAt, statementAt}
 use Rattle.blocks.specs.declared.records.StatementRecord.{StatementRecord}
 use Rattle.fields.specs.Fields.{absent}
 use Rattle.rules.specs.declared.moment.Moment.the-variants.{Now, DeltaAgo}
 use Rattle.rules.specs.Configuration.{ProcessState, resolvedOr, waiting}
 use Rattle.rules.specs.Evaluation.{Environment, evalOf}
-use Rattle.rules.specs.Steps.{undriven, inSet, deadlineDue, wakes, wokenBy}
+use Rattle.rules.specs.Steps.{undriven, deadlineDue, wakes, wokenBy}
 use Rattle.rules.specs.Invariant.{ProcessValid}
 use Rattle.expressions.specs.Reading.{signalSlot}
 use Rattle.steps.specs.Entries.{deadlineOf, drivingIn}
 use Rattle.steps.specs.declared.delta.Process.{Process}
 use Rattle.steps.specs.declared.delta.Processes.{Processes}
-
--- the set has exactly the signals of which f says so
-pub record SetOf (f : ℕ → Bool) (set : ℕ) : Type 0 where
-  pub at : (s : ℕ) → s < 32 → inSet set s ≡ f s
 
 -- one of the first n drivers drives signal s and has its first transaction due at t
 unfoldable pub activeIn : Model → List ℕ → ℕ → ℕ → ℕ → Bool

@@ -2,6 +2,7 @@
 ghost use mathlib.Core.Path.{_≡_};
 ghost use Prim.Native.Nat.{_≤_, _<_};
 ghost use lib.ListN.{length};
+ghost use Rattle.sets.specs.Sets.{SetOf};
 ghost use Rattle.blocks.specs.Records.{modelOf};
 ghost use Rattle.fields.specs.Fields.{absent};
 ghost use Rattle.fields.specs.Facts.{Spans};
@@ -9,12 +10,9 @@ ghost use Rattle.rules.specs.Steps.{wakes, wokenBy};
 ghost use Rattle.rules.specs.Configuration.{lastTime};
 ghost use Rattle.rules.specs.Invariant.{ProcessValid};
 ghost use Rattle.expressions.specs.Reading.{arrays, Runs};
-ghost use Rattle.steps.specs.Delta.{SetOf, activeIn, KeptTo, ResolvedTo, stateOf, wokenFor, afterDelta, ProcessesValid, WokenTo};
+ghost use Rattle.steps.specs.Delta.{activeIn, KeptTo, ResolvedTo, stateOf, wokenFor, afterDelta, ProcessesValid, WokenTo};
 use crate::resolve::resolved;
 use crate::resolve::undriven;
-use crate::sets::has;
-use crate::sets::meet;
-use crate::sets::with;
 use blocks::index::Index;
 use blocks::index::driver_at;
 use blocks::index::statement_at;
@@ -25,6 +23,9 @@ use rules::READY;
 use rules::STOPPED;
 use rules::WAITING;
 use rules::value::Value;
+use sets::has;
+use sets::meet;
+use sets::with;
 use waveforms::driver::NEVER;
 
 // The set of the signals that have a driver with a transaction due at the time.

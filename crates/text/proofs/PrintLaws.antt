@@ -158,18 +158,20 @@ module _ (m o : List ℕ) where
       unfolding sessionText
       played-writes f h = rw (← text-is, ← e, ← f, eq-eqb _ _ h)
 
--- a file that is longer than its room: where a longer model is printed as 1, and longer orders as the model's own number or 9
+-- a model that is longer than its room, where a longer one is printed as 1
+pub model-room : (print : List ℕ → List ℕ) → ((m : List ℕ) → 32768 < length m → print m ≡ numberLineOf 1) → (m : List ℕ)
+    → print (take modelRoom m) ≡ print m
+model-room print long m =
+    ⊎-elim
+    (λ (l : 32768 < length m).
+    let k : 32768 < length (take modelRoom m) = rw length-take (omega arith) in
+    long (take modelRoom m) k ∙ sym (long m l))
+    (λ (l : length m ≤ 32768). rw (take-all modelRoom m (omega arith)))
+    (split 32768 (length m))
+
+-- two files that are longer than their rooms: where longer orders are printed as the model's own number or 9
 module _ (print : List ℕ → List ℕ → List ℕ) (model-long : (m o : List ℕ) → 32768 < length m → print m o ≡ numberLineOf 1)
     (orders-long : (m o : List ℕ) → 16384 < length o → print m o ≡ numberLineOf (longNumber m)) where
-  model-room : (m o : List ℕ) → print (take modelRoom m) o ≡ print m o
-  model-room m o =
-      ⊎-elim
-      (λ (l : 32768 < length m).
-      let k : 32768 < length (take modelRoom m) = rw length-take (omega arith) in
-      model-long (take modelRoom m) o k ∙ sym (model-long m o l))
-      (λ (l : length m ≤ 32768). rw (take-all modelRoom m (omega arith)))
-      (split 32768 (length m))
-
   orders-room : (m o : List ℕ) → print m (take ordersRoom o) ≡ print m o
   orders-room m o =
       ⊎-elim
@@ -180,7 +182,7 @@ module _ (print : List ℕ → List ℕ → List ℕ) (model-long : (m o : List 
       (split 16384 (length o))
 
   pub rooms-by : RoomsSuffice print
-  rooms-by m o = model-room m (take ordersRoom o) ∙ orders-room m o
+  rooms-by m o = model-room (λ n. print n (take ordersRoom o)) (λ n. model-long n (take ordersRoom o)) m ∙ orders-room m o
 
 pub rooms-suffice : RoomsSuffice textOf
 rooms-suffice = rooms-by textOf long-model-text long-orders-text

@@ -8,9 +8,10 @@ use borrow.Author.Tests.{lt-ltb, le-ltb}
 use lib.ListN.{length, length-append}
 use Rattle.base.specs.Bytes.{byteAt, wordAt}
 use Rattle.base.proofs.Below.{split}
+use Rattle.session.specs.Lists.{timeIn}
 use Rattle.numerals.specs.Numerals.{decimalOf}
 use Rattle.numerals.proofs.NumeralLaws.{decimal-most}
-use Rattle.text.specs.Text.{minus, signedOf, timeIn, valueIn, nodeIn, columns, lineOf, lineMost}
+use Rattle.text.specs.Text.{minus, signedOf, valueIn, nodeIn, columns, lineOf, lineMost}
 
 -- signed numbers
 pub not-negative : (v : ℕ) → v < 2147483648 → signedOf v ≡ decimalOf v

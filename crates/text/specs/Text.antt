@@ -11,7 +11,7 @@ use Rattle.base.specs.Bytes.{byteAt, wordAt, longAt}
 use Rattle.base.specs.Cases.{_∣_, _⇒_, _is_⇒_}
 use Rattle.io.specs.Counts.{Counts}
 use Rattle.numerals.specs.Numerals.{decimalOf, space, lineFeed}
-use Rattle.session.specs.Lists.{Order, ordersOf}
+use Rattle.session.specs.Lists.{Order, ordersOf, timeIn}
 use Rattle.session.specs.Sessions.{Session, sessionOf}
 
 abbrev pub minus : ℕ
@@ -20,10 +20,6 @@ minus = 45
 -- 32 bits as a signed number
 unfoldable pub signedOf : ℕ → List ℕ
 signedOf v = ltb v 2147483648 ⇒ decimalOf v ∣ (minus ∷ decimalOf (4294967296 - v))
-
--- the time of an answer, 64 bits
-abbrev pub timeIn : List ℕ → ℕ
-timeIn a = longAt a 8 + 4294967296 * longAt a 12
 
 -- a text and the character behind it
 abbrev pub ended : List ℕ → ℕ → List ℕ

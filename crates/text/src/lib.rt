@@ -2,11 +2,11 @@
 ghost use mathlib.Core.Path.{_≡_};
 ghost use Prim.Native.Nat.{_+_, _*_, _/_, _≤_, _<_};
 ghost use lib.ListN.{length, take, replicate};
-ghost use Rattle.session.specs.Lists.{ordersOf};
+ghost use Rattle.session.specs.Lists.{ordersOf, timeIn};
 ghost use Rattle.session.specs.Sessions.{sessionOf};
 ghost use Rattle.numerals.specs.Numerals.{decimalOf, space};
 ghost use Rattle.numerals.specs.Puts.{far, Puts};
-ghost use Rattle.text.specs.Text.{signedOf, ended, timeIn, valueIn, nodeIn, lineOf, numberLineOf, answersIn, linesOf, textOf, lineMost, modelRoom, ordersRoom, textRoom, RoomsSuffice, AnswerRoom, Prints};
+ghost use Rattle.text.specs.Text.{signedOf, ended, valueIn, nodeIn, lineOf, numberLineOf, answersIn, linesOf, textOf, lineMost, modelRoom, ordersRoom, textRoom, RoomsSuffice, AnswerRoom, Prints};
 use base::byte;
 use base::long;
 use base::word;

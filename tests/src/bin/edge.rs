@@ -1,7 +1,8 @@
 //! Holds the program that plays the files `model` and `orders` against the
-//! second kernel's text: `edge PROGRAM`; `edge dump PROGRAM` the one that dumps them.
+//! second kernel's text: `edge PROGRAM`; `edge dump PROGRAM` the one that dumps them,
+//! `edge loop PROGRAM` the one that checks the file `model` for a loop without delay.
 
-use second_kernel::edge::{examine, sessions, DUMP, PLAY};
+use second_kernel::edge::{examine, sessions, DUMP, LOOP, PLAY};
 use second_kernel::end;
 use std::process::Command;
 
@@ -10,7 +11,8 @@ fn run() -> Result<(), String> {
     let (bench, path) = match &arguments[..] {
         [path] => (&PLAY, path),
         [dump, path] if dump == "dump" => (&DUMP, path),
-        _ => return Err("use: edge PROGRAM | edge dump PROGRAM".into()),
+        [name, path] if name == "loop" => (&LOOP, path),
+        _ => return Err("use: edge PROGRAM | edge dump PROGRAM | edge loop PROGRAM".into()),
     };
     // The program runs in other folders.
     let path = std::fs::canonicalize(path).map_err(|e| format!("{}: {e}", path.display()))?;

@@ -1,15 +1,20 @@
-//! The programs that are held to the second kernel: `playbench` and `dumpbench`.
+//! The programs that are held to the second kernel: `playbench`, `dumpbench` and
+//! `loopbench`.
 
-use super::sessions::{long_lines, longest_dump, Case};
+use super::sessions::{long_lines, longest_chain, longest_dump, Case};
 use crate::features::{dumps, Seen};
 use crate::gen::{self, SessionCase};
+use crate::loops;
 use crate::model::load;
+use crate::numbers;
 use crate::session;
 use crate::vcd::read::read;
 use crate::vcd::write;
 
-/// What a program prints of its files `model` and `orders`.
+/// What a program prints of its files.
 pub struct Bench {
+    /// The files that it reads: `model` and, but for one, `orders`.
+    pub files: &'static [&'static str],
     /// The second kernel's text.
     pub print: fn(&[u8], &[u8]) -> String,
     /// Is the text of a session that is played whole, by its orders?
@@ -24,7 +29,25 @@ pub struct Bench {
     pub never: &'static str,
 }
 
+impl Bench {
+    /// Does it read orders?
+    pub fn plays(&self) -> bool {
+        self.files.contains(&"orders")
+    }
+
+    /// The numbers that it can print.
+    pub fn numbers(&self) -> Vec<u32> {
+        match self.plays() {
+            true => [numbers::MODEL, &[numbers::ORDERS]].concat(),
+            false => numbers::MODEL.to_vec(),
+        }
+    }
+}
+
+const BOTH: &[&str] = &["model", "orders"];
+
 pub const PLAY: Bench = Bench {
+    files: BOTH,
     print: session::print,
     whole: |orders, text| text.lines().count() == orders.len() / session::ORDER,
     random: gen::session_case,
@@ -35,6 +58,7 @@ pub const PLAY: Bench = Bench {
 };
 
 pub const DUMP: Bench = Bench {
+    files: BOTH,
     print: write::print,
     whole: |_, text| read(text).is_ok(),
     random: gen::dump_case,
@@ -46,6 +70,52 @@ pub const DUMP: Bench = Bench {
     },
     never: "numbers 10 and 21 cannot occur: there is no answer buffer, and the program's own holds every dump",
 };
+
+/// What lines of `loopbench` show.
+const NONE: &str = "no chain";
+const ONE: &str = "a chain of one process";
+const SEVERAL_ON: &str = "a chain of several";
+const TWO_DIGITS: &str = "a process above 9";
+const ABOVE: &str = "a chain that begins above 0";
+
+pub const LOOP: Bench = Bench {
+    files: &["model"],
+    print: |model, _| loops::print(model),
+    whole: |_, text| text == "none\n" || processes(text).is_some(),
+    random: |seed| {
+        let case = gen::loops::case(seed);
+        SessionCase {
+            model: case.model,
+            orders: vec![],
+            room: 0,
+            what: case.what,
+        }
+    },
+    long: longest_chain,
+    names: || vec![NONE, ONE, SEVERAL_ON, TWO_DIGITS, ABOVE],
+    shown: |_, text| {
+        let Some(list) = processes(text) else {
+            return Seen::from([NONE]);
+        };
+        let mut seen = Seen::from([if list.len() == 1 { ONE } else { SEVERAL_ON }]);
+        seen.extend(list.iter().any(|&p| p > 9).then_some(TWO_DIGITS));
+        seen.extend((list[0] > 0).then_some(ABOVE));
+        seen
+    },
+    never: "numbers 9 and 10 cannot occur: there are no orders and no answers",
+};
+
+/// The processes of a line with a chain: each once, below 16, the lowest first.
+fn processes(text: &str) -> Option<Vec<usize>> {
+    let list = text.strip_prefix("chain ")?.strip_suffix('\n')?;
+    let number = |word: &str| {
+        let number: usize = word.parse().ok()?;
+        (number < 16 && number.to_string() == word).then_some(number)
+    };
+    let list: Vec<usize> = list.split(' ').map(number).collect::<Option<_>>()?;
+    let once = (1..list.len()).all(|n| !list[..n].contains(&list[n]) && list[0] < list[n]);
+    once.then_some(list)
+}
 
 /// What lines of random sessions show in the columns of value and node, besides 0, of sets
 /// and of steps.
@@ -84,6 +154,36 @@ fn columns_shown(orders: &[u8], text: &str) -> Seen {
 #[cfg(test)]
 mod tests {
     use super::*;
+
+    #[test]
+    fn lines_of_chains() {
+        let shown = |text: &str| {
+            assert!((LOOP.whole)(&[], text), "{text}");
+            let case = Case::new("", &[], &[], 0);
+            (LOOP.shown)(&case, text).into_iter().collect::<Vec<_>>()
+        };
+        assert_eq!(shown("none\n"), [NONE]);
+        assert_eq!(shown("chain 0\n"), [ONE]);
+        assert_eq!(shown("chain 2 10 3\n"), [SEVERAL_ON, ABOVE, TWO_DIGITS]);
+        for text in [
+            "",
+            "none",
+            "none\nnone\n",
+            "chain\n",
+            "chain \n",
+            "chain 0",
+            "chain 0 \n",
+            "chain 00\n",
+            "chain 1 0\n",
+            "chain 0 0\n",
+            "chain 0 2 2\n",
+            "chain 0 16\n",
+            "chain 0  1\n",
+            "0 1\n",
+        ] {
+            assert!(!(LOOP.whole)(&[], text), "{text}");
+        }
+    }
 
     #[test]
     fn columns_of_value_and_node() {

@@ -7,6 +7,7 @@ use crate::cases::{
 };
 use crate::damage;
 use crate::features;
+use crate::gen;
 use crate::model::*;
 use crate::numbers;
 use crate::rng::Rng;
@@ -155,6 +156,18 @@ pub fn longest_dump() -> Case {
     Case::new("the longest dump", &b.encode(), &orders, 0)
 }
 
+/// A model whose chain has all processes, the second of them the last.
+pub fn longest_chain() -> Case {
+    let mut m = gen::loops::endless(16);
+    // Process p assigns signal p; each waits on the one of the process before it.
+    let order: Vec<u32> = [0].into_iter().chain((1..16).rev()).collect();
+    for (n, &p) in order.iter().enumerate() {
+        let before = order[(n + 15) % 16];
+        m.statements[2 * p as usize + 1].set = 1 << before;
+    }
+    Case::new("a chain of 16", &encode(&m), &[], 0)
+}
+
 fn random_sessions(bench: &Bench) -> Vec<Case> {
     (SEED..SEED + RANDOM)
         .map(|seed| {
@@ -169,17 +182,41 @@ fn random_sessions(bench: &Bench) -> Vec<Case> {
         .collect()
 }
 
+/// The group of orders of other lengths.
+const ORDERS: &str = "the orders' length";
+
 /// The group of random sessions.
 pub const RANDOM_SESSIONS: &str = "random sessions";
 
 /// Sessions of one sort, with its name.
 pub type Group = (&'static str, Vec<Case>);
 
+/// Without what orders alone differ in.
+fn models_once(groups: Vec<Group>) -> Vec<Group> {
+    let mut groups: Vec<Group> = groups.into_iter().filter(|g| g.0 != ORDERS).collect();
+    for (_, list) in &mut groups {
+        for case in &mut *list {
+            case.number = case.number.filter(|&n| n != numbers::ORDERS);
+            case.orders.clear();
+        }
+        list.dedup_by(|a, b| a.model == b.model);
+    }
+    groups
+}
+
 /// All sessions for a program.
 pub fn sessions(bench: &Bench) -> Vec<Group> {
+    let groups = all_sessions(bench);
+    match bench.plays() {
+        true => groups,
+        false => models_once(groups),
+    }
+}
+
+fn all_sessions(bench: &Bench) -> Vec<Group> {
     vec![
         ("a model's length", model_lengths()),
-        ("the orders' length", order_lengths()),
+        (ORDERS, order_lengths()),
         ("damaged models", damaged_models()),
         ("limits of a model", limit_models()),
         ("bench cases", bench_cases()),

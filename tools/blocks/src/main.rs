@@ -1,8 +1,9 @@
-//! Turns model texts into blocks and order texts into orders, lists both as text, explains nodes, and moves stored orders over.
-//! The grammar stands in the head of `text.rs`.
+//! Turns model texts into blocks and order texts into orders, lists both as text, explains nodes, tells of loops without delay, and
+//! moves stored orders over. The grammar stands in the head of `text.rs`.
 
 mod explain;
 mod list;
+mod loops;
 mod moves;
 mod table;
 mod text;
@@ -16,6 +17,8 @@ const USAGE: &str = "\
 usage: blocks make TEXT MODEL      a model text into blocks
        blocks list MODEL           blocks as a model text
        blocks explain MODEL NODE   the expression of a node, and the statements that use it
+       blocks loops MODEL          a closed chain of processes that lead to each other without delay, or `none` and the bound on
+                                   delta steps; MODEL may be a model text here
        blocks orders TEXT ORDERS   an order text into orders
        blocks show ORDERS          orders as an order text
        blocks move MODEL ORDERS NEW
@@ -31,8 +34,12 @@ fn read_text(name: &str) -> Result<String, String> {
     String::from_utf8(read(name)?).map_err(|_| format!("{name}: not a text"))
 }
 
+fn refused(number: u32) -> String {
+    format!("the kernel refuses this model with {number}")
+}
+
 fn refused_model(name: &str, number: u32) -> String {
-    format!("{name}: the kernel refuses this model with {number}")
+    format!("{name}: {}", refused(number))
 }
 
 /// The accepted model of a file.
@@ -67,6 +74,11 @@ fn run(words: &[&str]) -> Result<(), String> {
         }
         ["explain", from, node] => {
             print!("{}", explain::node(&read_model(from)?, node).map_err(|e| format!("node {node}: {e}"))?);
+            Ok(())
+        }
+        ["loops", from] => {
+            let library = loops::LIBRARY.ok_or(loops::NO_LIBRARY)?;
+            print!("{}", loops::told(library, &read(from)?).map_err(|e| format!("{from}: {e}"))?);
             Ok(())
         }
         ["orders", from, to] => {
@@ -207,9 +219,34 @@ mod tests {
         assert_eq!(new, BEFORE);
     }
 
+    #[cfg(not(feature = "library"))]
+    #[test]
+    fn without_the_library_no_loops_are_told() {
+        for file in [&cases::inverter().encode()[..], b"process p\nwait\n", b"no text"] {
+            assert_eq!(run_on("loops", file), (Err(loops::NO_LIBRARY.to_string()), None));
+        }
+    }
+
     #[cfg(feature = "library")]
     mod with_the_library {
         use super::*;
+
+        #[test]
+        fn loops_are_told_of_texts_and_of_blocks() {
+            let blocks = cases::inverter().encode();
+            for file in [&blocks[..], list::model(&cases::inverter().m).as_bytes()] {
+                assert_eq!(run_on("loops", file), (Ok(()), None));
+            }
+            for (file, error) in [
+                (&blocks[..511], "from: the kernel refuses this model with 1"),
+                (b"process p\nwait until 1\n", "from: the kernel would refuse this model with 7"),
+                (b"process p\nwait off\n", "from: line 2: `off` is one too many"),
+                (b"\xff", "from: neither a model text nor blocks"),
+            ] {
+                assert_eq!(run_on("loops", file), (Err(error.to_string()), None));
+            }
+            assert!(run(&["loops", "no such file"]).is_err_and(|e| e.starts_with("no such file: ")));
+        }
 
         #[test]
         fn the_inverters_orders_move() {

@@ -151,6 +151,9 @@ struct Reader {
     model: Model,
     signals: Vec<String>,
     variables: Vec<String>,
+    processes: Vec<String>,
+    // the lines of the statements
+    lines: Vec<usize>,
     labels: Vec<(String, u16)>,
     // a jump: the statement, the label and the line
     jumps: Vec<(usize, String, usize)>,
@@ -422,7 +425,8 @@ impl Reader {
                 Ok(())
             }
             "process" => {
-                self.new_name()?;
+                let name = self.new_name()?;
+                self.processes.push(name);
                 let first = self.model.statements.len() as u16;
                 self.model.processes.push(ProcessRecord { first, count: 0 });
                 Ok(())
@@ -453,6 +457,8 @@ fn read(text: &str) -> Result<Reader, String> {
         r.at = 0;
         if !r.items.is_empty() {
             r.item(i + 1).map_err(at)?;
+            // An item is at most one statement.
+            r.lines.resize(r.model.statements.len(), i + 1);
             if let Some(t) = r.peek() {
                 return Err(at(format!("{t} is one too many")));
             }
@@ -472,6 +478,22 @@ fn read(text: &str) -> Result<Reader, String> {
 /// The blocks of a model text.
 pub fn model(text: &str) -> Result<Vec<u8>, String> {
     Ok(encode(&read(text)?.model))
+}
+
+/// The model of a text, and what the text has for its records.
+pub struct Source {
+    pub model: Model,
+    /// The processes' names.
+    pub processes: Vec<String>,
+    /// Each statement's line, and the words there.
+    pub statements: Vec<(usize, String)>,
+}
+
+pub fn source(text: &str) -> Result<Source, String> {
+    let r = read(text)?;
+    let lines: Vec<&str> = text.lines().collect();
+    let statements = r.lines.iter().map(|&n| (n, uncommented(lines[n - 1]).trim().to_string())).collect();
+    Ok(Source { model: r.model, processes: r.processes, statements })
 }
 
 /// What is told of a text whose model the kernel refuses with this number.
@@ -858,6 +880,38 @@ process p0
             let text = format!("signal s logic bus 'Z'\nprocess p\nvariable v logic '0'\n{statement}");
             assert_eq!(model(&text), Err(format!("line 4: {error}")), "{statement}");
         }
+    }
+
+    #[test]
+    fn where_the_parts_of_a_text_stand() {
+        let text = "\
+-- a comment
+signal s logic '0'
+process one -- the first
+
+\tagain: -- a label
+\ts <= not s after 0 -- at once
+  goto again
+table
+-- U
+---------
+---------
+---------
+---------
+---------
+---------
+---------
+---------
+---------
+process one
+  variable v integer 0
+null
+  wait   on s";
+        let source = source(text).expect("a model text");
+        assert_eq!(Ok(encode(&source.model)), model(text));
+        assert_eq!(source.processes, ["one", "one"]);
+        let expected = [(6, "s <= not s after 0"), (7, "goto again"), (21, "null"), (22, "wait   on s")];
+        assert_eq!(source.statements, expected.map(|(line, words)| (line, words.to_string())));
     }
 
     // The standard's, as document 01 prints it.

@@ -7,8 +7,8 @@ use lib.Dec.{eqb}
 use lib.ListN.{getD}
 use Rattle.base.specs.Below.{anyBelow}
 use Rattle.base.proofs.Below.{any-start, any-more, any-done, any-found}
+use Rattle.sets.specs.Sets.{inSet}
 use Rattle.rules.specs.Configuration.{stopped}
-use Rattle.rules.specs.Steps.{inSet}
 use Rattle.rules.specs.Orders.{setBits, someMember}
 use Rattle.members.proofs.any_stopped.Statement.{statement}
 use Rattle.members.proofs.any_stopped.Tie as tie

@@ -3,9 +3,10 @@ use mathlib.Core.Logic.{⊎-elim}
 use Prim.Native.Nat.{_≤_, _-_}
 use mathlib.Core.Path.{ap}
 use borrow.Author.Needs.{needs}
+use Rattle.sets.specs.Sets.{SetOf}
 use Rattle.blocks.specs.Records.{modelOf}
 use Rattle.blocks.specs.declared.records.DriverRecord.{DriverRecord}
-use Rattle.steps.specs.Delta.{SetOf, activeIn}
+use Rattle.steps.specs.Delta.{activeIn}
 use Rattle.steps.proofs.DeltaSignals.{active-none, active-more, active-same, active-all, signal-below}
 use Rattle.steps.proofs.delta.actives.Statement.{statement}
 use Rattle.steps.proofs.delta.actives.Tie as tie

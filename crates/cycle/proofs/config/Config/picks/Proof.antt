@@ -9,10 +9,10 @@ use lib.ListN.{length, getD}
 use borrow.Author.Needs.{needs}
 use borrow.Author.Tests.{eqb-true, not-false}
 use Rattle.base.proofs.Below.{or-left, or-right}
+use Rattle.sets.specs.Sets.{inSet}
 use Rattle.blocks.specs.Records.{modelOf}
 use Rattle.fields.specs.Facts.{Spans}
 use Rattle.rules.proofs.Lists.{length-mapped}
-use Rattle.rules.specs.Steps.{inSet}
 use Rattle.expressions.specs.Reading.{Runs}
 use Rattle.cycle.specs.declared.config.Config.{Config}
 use Rattle.cycle.specs.declared.picks.Turns.{Turns}

@@ -1,0 +1,4 @@
+pub mod Sought
+pub mod RowsMade
+pub mod Rounds
+pub mod Held

@@ -1,0 +1,2 @@
+pub mod RelationLaws
+pub mod SetsMade
