@@ -2,11 +2,10 @@
 use mathlib.Core.Path.{_≡_, refl, _∙_}
 use mathlib.Core.List.{List}
 use Prim.Native.Nat.{ℕ, _+_, _≤_, _<_}
-use native.Mathlib.Decide.{ℕ-discrete}
 use native.Mathlib.Omega.{arith}
 use lib.ListN.{length, getD, set, replicate, length-set}
-use lib.Seq.{getD-set-same, getD-set-other}
 use borrow.Author.Tests.{lt-ltb}
+use Rattle.base.proofs.Below.{each-next}
 use Rattle.sets.specs.Sets.{SetOf}
 use Rattle.chains.specs.Rows.{meetsRow, Related}
 
@@ -26,11 +25,7 @@ module _ (assigned waited : List ℕ) (P : ℕ) (few : P ≤ 16) where
       record {
         most = omega arith;
         size = length-set rows a row ∙ m .size;
-        made = λ i l.
-            elim (ℕ-discrete i a) [
-              | yes e ↦ let g : a < length rows = omega (arith, m .size) in rw (e, getD-set-same rows a row 0 g) s
-              | no d ↦ rw (getD-set-other rows a i row 0 d) (m .made i (omega arith))
-            ];
+        made = each-next (λ i x. SetOf (meetsRow waited P (getD assigned i 0)) x) rows a row (omega (arith, m .size)) (m .made) s;
       }
 
   pub rows-all : (rows : List ℕ) (a : ℕ) → P ≤ a → Rowed assigned waited P rows a → Related assigned waited P rows

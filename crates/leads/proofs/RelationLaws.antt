@@ -1,5 +1,4 @@
--- What is read of a statement as sets of signals, the sets of a process made statement by statement, and what two processes' sets have
--- in common: whether the one leads to the other. Assumes nothing.
+-- What is read of a statement as sets of signals, and the sets of a process, made statement by statement. Assumes nothing.
 use mathlib.Core.Path.{_≡_, sym, _∙_}
 use mathlib.Core.Logic.{inl, inr, ⊎-elim}
 use mathlib.Core.Bool.{Bool, true, false, not, _&&_, _||_, true≢false, and-false, or-false}

@@ -4,14 +4,12 @@ use mathlib.Core.Path.{_≡_, refl, sym, _∙_}
 use mathlib.Core.Bool.{Bool, true, false, _&&_, true≢false}
 use mathlib.Core.List.{List}
 use Prim.Native.Nat.{ℕ, _+_, _≤_, _<_}
-use native.Mathlib.Decide.{ℕ-discrete}
 use native.Mathlib.Omega.{arith}
 use lib.Dec.{eqb}
 use lib.ListN.{length, getD, set, replicate, length-set}
-use lib.Seq.{getD-set-same, getD-set-other}
 use borrow.Author.Tests.{eqb-true, eq-eqb}
 use Rattle.base.specs.Below.{anyBelow}
-use Rattle.base.proofs.Below.{and-left, and-right, any-found, any-same}
+use Rattle.base.proofs.Below.{and-left, and-right, any-found, any-same, each-next}
 use Rattle.base.proofs.Cases.{either-way}
 use Rattle.base.proofs.Course.{found}
 use Rattle.sets.specs.Sets.{SetOf}
@@ -28,15 +26,6 @@ use Rattle.leads.proofs.RelationLaws.{statement-there, signal-below}
 same-test : (a b : Bool) → (a ≡ true → b ≡ true) → (b ≡ true → a ≡ true) → a ≡ b
 same-test true b f g = sym (f refl)
 same-test false b f g = either-way b (λ t. absurd (true≢false (sym (g t)))) (λ t. sym t)
-
--- an entry of a list with one more written, where each entry before it fits
-each-set : (P : ℕ → ℕ → Type 0) (xs : List ℕ) (n x : ℕ) → n < length xs → ((i : ℕ) → i < n → P i (getD xs i 0)) → P n x
-    → (i : ℕ) → i < n + 1 → P i (getD (set xs n x) i 0)
-each-set P xs n x h f p i l =
-    elim (ℕ-discrete i n) [
-      | yes e ↦ rw (e, getD-set-same xs n x 0 h) p
-      | no d ↦ rw (getD-set-other xs n i x 0 d) (f i (omega arith))
-    ]
 
 -- the sets of the first n processes are made
 pub record SetsMade (M : Model) (assigns waits : List ℕ) (n : ℕ) : Type 0 where
@@ -58,8 +47,8 @@ module _ (M : Model) (fs : Facts M) where
           most = omega arith;
           room = length-set assigns n (r .assigned) ∙ s .room;
           space = length-set waits n (r .waited) ∙ s .space;
-          assigned = each-set (λ i x. SetOf (assignsSoon M i) x) assigns n (r .assigned) (omega (arith, s .room, fs .totals .processes)) (s .assigned) (p .assigned);
-          waited = each-set (λ i x. SetOf (waitsOn M i) x) waits n (r .waited) (omega (arith, s .space, fs .totals .processes)) (s .waited) (p .waited);
+          assigned = each-next (λ i x. SetOf (assignsSoon M i) x) assigns n (r .assigned) (omega (arith, s .room, fs .totals .processes)) (s .assigned) (p .assigned);
+          waited = each-next (λ i x. SetOf (waitsOn M i) x) waits n (r .waited) (omega (arith, s .space, fs .totals .processes)) (s .waited) (p .waited);
         }
 
   -- process p assigns without delay a signal that process q waits on just where it leads to q

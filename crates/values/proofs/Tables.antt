@@ -1,18 +1,16 @@
 -- What one computed test over the codes 0 to 8 says of all numbers, since a table and a rule see a number's code alone.
 -- Assumes nothing.
 use mathlib.Core.Path.{_≡_, sym, _∙_}
-use mathlib.Core.Logic.{⊎-elim}
 use mathlib.Core.Bool.{Bool, true}
 use mathlib.Core.List.{List}
 use Prim.Native.Nat.{ℕ, _+_, _*_, _≤_, _<_}
-use native.Mathlib.Nat.{not-suc-le-zero, eq-or-lt-of-le}
+use native.Mathlib.Nat.{not-suc-le-zero}
 use native.Mathlib.Omega.{arith}
 use lib.Dec.{eqb, ltb, lit<}
 use lib.ListN.{length, getD, set, length-set}
-use lib.Seq.{getD-set-same, getD-set-other}
 use borrow.Author.Tests.{ltb-true, lt-ltb, eqb-true}
 use Rattle.base.specs.Below.{allBelow}
-use Rattle.base.proofs.Below.{all-at, list-is}
+use Rattle.base.proofs.Below.{all-at, list-is, each-next}
 use Rattle.base.proofs.Cases.{by-test}
 use Rattle.values.specs.Nine.{codeOf}
 use Rattle.values.specs.Resolve.{entries, entryOf, tableBy, pairIn, closed, rowSymmetric, symmetric, pairAssociative, rowAssociative, associative, PairLaws}
@@ -101,10 +99,7 @@ module _ (rows : List (List ℕ)) where
   written-next xs n v h e w =
       record {
         room = rw length-set (w .room);
-        at = λ k l.
-            ⊎-elim (λ (q : k ≡ n). rw (q, getD-set-same xs n v 0 (rw (w .room) h)) (sym e))
-            (λ (q : k < n). w .at k q ∙ sym (getD-set-other xs n k v 0 (λ e. omega arith)))
-            (eq-or-lt-of-le (omega arith));
+        at = each-next (λ k x. entryOf rows k ≡ x) xs n v (rw (w .room) h) (w .at) (sym e);
       }
 
   pub written-all : (xs : List ℕ) (n : ℕ) → n ≤ entries → entries ≤ n → Written rows xs n → xs ≡ tableBy rows
