@@ -1,17 +1,17 @@
 -- Every list of orders plays a run, by as many delta steps at each time as its answers say; so the bound holds. Assumes nothing.
-use mathlib.Core.Path.{_≡_, refl}
-use mathlib.Core.Bool.{true, false, not, _&&_, true≢false}
+use mathlib.Core.Path.{_≡_, refl, ap}
+use mathlib.Core.Bool.{true, false, not, _&&_}
 use mathlib.Core.List.{List, [], _∷_}
-use Prim.Native.Nat.{ℕ, zero, suc, _+_, _≤_, _<_}
+use Prim.Native.Nat.{ℕ, _+_, _<_}
 use native.Mathlib.Nat.{zero-add}
 use native.Mathlib.Omega.{arith}
-use borrow.Author.Tests.{eqb-true, ltb-true}
-use lib.Dec.{eqb, ltb}
+use borrow.Author.Tests.{eqb-true, eqb-false}
+use lib.Dec.{eqb}
 use lib.ListN.{length}
 use Rattle.base.specs.Cases.{_∣_, _⇒_}
 use Rattle.base.proofs.Below.{and-true-false}
 use Rattle.base.proofs.Cases.{by-test, either-way}
-use Rattle.base.proofs.Course.{first-at}
+use Rattle.determinacy.proofs.Run.{Run as Picks, stay as none-picked, by-pick as one-picked}
 use Rattle.loops.specs.Chains.{NoChain}
 use Rattle.loops.specs.Bound.{Run, stay, by-pick, by-delta, by-time, FewSteps}
 use Rattle.loops.proofs.Bound.{few-steps}
@@ -21,16 +21,17 @@ use Rattle.model.proofs.Rules.{accepted}
 use Rattle.model.proofs.Facts.{facts}
 use Rattle.leads.specs.Leads.{leadsTo, waitsLater}
 use Rattle.rules.specs.Configuration.{Configuration, first}
-use Rattle.rules.specs.Statements.{stepped}
 use Rattle.rules.specs.Invariant.{Reachable}
-use Rattle.rules.specs.Orders.{Outcome, refused, isReady, deltaStepped, timeStepped, lowestReady, Settled, settledFrom, settled, setBits, steppedBelow}
-use Rattle.rules.proofs.Outcomes.{Pick, pick-refused, pick-done, pick-is, pick-of-ready, Delta, delta-refused, delta-done, delta-is, Time, time-refused, time-done, time-is, PickSet, set-refused, set-done, pick-set-is, Read, read-refused, read-done, read-is}
-use Rattle.rules.proofs.Sets.{Chosen, by-members}
+use Rattle.rules.specs.Orders.{Outcome, refused, deltaStepped, timeStepped, settled, setBits}
+use Rattle.rules.proofs.Outcomes.{Pick, pick-refused, pick-done, pick-is, Delta, delta-refused, delta-done, delta-is, Time, time-refused, time-done, time-is, PickSet, set-refused, set-done, pick-set-is, Read, read-refused, read-done, read-is}
 use Rattle.rules.proofs.FirstReachable.{first-reachable}
 use Rattle.rules.proofs.Invariant.{delta-step-reachable}
 use Rattle.session.specs.Lists.{Order, isKnown, answerOf, performed, playedBy, played, after}
+use Rattle.session.specs.Demand3.{kernelOf as kernelOfDemand3}
 use Rattle.session.proofs.Answers.{refusal-byte, time-bytes}
 use Rattle.session.proofs.InTime.{performed-reachable}
+use Rattle.session.proofs.ListLaws.{delta-kept}
+use Rattle.session.proofs.Runs.{pick-run, settles, members-run}
 use Rattle.bounded.specs.Bounded.{isStepAt, stepsAt, deltaSteps, kernelOf, Bounded}
 use Rattle.bounded.proofs.Outcomes.{deltas-of}
 use Rattle.bounded.proofs.Wiring.{wiringOf}
@@ -52,39 +53,18 @@ module _ (M : Model) (t : ℕ) where
   leads-before : (c d : Configuration) → Leads c d → Before c 0 d
   leads-before c d f n e u = rw zero-add (f n e u)
 
-  -- a pick of a ready process is a step
-  pick-run : (p : ℕ) (c : Configuration) → p < length (M .processes) → isReady p c ≡ true → Leads c (stepped M p c)
-  pick-run p c there ready n e u =
-      let done = pick-of-ready M c p there ready in
-      let can : kernelOf M .can-pick p c ≡ true = rw done in
-      let rest : Runs (kernelOf M .picked p c) n e = rw done u in
-      by-pick p can rest
+  -- the picks of a run without an advance, as demand 3 has them
+  picks-lead : {c d : Configuration} {m : ℕ} → Picks (kernelOfDemand3 M) c 0 m d → Leads c d
+  picks-lead none-picked = λ n e u. u
+  picks-lead (one-picked p can rest) = λ n e u. by-pick p can (picks-lead rest n e u)
 
   pick-leads : (p : ℕ) (c : Configuration) {r : Outcome} → Pick M c p r → Leads c (r .after)
-  pick-leads p c (pick-refused m h) n e u = u
-  pick-leads p c (pick-done there ready) n e u = pick-run p c there ready n e u
-
-  settle-leads : (m k : ℕ) (c : Configuration) → Leads c (settledFrom M k m c .end)
-  unfolding settledFrom lowestReady
-  settle-leads zero k c = λ n e u. u
-  settle-leads (suc m) k c =
-      by-test (λ (s : Settled). Leads c (s .end)) (ltb (lowestReady M c) (length (M .processes))) _ _
-      (λ there n e u.
-      let p = lowestReady M c in
-      let below = ltb-true _ _ there in
-      pick-run p c below (first-at (λ p. isReady p c) (length (M .processes)) below) n e (settle-leads m (suc k) (stepped M p c) n e u))
-      (λ none n e u. u)
-
-  -- the processes of a set that are below n, the lowest first
-  members-lead : (set : ℕ) (c : Configuration) → Chosen M set c → (n : ℕ) → n ≤ setBits → Leads c (steppedBelow M set n c)
-  members-lead set c all =
-      by-members M set c all (λ n d. Leads c d) (λ n e u. u)
-      (λ m d i there ready f n e u. f n e (pick-run m d there ready n e u))
-      (λ m d i f. f)
+  pick-leads p c (pick-refused m h) = λ n e u. u
+  pick-leads p c (pick-done there ready) = picks-lead (pick-run M p c there ready none-picked)
 
   set-leads : (set : ℕ) (c : Configuration) {r : Outcome} → PickSet M c set r → Leads c (r .after)
-  set-leads set c (set-refused m h) n e u = u
-  set-leads set c (set-done all) n e u = members-lead set c all setBits (omega arith) n e u
+  set-leads set c (set-refused m h) = λ n e u. u
+  set-leads set c (set-done all) = picks-lead (members-run M set c all setBits (omega arith))
 
   read-leads : (s : ℕ) (c : Configuration) {r : Outcome} → Read M c s r → Leads c (r .after)
   read-leads s c (read-refused m h) n e u = u
@@ -97,17 +77,15 @@ module _ (M : Model) (t : ℕ) where
 
   small : (c : Configuration) {r : Outcome} → Delta M c r → r .refusal < 256
   small c (delta-refused m h) = omega (arith, h .most)
-  small c (delta-done quiet due few) = omega arith
-
-  kept : (c : Configuration) {r : Outcome} → Delta M c r → eqb (r .refusal) 0 ≡ false → r .after ≡ c
-  kept c (delta-refused m h) f = refl
-  kept c (delta-done quiet due few) f = absurd (true≢false f)
+  small c (delta-done quiet running due few) = omega arith
 
   delta-run : (c : Configuration) → Before c ((eqb (deltaStepped M c .refusal) 0 && eqb (deltaStepped M c .after .time) t) ⇒ 1 ∣ 0) (deltaStepped M c .after)
   delta-run c n e u =
       either-way (eqb (deltaStepped M c .refusal) 0)
       (λ can. rw (can, delta-leaves M c (deltas-of M c can)) (by-delta can u))
-      (λ f. rw (f, zero-add) (rw (kept c (delta-is M c) f) at u))
+      (λ f.
+      let same : deltaStepped M c .after ≡ c = ap (λ (r : Outcome). r .after) (delta-kept M c (delta-is M c) (eqb-false _ 0 f)) in
+      rw (f, zero-add) (rw same at u))
 
   -- an order before a run, by what its answer says
   module _ (fs : Facts M) (c : Configuration) (r : Reachable M c) (o : Order) where
@@ -133,7 +111,7 @@ module _ (M : Model) (t : ℕ) where
     counted =
         by-test Counted (not (isKnown o)) _ _ (λ e. unknown)
         (λ e. by-test Counted (eqb (o .kind) 1) _ _ (λ k. no-step _ (rw (eqb-true (o .kind) 1 k)) (pick-leads (o .argument) c (pick-is M c (o .argument))))
-        (λ e. by-test Counted (eqb (o .kind) 3) _ _ (λ k. no-step _ (rw (eqb-true (o .kind) 3 k)) (settle-leads (o .count) 0 c))
+        (λ e. by-test Counted (eqb (o .kind) 3) _ _ (λ k. no-step _ (rw (eqb-true (o .kind) 3 k)) (picks-lead (settles M (o .count) 0 c .run)))
         (λ e. by-test Counted (eqb (o .kind) 5) _ _ (λ k. no-step _ (rw (eqb-true (o .kind) 5 k)) (set-leads (o .count) c (pick-set-is M c (o .count))))
         (λ e. by-test Counted (eqb (o .kind) 6) _ _ (λ k. delta-counted k)
         (λ other. by-test Counted (eqb (o .kind) 7) _ _

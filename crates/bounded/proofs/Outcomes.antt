@@ -7,15 +7,12 @@ use native.Mathlib.Omega.{arith}
 use borrow.Author.Tests.{ne-eqb}
 use lib.Dec.{eqb}
 use lib.ListN.{length}
-use Rattle.base.specs.Below.{anyBelow}
-use Rattle.base.proofs.Below.{any-none}
-use Rattle.base.proofs.Cases.{either-way}
 use Rattle.blocks.specs.Records.{Model}
 use Rattle.rules.specs.Configuration.{Configuration}
 use Rattle.rules.specs.Statements.{stepped}
 use Rattle.rules.specs.Steps.{deltaStep, timeStep}
-use Rattle.rules.specs.Orders.{Outcome, isReady, isStopped, picked, dueTimes, earliest, dueNow, deltaStepped, timeStepped}
-use Rattle.rules.proofs.Outcomes.{Refusal, Pick, pick-refused, pick-done, pick-is, NoneReady, Delta, delta-refused, delta-done, delta-is, Time, time-refused, time-done, time-is}
+use Rattle.rules.specs.Orders.{Outcome, isReady, picked, dueTimes, earliest, dueNow, deltaStepped, timeStepped}
+use Rattle.rules.proofs.Outcomes.{Refusal, Pick, pick-refused, pick-done, pick-is, NoneReady, NoneStopped, Delta, delta-refused, delta-done, delta-is, Time, time-refused, time-done, time-is}
 use Rattle.bounded.specs.Bounded.{kernelOf}
 
 module _ (M : Model) (c : Configuration) where
@@ -39,33 +36,17 @@ module _ (M : Model) (c : Configuration) where
   -- a delta step that is done
   pub record Deltas : Type 0 where
     pub quiet : NoneReady M c
-    pub running : (p : ℕ) → p < length (M .processes) → isStopped p c ≡ false
+    pub running : NoneStopped M c
     pub due : dueNow M c ≡ true
     pub step : deltaStepped M c .after ≡ deltaStep M c
 
-  -- 15 is its refusal where a process is stopped, or 14 where one is ready
-  none-stopped : kernelOf M .can-delta c ≡ true → anyBelow (λ p. isStopped p c) (length (M .processes)) ≡ false
-  unfolding deltaStepped
-  none-stopped =
-      either-way (anyBelow (λ p. isStopped p c) (length (M .processes)))
-      (λ t. rw t
-      (either-way (anyBelow (λ p. isReady p c) (length (M .processes)))
-      (λ b. rw b (λ done. absurd (true≢false (sym done))))
-      (λ b. rw b (λ done. absurd (true≢false (sym done))))))
-      (λ t done. t)
-
-  deltas-by : (r : Outcome) → r ≡ deltaStepped M c → Delta M c r → kernelOf M .can-delta c ≡ true → eqb (r .refusal) 0 ≡ true → Deltas
-  deltas-by r e (delta-refused n h) can done = not-done n h done
-  deltas-by r e (delta-done quiet due few) can done =
-      record {
-        quiet = quiet;
-        running = any-none (λ p. isStopped p c) (length (M .processes)) (none-stopped can);
-        due = due;
-        step = sym (ap (λ (o : Outcome). o .after) e);
-      }
+  deltas-by : (r : Outcome) → r ≡ deltaStepped M c → Delta M c r → eqb (r .refusal) 0 ≡ true → Deltas
+  deltas-by r e (delta-refused n h) done = not-done n h done
+  deltas-by r e (delta-done quiet running due few) done =
+      record { quiet = quiet; running = running; due = due; step = sym (ap (λ (o : Outcome). o .after) e) }
 
   pub deltas-of : kernelOf M .can-delta c ≡ true → Deltas
-  deltas-of can = deltas-by (deltaStepped M c) refl (delta-is M c) can can
+  deltas-of = deltas-by (deltaStepped M c) refl (delta-is M c)
 
   -- a time step that is done
   pub record Times : Type 0 where

@@ -93,7 +93,7 @@ module _ (M : Model) (o : Order) (c : Configuration) (r : Reachable M c) where
 
   delta-time : (x : Outcome) → Delta M c x → x .after .time ≡ c .time
   delta-time x (delta-refused n h) = refl
-  delta-time x (delta-done quiet due few) = unfold deltaStep in refl
+  delta-time x (delta-done quiet running due few) = unfold deltaStep in refl
 
   time-moves : eqb (o .kind) 7 ≡ true → (x : Outcome) → Time M c x → Moving x
   time-moves k x (time-refused n h) = refused-moves n h

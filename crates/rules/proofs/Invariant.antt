@@ -63,7 +63,7 @@ module _ (M : Model) (fs : Facts M) (c : Configuration) (r : Reachable M c) wher
 
   delta-keeps : (o : Outcome) → Delta M c o → Keeps o
   delta-keeps o (delta-refused n f) = r
-  delta-keeps o (delta-done quiet due few) = delta-reachable M fs c r few
+  delta-keeps o (delta-done quiet running due few) = delta-reachable M fs c r few
 
   pub delta-step-reachable : Keeps (deltaStepped M c)
   delta-step-reachable = delta-keeps (deltaStepped M c) (delta-is M c)

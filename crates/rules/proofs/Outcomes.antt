@@ -45,29 +45,33 @@ module _ (M : Model) (c : Configuration) where
   abbrev pub NoneReady : Type 0
   NoneReady = (p : ℕ) → p < length (M .processes) → isReady p c ≡ false
 
+  abbrev pub NoneStopped : Type 0
+  NoneStopped = (p : ℕ) → p < length (M .processes) → isStopped p c ≡ false
+
   -- 14 and 15, or what comes after them
-  advancing-is : (P : Outcome → Type 0) → ((n : ℕ) → Refusal n → P (refused n c)) → (r : Outcome) → (NoneReady → P r) → P (advancing M c r)
+  advancing-is : (P : Outcome → Type 0) → ((n : ℕ) → Refusal n → P (refused n c)) → (r : Outcome) → (NoneReady → NoneStopped → P r)
+      → P (advancing M c r)
   advancing-is P refuses r f =
       by-test P (anyBelow (λ p. isReady p c) (length (M .processes))) _ _
       (λ e. refuses 14 (omega arith))
       (λ quiet. by-test P (anyBelow (λ p. isStopped p c) (length (M .processes))) _ _
       (λ e. refuses 15 (omega arith))
-      (λ e. f (any-none (λ p. isReady p c) (length (M .processes)) quiet)))
+      (λ running. f (any-none (λ p. isReady p c) (length (M .processes)) quiet) (any-none (λ p. isStopped p c) (length (M .processes)) running)))
 
   -- a delta step
   pub data Delta : Outcome → Type 0 where
     delta-refused : (n : ℕ) → Refusal n → Delta (refused n c)
-    delta-done : NoneReady → dueNow M c ≡ true → c .deltas < 1000 → Delta (advanceDone 1 (deltaStep M c))
+    delta-done : NoneReady → NoneStopped → dueNow M c ≡ true → c .deltas < 1000 → Delta (advanceDone 1 (deltaStep M c))
 
   pub delta-is : Delta (deltaStepped M c)
   unfolding deltaStepped
   delta-is =
       advancing-is Delta delta-refused _
-      (λ quiet. by-test Delta (not (dueNow M c)) _ _
+      (λ quiet running. by-test Delta (not (dueNow M c)) _ _
       (λ e. delta-refused 22 (omega arith))
       (λ due. by-test Delta (leb 1000 (c .deltas)) _ _
       (λ e. delta-refused 16 (omega arith))
-      (λ few. delta-done quiet (not-false _ due) (leb-false _ _ few))))
+      (λ few. delta-done quiet running (not-false _ due) (leb-false _ _ few))))
 
   -- a time step
   pub data Time : Outcome → Type 0 where
@@ -86,7 +90,7 @@ module _ (M : Model) (c : Configuration) where
   unfolding timeStepped
   time-is =
       advancing-is Time time-refused _
-      (λ quiet. by-test Time (dueNow M c) _ _ (λ e. time-refused 23 (omega arith)) (λ due. time-order quiet due (earliest (dueTimes M c)) refl))
+      (λ quiet running. by-test Time (dueNow M c) _ _ (λ e. time-refused 23 (omega arith)) (λ due. time-order quiet due (earliest (dueTimes M c)) refl))
 
   -- where a time step is done, a delta step is refused
   advancing-one : (r s : Outcome) → (eqb (r .refusal) 0 ≡ true → eqb (s .refusal) 0 ≡ false)

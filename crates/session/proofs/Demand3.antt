@@ -53,7 +53,7 @@ module _ (M : Model) (facts : Facts M) where
   -- a step that is done finds no process ready
   delta-quiet : (c : Configuration) {r : Outcome} → Delta M c r → eqb (r .refusal) 0 ≡ true → NoneReady M c
   delta-quiet c (delta-refused n h) done = absurd (true≢false (sym done ∙ ne-eqb n 0 (λ z. omega arith)))
-  delta-quiet c (delta-done quiet due few) done = quiet
+  delta-quiet c (delta-done quiet running due few) done = quiet
 
   time-quiet : (c : Configuration) {r : Outcome} → Time M c r → eqb (r .refusal) 0 ≡ true → NoneReady M c
   time-quiet c (time-refused n h) done = absurd (true≢false (sym done ∙ ne-eqb n 0 (λ z. omega arith)))

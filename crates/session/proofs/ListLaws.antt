@@ -19,16 +19,16 @@ use Rattle.session.proofs.SessionLaws.{model-accepted, neither}
 
 -- an order that is refused says so, and hands back the configuration that it took
 module _ (M : Model) (c : Configuration) where
-  abbrev Kept : Outcome → Type 0
+  abbrev pub Kept : Outcome → Type 0
   Kept r = (r .refusal ≡ 0 → ⊥) → r ≡ refused (r .refusal) c
 
   pick-kept : (p : ℕ) {r : Outcome} → Pick M c p r → Kept r
   pick-kept p (pick-refused n h) = λ z. refl
   pick-kept p (pick-done there ready) = λ z. absurd (z refl)
 
-  delta-kept : {r : Outcome} → Delta M c r → Kept r
+  pub delta-kept : {r : Outcome} → Delta M c r → Kept r
   delta-kept (delta-refused n h) = λ z. refl
-  delta-kept (delta-done quiet due few) = λ z. absurd (z refl)
+  delta-kept (delta-done quiet running due few) = λ z. absurd (z refl)
 
   time-kept : {r : Outcome} → Time M c r → Kept r
   time-kept (time-refused n h) = λ z. refl

@@ -30,7 +30,7 @@ module _ (M : Model) where
   Ran c a r = Run (kernelOf M) c a (r .picks) (r .after)
 
   -- a pick of a ready process is a step
-  pick-run : (p : ℕ) (c : Configuration) → p < length (M .processes) → isReady p c ≡ true → {n : ℕ} {e : Configuration}
+  pub pick-run : (p : ℕ) (c : Configuration) → p < length (M .processes) → isReady p c ≡ true → {n : ℕ} {e : Configuration}
       → Run (kernelOf M) (stepped M p c) 0 n e → Run (kernelOf M) c 0 (suc n) e
   pick-run p c there ready {n} {e} r =
       let done = pick-of-ready M c p there ready in
@@ -55,13 +55,13 @@ module _ (M : Model) where
       rw none (by-advance (a .can) rest)
 
   -- what a settle comes to, k picks having been made: m more, at most n
-  record Settles (k n : ℕ) (c : Configuration) (s : Settled) : Type 0 where
-    more : ℕ
-    picks : s .picks ≡ k + more
-    most : more ≤ n
-    run : Run (kernelOf M) c 0 more (s .end)
+  pub record Settles (k n : ℕ) (c : Configuration) (s : Settled) : Type 0 where
+    pub more : ℕ
+    pub picks : s .picks ≡ k + more
+    pub most : more ≤ n
+    pub run : Run (kernelOf M) c 0 more (s .end)
 
-  settles : (n k : ℕ) (c : Configuration) → Settles k n c (settledFrom M k n c)
+  pub settles : (n k : ℕ) (c : Configuration) → Settles k n c (settledFrom M k n c)
   unfolding settledFrom lowestReady
   settles zero k c = record { more = 0; picks = sym (add-zero k); most = omega arith; run = stay }
   settles (suc n) k c =
@@ -102,7 +102,7 @@ module _ (M : Model) where
       record { run = rw same (s .run); picks = omega arith; refusal = omega arith }
 
   -- the processes of a set that are below n, the lowest first
-  members-run : (set : ℕ) (c : Configuration) → Chosen M set c → (n : ℕ) → n ≤ setBits → Run (kernelOf M) c 0 (membersBelow set n) (steppedBelow M set n c)
+  pub members-run : (set : ℕ) (c : Configuration) → Chosen M set c → (n : ℕ) → n ≤ setBits → Run (kernelOf M) c 0 (membersBelow set n) (steppedBelow M set n c)
   members-run set c all =
       by-members M set c all (λ n d. Run (kernelOf M) c 0 (membersBelow set n) d) (rw (members-none set) stay)
       (λ n d m there ready before. rw (members-more set n m) (join (kernelOf M) before (pick-run n d there ready stay)))
@@ -122,7 +122,7 @@ module _ (M : Model) where
 
   delta-does : (c : Configuration) (r : Outcome) → (eqb (r .refusal) 0 ≡ true → Advances c r) → Delta M c r → Steps c r
   delta-does c r a (delta-refused n h) = refusal-steps c n h
-  delta-does c r a (delta-done quiet due few) = record { run = advance-run c r (a refl) refl; picks = omega arith; refusal = omega arith }
+  delta-does c r a (delta-done quiet running due few) = record { run = advance-run c r (a refl) refl; picks = omega arith; refusal = omega arith }
 
   time-does : (c : Configuration) (r : Outcome) → (eqb (r .refusal) 0 ≡ true → Advances c r) → Time M c r → Steps c r
   time-does c r a (time-refused n h) = refusal-steps c n h
