@@ -6,7 +6,7 @@ LIB := $(CURDIR)/target/staticlib
 CARGO := cargo --quiet
 PEER := --release --offline --manifest-path tests/Cargo.toml
 BLOCKS := --release --offline --manifest-path tools/blocks/Cargo.toml
-PROVED := KERNEL_LIB_DIR=$(LIB) $(CARGO) run $(PEER) --features dumps,moves,loops --bin
+PROVED := KERNEL_LIB_DIR=$(LIB) $(CARGO) run $(PEER) --features dumps,moves,loops,bodies --bin
 
 run:
 	@sh tools/run
@@ -26,6 +26,7 @@ peers: setup
 proved: setup tools
 	rt staticlib exports
 	rt staticlib dump_exports
+	rt staticlib read_exports
 	KERNEL_LIB_DIR=$(LIB) $(CARGO) test $(BLOCKS) --features library
 	sh tests/run.sh
 	sh tests/examples.sh
@@ -36,6 +37,7 @@ proved: setup tools
 	$(PROVED) compare limits
 	$(PROVED) compare dumps 20000 1
 	$(PROVED) compare loops 20000 1
+	$(PROVED) compare bodies 20000 1
 	$(PROVED) viewer 50 1
 	KERNEL_LIB_DIR=$(LIB) sh tests/ghdl/run.sh 200 1
 	$(CARGO) run $(PEER) --bin edge target/bin/playbench

@@ -1,6 +1,7 @@
 // With the feature `proved`, links the static library `exports` found in
 // the directory named by KERNEL_LIB_DIR; with `dumps`, `dump_exports` too;
-// with `moves`, `move_exports`; with `loops`, `loop_exports`.
+// with `moves`, `move_exports`; with `loops`, `loop_exports`; with `bodies`,
+// `read_exports`.
 fn main() {
     println!("cargo:rerun-if-env-changed=KERNEL_LIB_DIR");
     println!("cargo:rerun-if-changed=build.rs");
@@ -10,6 +11,7 @@ fn main() {
         ("DUMPS", "dump_exports"),
         ("MOVES", "move_exports"),
         ("LOOPS", "loop_exports"),
+        ("BODIES", "read_exports"),
     ] {
         if std::env::var_os(format!("CARGO_FEATURE_{feature}")).is_none() {
             continue;

@@ -1,6 +1,7 @@
 //! A second delta-cycle kernel, written from the papers alone, to be held
 //! against the proved one.
 
+pub mod body;
 pub mod builder;
 pub mod cases;
 pub mod cycle;
@@ -18,6 +19,8 @@ pub mod numbers;
 pub mod operands;
 #[cfg(feature = "proved")]
 pub mod proved;
+#[cfg(feature = "bodies")]
+pub mod proved_bodies;
 #[cfg(feature = "loops")]
 pub mod proved_loops;
 #[cfg(feature = "moves")]

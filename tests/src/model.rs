@@ -129,7 +129,7 @@ pub fn repair_sum(block: &mut [u8]) {
 }
 
 /// The records of the kinds as bytes.
-type Raw = [Vec<Record>; KINDS];
+pub type Raw = [Vec<Record>; KINDS];
 
 /// The first refusal that applies, 0 when the model is accepted.
 pub fn judge(bytes: &[u8]) -> u32 {
@@ -150,12 +150,16 @@ pub fn load(bytes: &[u8]) -> Result<Model, u32> {
     if !headers_right(bytes) {
         return Err(3);
     }
-    let raw = split(bytes);
-    if !totals_right(&raw) {
+    load_records(&split(bytes))
+}
+
+/// The same from records, the numbers from 4 on.
+pub fn load_records(raw: &Raw) -> Result<Model, u32> {
+    if !totals_right(raw) {
         return Err(4);
     }
-    let model = read(&raw);
-    if !fields_right(&raw, &model) {
+    let model = read(raw);
+    if !fields_right(raw, &model) {
         return Err(5);
     }
     if !operands_right(&model) {

@@ -18,6 +18,8 @@ pub const PICK: &[u32] = &[11, 12, 13];
 /// Those that a delta step and a time step can have, in checking order.
 pub const DELTA: &[u32] = &[11, 14, 15, 22, 16];
 pub const TIME: &[u32] = &[11, 14, 15, 23, 17, 18];
+/// Refusals of a body in text, before those of its model.
+pub const TEXT: &[u32] = &[26, 27];
 /// Faults that stop a process.
 pub const FAULT: &[u32] = &[1, 2, 3, 4];
 /// Those of them that an expression has.
@@ -96,8 +98,8 @@ mod tests {
 
     #[test]
     fn every_number_is_listed_once() {
-        let mut all = [session(), ORDER.to_vec(), vec![OUTPUT]].concat();
-        assert!((1..=25).all(|n| all.contains(&n)));
+        let mut all = [session(), ORDER.to_vec(), vec![OUTPUT], TEXT.to_vec()].concat();
+        assert!((1..=27).all(|n| all.contains(&n)));
         let at = |n: u32| session().iter().position(|&m| m == n);
         let rising = [8, 20, 24, 25, 9, 10].map(at);
         assert!(rising.windows(2).all(|pair| pair[0] < pair[1]));

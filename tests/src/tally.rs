@@ -3,6 +3,7 @@
 //! number of the papers is rare fails, and so does one in which something of a
 //! feature is.
 
+mod bodies;
 mod dumps;
 mod loops;
 mod moves;
@@ -18,6 +19,7 @@ use crate::model::{judge, load, ABSENT, KINDS};
 use crate::moves::ADVANCE;
 use crate::numbers::{self, Counts};
 use crate::session::{session, DELTA, PICK, PICK_SET, SETTLE, TIME};
+pub use bodies::Read;
 pub use dumps::Dump;
 use dumps::DumpTally;
 pub use loops::Check;
@@ -39,6 +41,7 @@ pub struct Other<'a> {
     pub dump: Option<Dump<'a>>,
     pub move_over: Option<Move<'a>>,
     pub check: Option<Check<'a>>,
+    pub read: Option<Read<'a>>,
 }
 
 impl Other<'_> {
@@ -89,12 +92,15 @@ const MOVES: u64 = 200;
 /// Each thing that checks for loops show or that decides them, 200 times among the 20,000
 /// of `make test`.
 const LOOPS: u64 = 100;
+/// Each thing that bodies in text show, and each way to damage them, 40 times among the
+/// 20,000 of `make test`.
+const BODIES: u64 = 500;
 /// Each thing that schedules show.
 const SCHEDULES: u64 = 100;
 
 /// What `tally` and `compare` do: `models N SEED`, `sessions N SEED`, `schedules N SEED`,
-/// `moves N SEED`, `dumps N SEED`, `loops N SEED` or `limits`, in this kernel and in the other one where it is
-/// given.
+/// `moves N SEED`, `dumps N SEED`, `loops N SEED`, `bodies N SEED` or `limits`, in this kernel and in the other one
+/// where it is given.
 pub fn run(name: &str, other: Other) -> Result<(), String> {
     let arguments: Vec<String> = std::env::args().skip(1).collect();
     let number = |n: usize, name: &str| {
@@ -154,6 +160,15 @@ pub fn run(name: &str, other: Other) -> Result<(), String> {
             counts.require(least.number, least.feature)?;
             format!("{n} checked models from seed {seed} on")
         }
+        Some("bodies") => {
+            let (n, seed) = (number(1, "N")?, number(2, "SEED")?);
+            other.has(other.read, "bodies")?;
+            let counts = bodies::bodies(n, seed, other.read)?;
+            counts.print();
+            let least = least(n, BODIES);
+            counts.require(least.number, least.feature)?;
+            format!("{n} texts from seed {seed} on")
+        }
         Some("limits") => {
             let counts = limits(other)?;
             counts.print();
@@ -165,7 +180,7 @@ pub fn run(name: &str, other: Other) -> Result<(), String> {
         }
         _ => {
             return Err(format!(
-                "use: {name} models N SEED | sessions N SEED | schedules N SEED | moves N SEED | dumps N SEED | loops N SEED | limits"
+                "use: {name} models N SEED | sessions N SEED | schedules N SEED | moves N SEED | dumps N SEED | loops N SEED | bodies N SEED | limits"
             ))
         }
     };
@@ -710,6 +725,7 @@ impl SessionTally {
 #[cfg(test)]
 mod tests {
     use super::*;
+    use crate::body::records::read_into;
     use crate::loops::check;
     use crate::moves::move_over;
     use crate::vcd::write::write;
@@ -732,6 +748,7 @@ mod tests {
         dump: Some(&write),
         move_over: Some(&move_over),
         check: Some(&check),
+        read: Some(&read_into),
     };
 
     fn judged_by<'a>(judge: Judge<'a>) -> Other<'a> {

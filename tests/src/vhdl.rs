@@ -144,6 +144,13 @@ fn own_logic(t: &mut String, table: &Table) {
 /// once before the first cycle and at the end of each time with an event,
 /// logic values as codes.
 pub fn translate(m: &Model, form: Form) -> String {
+    design(m, form, |t| {
+        (0..m.processes.len()).for_each(|p| process(t, m, p, form));
+    })
+}
+
+/// The same with other text for the processes.
+pub(crate) fn design(m: &Model, form: Form, processes: impl Fn(&mut String)) -> String {
     let mut t = String::new();
     t.push_str("library ieee;\nuse ieee.std_logic_1164.all;\nuse std.textio.all;\n\n");
     t.push_str("entity top is\nend top;\n\narchitecture model of top is");
@@ -163,9 +170,7 @@ pub fn translate(m: &Model, form: Form) -> String {
     for (n, k) in delayed {
         let _ = writeln!(t, "  s{n}_d{k} <= transport s{n} after {k} ns;");
     }
-    for p in 0..m.processes.len() {
-        process(&mut t, m, p, form);
-    }
+    processes(&mut t);
     if form == Form::Checked {
         watch(&mut t, m);
     }
@@ -174,7 +179,7 @@ pub fn translate(m: &Model, form: Form) -> String {
 }
 
 /// A value of type 0 integer, 1 logic or 2 boolean.
-fn literal(ty: u8, v: i32) -> String {
+pub(crate) fn literal(ty: u8, v: i32) -> String {
     match ty {
         0 => format!("integer'({v})"),
         1 => format!("std_ulogic'('{}')", values::LETTERS[v as usize] as char),
@@ -182,7 +187,7 @@ fn literal(ty: u8, v: i32) -> String {
     }
 }
 
-fn type_name(ty: u8) -> &'static str {
+pub(crate) fn type_name(ty: u8) -> &'static str {
     ["integer", "std_logic", "boolean"][ty as usize]
 }
 
@@ -224,19 +229,7 @@ fn process(t: &mut String, m: &Model, p: usize, form: Form) {
     if form == Form::Checked {
         t.push_str("    variable steps : integer := 0;\n");
     }
-    for (n, v) in m
-        .variables
-        .iter()
-        .enumerate()
-        .filter(|(_, v)| v.process as usize == p)
-    {
-        let _ = writeln!(
-            t,
-            "    variable v{n} : {} := {};",
-            type_name(v.ty),
-            literal(v.ty, v.start)
-        );
-    }
+    variables(t, m, p);
     t.push_str("  begin\n");
     if form == Form::Checked {
         t.push_str("    steps := steps + 1;\n");
@@ -256,6 +249,23 @@ fn process(t: &mut String, m: &Model, p: usize, form: Form) {
         let _ = writeln!(t, "        s{0} <= s{0};", d.signal);
     }
     t.push_str("    end case;\n  end process;\n");
+}
+
+/// The variables of a process.
+pub(crate) fn variables(t: &mut String, m: &Model, p: usize) {
+    for (n, v) in m
+        .variables
+        .iter()
+        .enumerate()
+        .filter(|(_, v)| v.process as usize == p)
+    {
+        let _ = writeln!(
+            t,
+            "    variable v{n} : {} := {};",
+            type_name(v.ty),
+            literal(v.ty, v.start)
+        );
+    }
 }
 
 /// Writes statements and expressions.

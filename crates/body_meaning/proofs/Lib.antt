@@ -1,0 +1,9 @@
+pub mod Stands
+pub mod Operators
+pub mod Values
+pub mod Picks
+pub mod Effects
+pub mod Lengths
+pub mod Made
+pub mod Meaning
+pub mod Example

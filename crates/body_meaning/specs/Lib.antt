@@ -1,0 +1,4 @@
+pub mod Values
+pub mod Statements
+pub mod Picks
+pub mod Meaning

@@ -1,0 +1,4 @@
+pub mod Tokens
+pub mod Words
+pub mod Grammar
+pub mod Made

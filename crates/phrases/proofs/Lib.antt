@@ -1,0 +1,4 @@
+pub mod Stacks
+pub mod GroupLaws
+pub mod Operands
+pub mod PhraseLaws

@@ -1,0 +1,3 @@
+pub mod Writing
+pub mod Clauses
+pub mod Lists

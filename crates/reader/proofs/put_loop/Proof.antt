@@ -1,0 +1,43 @@
+-- Three records, one after another.
+-- Assumes nothing.
+use Rattle.reader.proofs.Writing.{loop-put}
+use borrow.Author.Needs.{needs}
+use Rattle.reader.proofs.put_loop.Statement.{statement}
+use Rattle.reader.proofs.put_loop.Tie as tie
+
+add-put-record : tie.Need-add-put-record
+add-put-record c = search needs
+
+sub-put-record : tie.Need-sub-put-record
+sub-put-record c = search needs
+
+put-record-requires : tie.Need-put-record-requires
+put-record-requires c κs = search needs
+
+put-record-requires-2 : tie.Need-put-record-requires-2
+put-record-requires-2 c κs = search needs
+
+add-put-record-2 : tie.Need-add-put-record-2
+add-put-record-2 c = search needs
+
+put-record-requires-3 : tie.Need-put-record-requires-3
+put-record-requires-3 c κs = search needs
+
+same-length : tie.Need-same-length
+same-length c = search needs
+
+returns : tie.Need-returns
+returns c = loop-put _ _ _ _ (c .before .before .before .before .before .before .before .before .before .before .put-record .ensures) (c .before .before .before .before .before .before .put-record2 .ensures) (c .before .before .put-record3 .ensures)
+
+pub put-loop-spec : {M : Type 1} → statement M
+put-loop-spec =
+    tie.close
+    (tie.spec
+    add-put-record
+    sub-put-record
+    put-record-requires
+    put-record-requires-2
+    add-put-record-2
+    put-record-requires-3
+    same-length
+    returns)

@@ -1,0 +1,3 @@
+pub mod SignalLaws
+pub mod WaitLaws
+pub mod AssignLaws

@@ -1,0 +1,12 @@
+-- As defined. Assumes nothing.
+use mathlib.Core.Path.{refl}
+use Rattle.grammar.specs.Tokens.{isDigit}
+use Rattle.tokens.proofs.is_digit.Statement.{statement}
+use Rattle.tokens.proofs.is_digit.Tie as tie
+
+returns : tie.Need-returns
+unfolding isDigit
+returns c = refl
+
+pub is-digit-spec : {M : Type 1} → statement M
+is-digit-spec = tie.close (tie.spec returns)
