@@ -1,18 +1,17 @@
 -- How many nodes and statements a tree makes, and so what stands behind them in a model. Assumes nothing.
-use mathlib.Core.Path.{_≡_, refl, ap, _∙_}
+use mathlib.Core.Path.{_≡_, ap, _∙_}
 use mathlib.Core.Bool.{false}
 use mathlib.Core.List.{List, _∷_, _++_}
-use mathlib.Core.Option.{Option, none, some}
 use Prim.Native.Nat.{ℕ, _+_, _≤_}
 use native.Mathlib.Omega.{arith}
-use lib.ListN.{length, length-append}
 use Rattle.blocks.specs.Records.{Model, statementAt}
 use Rattle.blocks.specs.declared.records.NodeRecord.{NodeRecord}
 use Rattle.blocks.specs.declared.records.StatementRecord.{StatementRecord}
-use Rattle.grammar.specs.Grammar.{Expression, Statement, null, assign, drive, wait, _then_, while, choice}
-use Rattle.grammar.specs.Made.{nodesIn, nodesInPart, nodesOfPart, nodesInBody, nodesOfBody, statementsIn, statementsOf}
+use Rattle.grammar.specs.Grammar.{Statement, null, assign, drive, wait, _then_, while, choice}
+use Rattle.grammar.specs.Made.{nodesInBody, nodesOfBody, statementsIn, statementsOf}
+use Rattle.grammar.proofs.MadeLaws.{length-nodesOfBody, length-statementsOf}
 use Rattle.body_meaning.proofs.Stands.{Stands, stands-head, stands-tail, stands-left, stands-right}
-use Rattle.body_meaning.proofs.Values.{length-nodes, no-node, StandNodes}
+use Rattle.body_meaning.proofs.Values.{no-node, StandNodes}
 
 pub some-statements : (p : Statement) → 1 ≤ statementsIn p
 unfolding statementsIn
@@ -24,43 +23,6 @@ some-statements (p then q) = omega (arith, some-statements p)
 some-statements (while e p) = omega arith
 some-statements (choice e p q) = omega arith
 
-pub length-statements : (m i : ℕ) (p : Statement) → length (statementsOf m i p) ≡ statementsIn p
-unfolding statementsOf statementsIn
-length-statements m i null = refl
-length-statements m i (assign v e) = refl
-length-statements m i (drive n e f) = refl
-length-statements m i (wait o u f) = refl
-length-statements m i (p then q) = rw (length-append, length-statements m i p, length-statements (m + nodesInBody p) (i + statementsIn p) q)
-length-statements m i (while e p) = rw (length-append, length-statements (m + nodesIn e) (i + 1) p) (omega arith)
-length-statements m i (choice e p q) =
-    rw (
-      length-append,
-      length-statements (m + nodesIn e) (i + 1) p,
-      length-append,
-      length-statements (m + nodesIn e + nodesInBody p) (i + statementsIn p + 2) q,
-    ) (omega arith)
-
-pub length-part : (m : ℕ) (u : Option Expression) → length (nodesOfPart m u) ≡ nodesInPart u
-length-part m none = refl
-length-part m (some e) = length-nodes m e
-
-pub length-body : (m : ℕ) (p : Statement) → length (nodesOfBody m p) ≡ nodesInBody p
-unfolding nodesOfBody nodesInBody
-length-body m null = refl
-length-body m (assign v e) = length-nodes m e
-length-body m (drive n e f) = rw (length-append, length-nodes m e, length-nodes (m + nodesIn e) f)
-length-body m (wait o u f) = rw (length-append, length-part m u, length-part (m + nodesInPart u) f)
-length-body m (p then q) = rw (length-append, length-body m p, length-body (m + nodesInBody p) q)
-length-body m (while e p) = rw (length-append, length-nodes m e, length-body (m + nodesIn e) p)
-length-body m (choice e p q) =
-    rw (
-      length-append,
-      length-nodes m e,
-      length-append,
-      length-body (m + nodesIn e) p,
-      length-body (m + nodesIn e + nodesInBody p) q,
-    ) (omega arith)
-
 module _ (M : Model) where
   abbrev pub no-statement : StatementRecord
   no-statement = record { kind = 0; a = 0; b = 0; c = 0; set = 0; zeros = false }
@@ -71,10 +33,10 @@ module _ (M : Model) where
 
   -- what stands behind the statements of p, and behind its nodes
   pub stands-after : {i : ℕ} (m k n : ℕ) (p : Statement) (l : List StatementRecord) → i + statementsIn p ≡ n → StandStatements i (statementsOf m k p ++ l) → StandStatements n l
-  stands-after {i} m k n p l e s = stands-right (M .statements) no-statement n (statementsOf m k p) l (ap (λ x. i + x) (length-statements m k p) ∙ e) s
+  stands-after {i} m k n p l e s = stands-right (M .statements) no-statement n (statementsOf m k p) l (ap (λ x. i + x) (length-statementsOf m k p) ∙ e) s
 
   pub body-after : {m : ℕ} (p : Statement) (l : List NodeRecord) → StandNodes M m (nodesOfBody m p ++ l) → StandNodes M (m + nodesInBody p) l
-  body-after {m} p l s = stands-right (M .nodes) (no-node M) (m + nodesInBody p) (nodesOfBody m p) l (ap (λ x. m + x) (length-body m p)) s
+  body-after {m} p l s = stands-right (M .nodes) (no-node M) (m + nodesInBody p) (nodesOfBody m p) l (ap (λ x. m + x) (length-nodesOfBody m p)) s
 
   pub head : {i : ℕ} {r : StatementRecord} {l : List StatementRecord} → StandStatements i (r ∷ l) → statementAt M i ≡ r
   head s = stands-head (M .statements) no-statement s

@@ -22,8 +22,9 @@ use Rattle.body_meaning.specs.Statements.{readyAt, Simple, Condition, nu
 use Rattle.body_meaning.specs.Picks.{picks}
 use Rattle.body_meaning.specs.Meaning.{Makes}
 use Rattle.body_meaning.proofs.Stands.{stands-whole, stands-left, stands-right}
-use Rattle.body_meaning.proofs.Values.{some-nodes, length-nodes, Same, no-node, StandNodes, same, behind}
-use Rattle.body_meaning.proofs.Lengths.{some-statements, length-statements, length-part, no-statement, StandStatements, stands-after, body-after, head, tail, left-part}
+use Rattle.body_meaning.proofs.Values.{Same, no-node, StandNodes, same, behind}
+use Rattle.grammar.proofs.MadeLaws.{length-nodesOf, nodesIn-some, length-part, length-statementsOf}
+use Rattle.body_meaning.proofs.Lengths.{some-statements, no-statement, StandStatements, stands-after, body-after, head, tail, left-part}
 use Rattle.body_meaning.proofs.Effects.{null-goes, jump-goes, unless-tests, assign-does, drive-does, wait-does, wait-for-does}
 
 -- the part `for` of a wait, if it is there, is an expression of the grammar
@@ -76,7 +77,7 @@ module _ (M : Model) (body : Tree) (makes : Makes body M) where
   wait-lies m i o u (said {e} x) st ns =
       let k = m + nodesInPart u in
       let part : StandNodes M k (nodesOf k e) = stands-right (M .nodes) (no-node M) k (nodesOfPart m u) (nodesOf k e) (ap (λ y. m + y) (length-part m u)) ns in
-      let low : rootOf k e < absent = omega (arith, part .fits, makes .few, length-nodes k e, some-nodes e) in
+      let low : rootOf k e < absent = omega (arith, part .fits, makes .few, length-nodesOf k e, nodesIn-some e) in
       to-end i _ refl (lies-simple (wait-for-does M i m o u e _ (rootOf k e) _ (same M x k part) low (head M st)))
 
   statement-at : {i : ℕ} {r : StatementRecord} {l : List StatementRecord} (n : ℕ) → i ≡ n → StandStatements M i (r ∷ l) → statementAt M n ≡ r
@@ -89,7 +90,7 @@ module _ (M : Model) (body : Tree) (makes : Makes body M) where
   unfolding numbered statementsIn
   then-lies m i p q st x y =
       let k = i + statementsIn p in
-      let inside : k < length (M .statements) = omega (arith, st .fits, length-statements (m + nodesInBody p) k q, some-statements q) in
+      let inside : k < length (M .statements) = omega (arith, st .fits, length-statementsOf (m + nodesInBody p) k q, some-statements q) in
       place i _ i _ refl (ap end (add-assoc i (statementsIn p) (statementsIn q))) (lies-then (place i _ i k refl (end-in k inside) x) y)
 
   while-lies : (m i : ℕ) (e : Expression) (p : Tree) → Same M m e (rootOf m e) → StandStatements M i (statementsOf m i (while e p))
@@ -161,6 +162,6 @@ module _ (M : Model) (body : Tree) (makes : Makes body M) where
   -- the body from the first statement on; behind the last one stands the first
   pub body-lies : {text : List ℕ} → Sentence text body → L 0 (numbered 0 0 body) 0
   body-lies sentence =
-      let total : length (M .statements) ≡ statementsIn body = ap length (makes .statements) ∙ length-statements 0 0 body in
+      let total : length (M .statements) ≡ statementsIn body = ap length (makes .statements) ∙ length-statementsOf 0 0 body in
       place 0 _ 0 0 refl (rw (zero-add, total, le-ltb (statementsIn body) (statementsIn body) (omega arith)))
       (lies (sentence .spells) 0 0 (stands-whole (M .statements) (no-statement M) (makes .statements)) (stands-whole (M .nodes) (no-node M) (makes .nodes)))

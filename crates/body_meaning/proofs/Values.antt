@@ -4,7 +4,7 @@ use mathlib.Core.Bool.{false}
 use mathlib.Core.List.{List, [], _∷_, _++_}
 use Prim.Native.Nat.{ℕ, _+_, _-_, _≤_, _<_}
 use native.Mathlib.Omega.{arith}
-use lib.ListN.{length, getD, length-append}
+use lib.ListN.{getD}
 use Rattle.base.specs.Course.{upTo, course}
 use Rattle.base.proofs.Course.{earlier}
 use Rattle.blocks.specs.Records.{Model, nodeAt}
@@ -15,31 +15,12 @@ use Rattle.rules.specs.declared.value.Value.the-variants.{Of}
 use Rattle.rules.specs.Evaluation.{Environment, valueBy, nextValue, evalOf}
 use Rattle.grammar.specs.Tokens.{Token}
 use Rattle.grammar.specs.Words.{operatorOf}
-use Rattle.grammar.specs.Grammar.{Expression, number, logic, signal, variable, delayed, unary, binary, Says, says-number, says-logic, says-signal, says-variable, says-delayed, says-not, says-negate, says-binary}
+use Rattle.grammar.specs.Grammar.{Expression, unary, binary, Says, says-number, says-logic, says-signal, says-variable, says-delayed, says-not, says-negate, says-binary}
+use Rattle.grammar.proofs.MadeLaws.{length-nodesOf, nodesIn-some}
 use Rattle.grammar.specs.Made.{node, nodesIn, rootOf, nodesOf}
 use Rattle.body_meaning.specs.Values.{operator, typeIn, valueIn}
 use Rattle.body_meaning.proofs.Operators.{operator-high, operator-type, operator-value}
 use Rattle.body_meaning.proofs.Stands.{Stands, stands-head, stands-left, stands-right}
-
-pub some-nodes : (e : Expression) → 1 ≤ nodesIn e
-unfolding nodesIn
-some-nodes (number n) = omega arith
-some-nodes (logic n) = omega arith
-some-nodes (signal n) = omega arith
-some-nodes (variable n) = omega arith
-some-nodes (delayed s k) = omega arith
-some-nodes (unary kind e) = omega arith
-some-nodes (binary kind a b) = omega arith
-
-pub length-nodes : (m : ℕ) (e : Expression) → length (nodesOf m e) ≡ nodesIn e
-unfolding nodesOf nodesIn
-length-nodes m (number n) = refl
-length-nodes m (logic n) = refl
-length-nodes m (signal n) = refl
-length-nodes m (variable n) = refl
-length-nodes m (delayed s k) = refl
-length-nodes m (unary kind e) = rw (length-append, length-nodes m e)
-length-nodes m (binary kind a b) = rw (length-append, length-append, length-nodes m a, length-nodes (m + nodesIn a) b) (omega arith)
 
 module _ (M : Model) where
   -- the node n, whose record is d, by those before it
@@ -83,7 +64,7 @@ module _ (M : Model) where
   node-here n e s = rw e at (stands-head (M .nodes) no-node s)
 
   pub behind : {m : ℕ} (e : Expression) (l : List NodeRecord) → StandNodes m (nodesOf m e ++ l) → StandNodes (m + nodesIn e) l
-  behind {m} e l s = stands-right (M .nodes) no-node (m + nodesIn e) (nodesOf m e) l (ap (λ k. m + k) (length-nodes m e)) s
+  behind {m} e l s = stands-right (M .nodes) no-node (m + nodesIn e) (nodesOf m e) l (ap (λ k. m + k) (length-nodesOf m e)) s
 
   leaf : (m n : ℕ) (e : Expression) (d : NodeRecord) → nodeAt M n ≡ d → ((p q : ℕ) → typeBy M d p q ≡ typeIn M e)
       → ((env : Environment) (ty : ℕ) (p q : Value) → valueBy env n d ty p q ≡ valueIn M env m e) → Same m e n
@@ -96,7 +77,7 @@ module _ (M : Model) where
   unary-same m kind e type value s st =
       let n = m + (nodesIn e + 1) - 1 in
       let here : nodeAt M n ≡ node kind (rootOf m e) 0 0 = node-here n (omega arith) (behind e _ st) in
-      let lower : rootOf m e < n = omega (arith, some-nodes e) in
+      let lower : rootOf m e < n = omega (arith, nodesIn-some e) in
       let typed : typeOf M n ≡ typeBy M (operator kind) (typeIn M e) mistyped = type-at n _ here ∙ (type _ _ _ ∙ rw (below-type s lower)) in
       record { type = typed; value = λ env. value-at env n _ here ∙ (value env n _ _ _ _ ∙ rw (typed, below-value s lower env)) }
 
@@ -106,8 +87,8 @@ module _ (M : Model) where
   binary-same m kind a b h s t st =
       let n = m + (nodesIn a + nodesIn b + 1) - 1 in
       let here : nodeAt M n ≡ node kind (rootOf m a) (rootOf (m + nodesIn a) b) 0 = node-here n (omega arith) (behind b _ (behind a _ st)) in
-      let lower : rootOf m a < n = omega (arith, some-nodes a) in
-      let lower-b : rootOf (m + nodesIn a) b < n = omega (arith, some-nodes b) in
+      let lower : rootOf m a < n = omega (arith, nodesIn-some a) in
+      let lower-b : rootOf (m + nodesIn a) b < n = omega (arith, nodesIn-some b) in
       let typed : typeOf M n ≡ typeBy M (operator kind) (typeIn M a) (typeIn M b) =
       type-at n _ here ∙ (operator-type kind _ _ h M _ _ ∙ rw (below-type s lower, below-type t lower-b)) in
       record {

@@ -30,7 +30,7 @@ nodesIn-some (delayed s k) = omega arith
 nodesIn-some (unary kind e) = omega arith
 nodesIn-some (binary kind a b) = omega arith
 
-length-part : (m : ℕ) (u : Option Expression) → length (nodesOfPart m u) ≡ nodesInPart u
+pub length-part : (m : ℕ) (u : Option Expression) → length (nodesOfPart m u) ≡ nodesInPart u
 length-part m none = refl
 length-part m (some e) = length-nodesOf m e
 

@@ -6,7 +6,7 @@ use mathlib.Core.Logic.{_≢_}
 use mathlib.Core.Option.{Option}
 use Prim.Native.Nat.{ℕ}
 use native.Mathlib.Omega.{arith}
-use Rattle.grammar.specs.Tokens.{Token, tok, word, end-code, signal-code, variable-code}
+use Rattle.grammar.specs.Tokens.{Token, tok, word, end-code, signal-code, variable-code, NoWord}
 use Rattle.grammar.specs.Words.{null-word, wait-word, on-word, until-word, for-word, if-word, else-word, end-word, while-word, delayed-word, semicolon, comma, operatorOf}
 use Rattle.grammar.specs.Grammar.{Expression, Statement, Says, says-number, says-logic, says-signal, says-variable, says-delayed, says-not, says-negate, says-binary, SaysSignals, one-signal, more-signals, SaysFor, no-for, with-for, SaysUntil, no-until, with-until, SaysOn, no-on, with-on, Part, one, list, Spells, spells-null, spells-assign, spells-drive, spells-wait, spells-while, spells-choice, last, more, OneReading}
 
@@ -74,21 +74,18 @@ pub stops-mark : Stops end-code
 stops-mark = record { not-null = λ e. omega arith; not-variable = λ e. omega arith; not-signal = λ e. omega arith; not-wait = λ e. omega arith; not-while = λ e. omega arith; not-if = λ e. omega arith }
 
 -- the parts of a wait. A list of signals ends where no comma follows.
-abbrev pub NoComma : List Token → Type 0
-NoComma r = (t : List Token) → r ≡ word comma ∷ t → ⊥
-
 pub other-word : {c d : ℕ} {r t : List Token} → c ≢ d → word c ∷ r ≡ word d ∷ t → ⊥
 other-word {c = c} {d = d} n e = let same : c ≡ d = cc e in n same
 
-for-without-comma : {f : Option Expression} {s r : List Token} → SaysFor f s r → NoComma s
+for-without-comma : {f : Option Expression} {s r : List Token} → SaysFor f s r → NoWord s comma
 for-without-comma no-for t e = other-word {c = semicolon} {d = comma} (λ x. omega arith) e
 for-without-comma (with-for p) t e = other-word {c = for-word} {d = comma} (λ x. omega arith) e
 
-pub until-without-comma : {u f : Option Expression} {s r : List Token} → SaysUntil u f s r → NoComma s
+pub until-without-comma : {u f : Option Expression} {s r : List Token} → SaysUntil u f s r → NoWord s comma
 until-without-comma (no-until p) t e = for-without-comma p t e
 until-without-comma (with-until p q) t e = other-word {c = until-word} {d = comma} (λ x. omega arith) e
 
-pub one-signals : {ns ms : List ℕ} {s r t : List Token} → NoComma r → NoComma t → SaysSignals ns s r → SaysSignals ms s t → (ns ≡ ms) × (r ≡ t)
+pub one-signals : {ns ms : List ℕ} {s r t : List Token} → NoWord r comma → NoWord t comma → SaysSignals ns s r → SaysSignals ms s t → (ns ≡ ms) × (r ≡ t)
 one-signals x y one-signal one-signal = (refl, refl)
 one-signals x y one-signal (more-signals p) = absurd (x _ refl)
 one-signals x y (more-signals p) one-signal = absurd (y _ refl)
@@ -98,10 +95,10 @@ pub one-for : {f g : Option Expression} {s r t : List Token} → SaysFor f s r �
 one-for no-for no-for = (refl, refl)
 one-for (with-for p) (with-for q) = let (same, left) = one-expression p q in (cc, cc)
 
-for-at : {f : Option Expression} {s t r : List Token} → s ≡ t → SaysFor f s r → SaysFor f t r
+pub for-at : {f : Option Expression} {s t r : List Token} → s ≡ t → SaysFor f s r → SaysFor f t r
 for-at e h = rw e at h
 
-until-at : {u f : Option Expression} {s t r : List Token} → s ≡ t → SaysUntil u f s r → SaysUntil u f t r
+pub until-at : {u f : Option Expression} {s t r : List Token} → s ≡ t → SaysUntil u f s r → SaysUntil u f t r
 until-at e h = rw e at h
 
 for-not-until : {f : Option Expression} {s t r : List Token} → SaysFor f s r → s ≡ word until-word ∷ t → ⊥

@@ -22,7 +22,7 @@ use Rattle.grammar.specs.Grammar.{Expression, unary, binary, Says}
 use Rattle.grammar.specs.Made.{node, nodesIn, nodesOf, signalsIn, setWith, rootOf}
 use Rattle.grammar.proofs.MadeLaws.{length-nodesOf, nodesIn-some, set-append}
 use Rattle.writing.specs.Written.{recordBytes, nodeBytes}
-use Rattle.writing.proofs.WriteLaws.{sets-append, length-nodes, nodes-append}
+use Rattle.writing.proofs.WriteLaws.{nodes-behind}
 use Rattle.phrases.specs.Groups.{Group, prefix, left, right, Closes, closed, closes-prefix, closes-left, closes-right, Awaits, groupNodes, nodesOfGroups, signalsInGroups, packed, opened, isPrefix, Fits, closedNode, Stacked, bottom, on-top}
 use Rattle.phrases.specs.Phrases.{FoundExpression, NoExpression, FoundOperator, NoOperator, FoundLeaf, leafSignals, FoundGroup}
 use Rattle.phrases.proofs.Stacks.{stacked-more, top-left, prefix-small, closed-prefix, closed-right}
@@ -33,13 +33,6 @@ length-groups m [] = refl
 length-groups m (prefix kind ∷ gs) = length-groups m gs
 length-groups m (left ∷ gs) = length-groups m gs
 length-groups m (right kind a ∷ gs) = rw (length-append, length-groups m gs, length-nodesOf (m + groupNodes gs) a)
-
--- one node more behind those of ds
-node-behind : (out : List ℕ) (m n : ℕ) (d : NodeRecord) (ds : List NodeRecord) {one two : List ℕ} → one ≡ sets out (12 * m) (nodeBytes ds) → n ≡ m + length ds
-    → two ≡ sets one (12 * n) (nodeBytes (d ∷ [])) → two ≡ sets out (12 * m) (nodeBytes (ds ++ (d ∷ [])))
-node-behind out m n d ds e c f =
-    let place : 12 * n ≡ 12 * m + length (nodeBytes ds) = omega (arith, length-nodes ds) in
-    f ∙ ap₂ (λ l p. sets l p (nodeBytes (d ∷ []))) e place ∙ sym (sets-append out (12 * m) (nodeBytes ds) (nodeBytes (d ∷ []))) ∙ rw (nodes-append ds (d ∷ []))
 
 pub one-node : (d : NodeRecord) → recordBytes (d .kind) (d .a) (d .b) 0 (d .k) ≡ nodeBytes (d ∷ [])
 unfolding nodeBytes
@@ -110,7 +103,7 @@ leaf-read {text} {m} {n} {kind} {a} {k} {next} {out} {new} w f e g =
         counted = omega (arith, w .counted, f .one);
         signals = e ∙ ap₂ setWith (w .signals) (sym (f .signals)) ∙ sym (set-append 0 (signalsInGroups gs) (signalsIn (f .tree)));
         written =
-            node-behind out m n (node kind a 0 k) (nodesOfGroups m gs) (w .written) (w .counted ∙ ap (λ x. m + x) (sym (length-groups m gs)))
+            nodes-behind out m n (nodesOfGroups m gs) (node kind a 0 k ∷ []) (w .counted ∙ ap (λ x. m + x) (sym (length-groups m gs))) (w .written)
             (g ∙ ap (λ l. sets new (12 * n) l) (one-node (node kind a 0 k)))
             ∙ ap (λ l. sets out (12 * m) (nodeBytes (nodesOfGroups m gs ++ l))) (sym (f .made (m + groupNodes gs)));
       };
@@ -261,7 +254,7 @@ module _ {text : List ℕ} {at m i n set depth next : ℕ} {stack out new new' :
         stacked = below;
         counted = omega (arith, h .counted);
         signals = h .signals;
-        written = node-behind out m n d ds (h .written) (omega (arith, h .counted)) (f ∙ ap (λ y. sets new (12 * n) (nodeBytes (y ∷ []))) same) ∙ rw append-assoc;
+        written = nodes-behind out m n ds (d ∷ []) (omega (arith, h .counted)) (h .written) (f ∙ ap (λ y. sets new (12 * n) (nodeBytes (y ∷ []))) same) ∙ rw append-assoc;
       }
 
   right-closed : {gs : List Group} {e : Expression} (kind : ℕ) (a : Expression) → Having text at m out (right kind a ∷ gs) e i n set depth stack new → Stacked stack m (depth - 1) gs
@@ -282,7 +275,7 @@ module _ {text : List ℕ} {at m i n set depth next : ℕ} {stack out new new' :
         stacked = below;
         counted = omega (arith, h .counted);
         signals = h .signals ∙ ap (λ y. setWith 0 y) (append-assoc (signalsInGroups gs) (signalsIn a) (signalsIn e));
-        written = node-behind out m n d (ls ++ es) (h .written ∙ ap (λ y. sets out (12 * m) (nodeBytes (ls ++ nodesOf y e))) next-m) (omega (arith, counted, total))
+        written = nodes-behind out m n (ls ++ es) (d ∷ []) (omega (arith, counted, total)) (h .written ∙ ap (λ y. sets out (12 * m) (nodeBytes (ls ++ nodesOf y e))) next-m)
             (f ∙ ap (λ y. sets new (12 * n) (nodeBytes (y ∷ []))) same) ∙ rw (append-assoc, append-assoc);
       }
 

@@ -10,7 +10,7 @@ use native.Mathlib.Omega.{arith}
 use lib.Bits.{bitOr}
 use lib.Pow.{pow-lt}
 use borrow.Author.Tests.{eqb-true}
-use lib.Dec.{eqb}
+use lib.Dec.{eqb, lit<}
 use Rattle.base.specs.Cases.{_∣_, _⇒_}
 use lib.ListN.{length}
 use lib.Seq.{sets}
@@ -242,24 +242,28 @@ after-signal {text} {at} {code} {value} {next} {x} {least} {form} {kind} {a} {k}
     let b : OperandIs text (word opening ∷ from text at) x form kind a k after = subst (λ s. OperandIs text (word opening ∷ s) x form kind a k after) (sym here) o in
     record { none = b .none; leaf = b .leaf; group = b .group; known = b .known; within = λ z. (omega (arith, b .within z .0), b .within z .1) }
 
-pub opened-bracket : {text : List ℕ} {at code value next : ℕ} → FirstToken text at code value next → code ≡ opening → FoundWord text at opening next
-opened-bracket {text} {at} {code} {value} {next} t e =
-    let (goes, less) = t .goes-on (λ z. omega (arith, e, z)) in
-    let none : value ≡ 0 = t .plain (λ z. omega (arith, e, z)) (λ z. omega (arith, e, z)) (λ z. omega (arith, e, z)) (λ z. omega (arith, e, z)) in
-    record { begins = t .begins ∙ rw (e, none, goes); within = (less, t .within .1) }
-
 -- an operator by its code: its node kind is none of those before one operand
 abbrev Between : ℕ → Type 0
 Between n = n ≢ 0 → (n < 32) × (isPrefix n ≡ false)
 
-chosen : (b : Bool) {x y : ℕ} → Between x → Between y → Between (b ⇒ x ∣ y)
-chosen true f g = f
-chosen false f g = g
+or-else : (b : Bool) (k : ℕ) {y : ℕ} → k < 32 → isPrefix k ≡ false → Between y → Between (b ⇒ k ∣ y)
+or-else true k l p g z = (l, p)
+or-else false k l p g z = g z
 
 infix-kinds : (c : ℕ) → Between (operatorOf c)
 unfolding operatorOf isPrefix
 infix-kinds c =
-    (chosen (eqb c and-word) {x = 7} {y = _} (λ z. (omega arith, refl)) (chosen (eqb c or-word) {x = 8} {y = _} (λ z. (omega arith, refl)) (chosen (eqb c xor-word) {x = 9} {y = _} (λ z. (omega arith, refl)) (chosen (eqb c plus) {x = 11} {y = _} (λ z. (omega arith, refl)) (chosen (eqb c minus) {x = 12} {y = _} (λ z. (omega arith, refl)) (chosen (eqb c equals) {x = 13} {y = _} (λ z. (omega arith, refl)) (chosen (eqb c less) {x = 14} {y = _} (λ z. (omega arith, refl)) (chosen (eqb c times) {x = 15} {y = _} (λ z. (omega arith, refl)) (chosen (eqb c over) {x = 16} {y = _} (λ z. (omega arith, refl)) (chosen (eqb c mod-word) {x = 17} {y = _} (λ z. (omega arith, refl)) (chosen (eqb c rem-word) {x = 18} {y = _} (λ z. (omega arith, refl)) (λ z. absurd (z refl)))))))))))))
+    or-else (eqb c and-word) 7 (lit< tt) refl
+    (or-else (eqb c or-word) 8 (lit< tt) refl
+    (or-else (eqb c xor-word) 9 (lit< tt) refl
+    (or-else (eqb c plus) 11 (lit< tt) refl
+    (or-else (eqb c minus) 12 (lit< tt) refl
+    (or-else (eqb c equals) 13 (lit< tt) refl
+    (or-else (eqb c less) 14 (lit< tt) refl
+    (or-else (eqb c times) 15 (lit< tt) refl
+    (or-else (eqb c over) 16 (lit< tt) refl
+    (or-else (eqb c mod-word) 17 (lit< tt) refl
+    (or-else (eqb c rem-word) 18 (lit< tt) refl (λ z. absurd (z refl))))))))))))
 
 -- no operator is a number, a name, a logic value or the end
 no-operator-code : (c : ℕ) → operatorOf c ≢ 0 → Word c

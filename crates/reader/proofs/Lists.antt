@@ -7,7 +7,7 @@ use mathlib.Core.Logic.{_≢_}
 use Prim.Native.Nat.{ℕ, _≤_, _<_}
 use native.Mathlib.Omega.{arith}
 use lib.ListN.{length}
-use Rattle.grammar.specs.Tokens.{Token, tok, word, from, number-code, signal-code, variable-code, logic-code, end-code, Word, FirstToken, Answer, FoundWord, NoWord}
+use Rattle.grammar.specs.Tokens.{Token, tok, word, from, number-code, signal-code, variable-code, logic-code, end-code, FirstToken, Answer, FoundWord, NoWord}
 use Rattle.grammar.specs.Words.{null-word, wait-word, semicolon}
 use Rattle.grammar.specs.Grammar.{Statement, one, list, Spells, spells-null, spells-assign, spells-drive, spells-wait, spells-while, spells-choice, last, more, _then_}
 use Rattle.grammar.specs.Made.{nodesInBody, statementsIn}
@@ -57,13 +57,6 @@ module _ {text : List ℕ} {at code value x : ℕ} (t : FirstToken text at code 
   named c e n =
       let (goes, less) = t .goes-on (λ z. n (sym e ∙ z)) in
       (sym (t .begins ∙ rw (e, goes)), less)
-
-  -- a word
-  pub a-word-here : (c : ℕ) → Word c → code ≡ c → FoundWord text at c x
-  a-word-here c w e =
-      let (goes, less) = t .goes-on (λ z. w .not-end (sym e ∙ z)) in
-      let none : value ≡ 0 = t .plain (λ z. w .not-number (sym e ∙ z)) (λ z. w .not-signal (sym e ∙ z)) (λ z. w .not-variable (sym e ∙ z)) (λ z. w .not-logic (sym e ∙ z)) in
-      record { begins = t .begins ∙ rw (e, none, goes); within = (less, t .within .1) }
 
 -- an answer for the tokens from a word on is one for those after it
 pub from-before : {text : List ℕ} {s s' : List Token} {at x room m i next m' i' : ℕ} {nodes nodes' out two : List ℕ} {ok : Bool} → s ≡ s' → at < x

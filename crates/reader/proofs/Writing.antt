@@ -6,7 +6,6 @@ use Prim.Native.Nat.{ℕ, _+_, _*_, _-_, _≤_}
 use native.Mathlib.Omega.{arith}
 use lib.ListN.{length}
 use lib.Seq.{sets}
-use Rattle.blocks.specs.declared.records.NodeRecord.{NodeRecord}
 use Rattle.blocks.specs.declared.records.StatementRecord.{StatementRecord}
 use Rattle.grammar.specs.Grammar.{Statement, while, choice, Expression, _then_}
 use Rattle.grammar.specs.Made.{statement, nodesIn, nodesOf, nodesInBody, nodesOfBody, statementsIn, statementsOf}
@@ -14,20 +13,7 @@ use Rattle.grammar.proofs.MadeLaws.{length-nodesOf, length-nodesOfBody, length-
 use Rattle.simple.proofs.AssignLaws.{stored}
 use Rattle.reader.specs.Reading.{LoopPut, ChoicePut}
 use Rattle.writing.specs.Written.{recordBytes, nodeBytes, statementBytes}
-use Rattle.writing.proofs.WriteLaws.{sets-append, sets-before, nodes-append, statements-append, length-nodes, length-statements}
-
--- records behind others
-pub nodes-behind : (nodes : List ℕ) (m m' : ℕ) (xs ys : List NodeRecord) {one two : List ℕ} → m' ≡ m + length xs → one ≡ sets nodes (12 * m) (nodeBytes xs)
-    → two ≡ sets one (12 * m') (nodeBytes ys) → two ≡ sets nodes (12 * m) (nodeBytes (xs ++ ys))
-nodes-behind nodes m m' xs ys e f g =
-    let place : 12 * m' ≡ 12 * m + length (nodeBytes xs) = omega (arith, length-nodes xs) in
-    g ∙ ap₂ (λ l p. sets l p (nodeBytes ys)) f place ∙ sym (sets-append nodes (12 * m) (nodeBytes xs) (nodeBytes ys)) ∙ ap (λ l. sets nodes (12 * m) l) (sym (nodes-append xs ys))
-
-pub statements-behind : (out : List ℕ) (i i' : ℕ) (xs ys : List StatementRecord) {one two : List ℕ} → i' ≡ i + length xs → one ≡ sets out (12 * i) (statementBytes xs)
-    → two ≡ sets one (12 * i') (statementBytes ys) → two ≡ sets out (12 * i) (statementBytes (xs ++ ys))
-statements-behind out i i' xs ys e f g =
-    let place : 12 * i' ≡ 12 * i + length (statementBytes xs) = omega (arith, length-statements xs) in
-    g ∙ ap₂ (λ l p. sets l p (statementBytes ys)) f place ∙ sym (sets-append out (12 * i) (statementBytes xs) (statementBytes ys)) ∙ ap (λ l. sets out (12 * i) l) (sym (statements-append xs ys))
+use Rattle.writing.proofs.WriteLaws.{sets-before, length-statements, nodes-behind, statements-behind}
 
 -- one record stored after those that stand behind it
 statement-before : (out : List ℕ) (i j : ℕ) (s : StatementRecord) (xs : List StatementRecord) → i + 1 ≤ j

@@ -11,12 +11,14 @@ use Rattle.grammar.specs.Tokens.{Token, tok, word, signal-code, variable-code, 
 use Rattle.grammar.specs.Words.{wait-word, on-word, after-word, semicolon, becomes, drives}
 use Rattle.grammar.specs.Grammar.{Expression, Statement, assign, drive, wait, Says, SaysSignals, SaysUntil, SaysOn, no-on, with-on, one, Spells, spells-assign, spells-drive, spells-wait}
 use Rattle.grammar.specs.Made.{statement, nodesIn, nodesOf, nodesInBody, nodesOfBody, statementsIn, statementsOf, waitSet}
-use Rattle.grammar.proofs.Unique.{one-expression, says-at, spells-at, one-signals, until-without-comma}
+use Rattle.grammar.proofs.Unique.{one-expression, says-at, spells-at, until-at, one-signals, until-without-comma}
+use Rattle.grammar.proofs.MadeLaws.{length-nodesOf}
+use Rattle.writing.proofs.WriteLaws.{nodes-behind}
 use Rattle.writing.specs.Written.{recordBytes, nodeBytes, statementBytes}
 use Rattle.phrases.specs.Phrases.{FoundPhrase, NoPhrase}
 use Rattle.simple.specs.Waits.{FoundSignals, NoSignals, FoundUntil, NoUntil}
 use Rattle.simple.specs.Statements.{FoundStatement, NoStatement}
-use Rattle.simple.proofs.WaitLaws.{nodes-behind, until-at, not-until}
+use Rattle.simple.proofs.WaitLaws.{not-until}
 
 pub one-record : (s : StatementRecord) → recordBytes (s .kind) (s .a) (s .b) (s .c) (s .set) ≡ statementBytes (s ∷ [])
 unfolding statementBytes
@@ -91,7 +93,7 @@ module _ {text : List ℕ} {at s x : ℕ} (w : FoundWord text at drives x) where
           spells = spells-at (ap (λ l. tok signal-code s ∷ l) (sym (w .begins))) (spells-drive (f .says) (g .says));
           nodes-counted = omega (arith, total);
           statements-counted = refl;
-          nodes-written = nodes-behind nodes m k a (nodesOf (m + nodesIn a) b) (f .written) (f .counted)
+          nodes-written = nodes-behind nodes m k (nodesOf m a) (nodesOf (m + nodesIn a) b) (f .counted ∙ ap (λ x. m + x) (sym (length-nodesOf m a))) (f .written)
               (g .written ∙ ap (λ n. sets one' (12 * k) (nodeBytes (nodesOf n b))) (f .counted));
           written = stored out i e (ap₂ (λ n o. statement 2 s (n - 1) (o - 1) 0) (f .counted) total);
           within = omega (arith, w .within, f .within, g .within);

@@ -12,7 +12,7 @@ use Rattle.grammar.specs.Grammar.{SaysSignals, one-signal, more-signals}
 use Rattle.grammar.specs.Made.{setWith}
 use Rattle.grammar.proofs.MadeLaws.{set-append}
 use Rattle.phrases.proofs.Operands.{leaf-signal}
-use Rattle.simple.specs.Waits.{NoComma, FoundSignals, NoSignals}
+use Rattle.simple.specs.Waits.{FoundSignals, NoSignals}
 
 signals-at : {ns : List ℕ} {s t r : List Token} → s ≡ t → SaysSignals ns s r → SaysSignals ns t r
 signals-at e h = rw e at h
@@ -23,7 +23,7 @@ signal-first one-signal = refl
 signal-first (more-signals p) = refl
 
 -- behind a comma there are more
-after-comma : {ns : List ℕ} {n : ℕ} {s r : List Token} → NoComma r → SaysSignals ns (tok signal-code n ∷ word comma ∷ s) r
+after-comma : {ns : List ℕ} {n : ℕ} {s r : List Token} → NoWord r comma → SaysSignals ns (tok signal-code n ∷ word comma ∷ s) r
     → (ms : List ℕ) × (ns ≡ n ∷ ms) × SaysSignals ms s r
 after-comma x one-signal = absurd (x _ refl)
 after-comma x (more-signals p) = (_, refl, p)
@@ -36,7 +36,7 @@ module _ (text : List ℕ) (at : ℕ) where
   -- signals with a comma behind each have been read up to i
   pub record Collects (i set : ℕ) : Type 0 where
     pub done : List ℕ
-    pub down : (ns : List ℕ) (r : List Token) → NoComma r → SaysSignals ns (from text at) r → (ms : List ℕ) × (ns ≡ done ++ ms) × SaysSignals ms (from text i) r
+    pub down : (ns : List ℕ) (r : List Token) → NoWord r comma → SaysSignals ns (from text at) r → (ms : List ℕ) × (ns ≡ done ++ ms) × SaysSignals ms (from text i) r
     pub up : (ms : List ℕ) (r : List Token) → SaysSignals ms (from text i) r → SaysSignals (done ++ ms) (from text at) r
     pub collected : set ≡ setWith 0 done
 

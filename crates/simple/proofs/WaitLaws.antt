@@ -2,46 +2,26 @@
 -- Assumes nothing.
 use mathlib.Core.Path.{_≡_, refl, sym, ap, _∙_}
 use mathlib.Core.Bool.{Bool}
-use mathlib.Core.List.{List, _∷_, _++_}
+use mathlib.Core.List.{List, _∷_}
 use mathlib.Core.Logic.{_≢_}
 use mathlib.Core.Option.{Option, none, some}
 use Prim.Native.Nat.{ℕ, _+_, _*_, _-_, _≤_}
 use native.Mathlib.Nat.{add-zero}
 use native.Mathlib.Omega.{arith}
-use lib.Dec.{eqb}
 use lib.ListN.{length}
 use lib.Seq.{sets}
 use borrow.Author.Needs.{needs}
-use borrow.Author.Tests.{eq-eqb}
-use Rattle.blocks.specs.declared.records.NodeRecord.{NodeRecord}
-use Rattle.grammar.specs.Tokens.{Token, tok, word, from, Word, FirstToken, Answer, FoundWord, NoWord}
+use Rattle.grammar.specs.Tokens.{Token, tok, word, from, FirstToken, Answer, FoundWord, NoWord}
 use Rattle.grammar.specs.Words.{semicolon, for-word, until-word}
 use Rattle.grammar.specs.Grammar.{Expression, Says, SaysFor, no-for, with-for, SaysUntil, no-until, with-until}
 use Rattle.grammar.specs.Made.{nodesIn, nodesOf, nodesOfPart, rootOfPart}
-use Rattle.grammar.proofs.Unique.{one-expression}
+use Rattle.grammar.proofs.Unique.{one-expression, for-at, until-at}
 use Rattle.grammar.proofs.MadeLaws.{length-nodesOf}
-use Rattle.tokens.proofs.Lexing.{word-answer}
+use Rattle.tokens.proofs.Lexing.{first-word}
 use Rattle.writing.specs.Written.{nodeBytes}
-use Rattle.writing.proofs.WriteLaws.{behind, length-nodes, nodes-append}
+use Rattle.writing.proofs.WriteLaws.{nodes-behind}
 use Rattle.phrases.specs.Phrases.{FoundExpression, NoExpression, FoundPhrase, NoPhrase}
 use Rattle.simple.specs.Waits.{FoundFor, NoFor, FoundUntil, NoUntil}
-
--- the first token is the word c
-first-word : {text : List ℕ} {at code value next c : ℕ} → Word c → FirstToken text at code value next → code ≡ c → FoundWord text at c next
-first-word {text} {at} {code} {value} {next} {c} k t e = word-answer text at code value next c (eqb code c) k t refl .found (eq-eqb code c e)
-
--- nodes behind those of an expression
-pub nodes-behind : (out : List ℕ) (m n : ℕ) (e : Expression) (ds : List NodeRecord) {one two : List ℕ} → one ≡ sets out (12 * m) (nodeBytes (nodesOf m e)) → n ≡ m + nodesIn e
-    → two ≡ sets one (12 * n) (nodeBytes ds) → two ≡ sets out (12 * m) (nodeBytes (nodesOf m e ++ ds))
-nodes-behind out m n e ds {one} f c g =
-    let place : 12 * n ≡ 12 * m + length (nodeBytes (nodesOf m e)) = omega (arith, c, length-nodes (nodesOf m e), length-nodesOf m e) in
-    behind out (12 * m) (nodeBytes (nodesOf m e)) (nodeBytes ds) f (g ∙ ap (λ p. sets one p (nodeBytes ds)) place) ∙ ap (λ l. sets out (12 * m) l) (sym (nodes-append (nodesOf m e) ds))
-
-for-at : {f : Option Expression} {s t r : List Token} → s ≡ t → SaysFor f s r → SaysFor f t r
-for-at e h = rw e at h
-
-pub until-at : {u f : Option Expression} {s t r : List Token} → s ≡ t → SaysUntil u f s r → SaysUntil u f t r
-until-at e h = rw e at h
 
 -- the first token decides
 not-for : {f : Option Expression} {c v : ℕ} {s r : List Token} → c ≢ semicolon → c ≢ for-word → SaysFor f (tok c v ∷ s) r → ⊥
@@ -137,7 +117,7 @@ module _ {text : List ℕ} {at x : ℕ} (w : FoundWord text at until-word x) whe
           first = ap (λ n. n - 1) (e .counted);
           second = f .root ∙ ap (λ n. rootOfPart n (f .time)) (e .counted);
           collected = e .signals;
-          written = nodes-behind nodes m k (e .tree) (nodesOfPart (m + nodesIn (e .tree)) (f .time)) (e .written) (e .counted)
+          written = nodes-behind nodes m k (nodesOf m (e .tree)) (nodesOfPart (m + nodesIn (e .tree)) (f .time)) (e .counted ∙ ap (λ x. m + x) (sym (length-nodesOf m (e .tree)))) (e .written)
               (f .written ∙ ap (λ n. sets one (12 * k) (nodeBytes (nodesOfPart n (f .time)))) (e .counted));
           within = (omega (arith, w .within, e .within, f .within), f .within .1, f .within .2, omega (arith, e .within, l), f .within .3);
         };

@@ -1,30 +1,26 @@
 -- What the functions for the parts of a wait answer.
 use mathlib.Core.Path.{_≡_}
-use mathlib.Core.List.{List, _∷_, _++_}
+use mathlib.Core.List.{List, _++_}
 use mathlib.Core.Option.{Option, none}
 use Prim.Native.Nat.{ℕ, _+_, _*_, _≤_, _<_}
 use lib.ListN.{length}
 use lib.Seq.{sets}
-use Rattle.grammar.specs.Tokens.{Token, word, from}
+use Rattle.grammar.specs.Tokens.{Token, from, NoWord}
 use Rattle.grammar.specs.Words.{comma}
 use Rattle.grammar.specs.Grammar.{Expression, SaysSignals, SaysFor, SaysUntil}
 use Rattle.grammar.specs.Made.{setWith, nodesInPart, nodesOfPart, rootOfPart, waitSet}
 use Rattle.writing.specs.Written.{nodeBytes}
 
--- no comma follows
-abbrev pub NoComma : List Token → Type 0
-NoComma r = (t : List Token) → r ≡ word comma ∷ t → ⊥
-
 -- signals with commas between stand from a place on, as many as there are
 pub record FoundSignals (text : List ℕ) (at next set : ℕ) : Type 0 where
   pub signals : List ℕ
   pub says : SaysSignals signals (from text at) (from text next)
-  pub ends : NoComma (from text next)
+  pub ends : NoWord (from text next) comma
   pub collected : set ≡ setWith 0 signals
   pub within : (at < next) × (next ≤ length text)
 
 abbrev pub NoSignals : List Token → Type 0
-NoSignals s = (ns : List ℕ) (r : List Token) → NoComma r → SaysSignals ns s r → ⊥
+NoSignals s = (ns : List ℕ) (r : List Token) → NoWord r comma → SaysSignals ns s r → ⊥
 
 -- `for e ;` or the semicolon alone
 pub record FoundFor (text : List ℕ) (at m next m' c : ℕ) (nodes nodes' : List ℕ) : Type 0 where

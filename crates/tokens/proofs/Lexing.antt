@@ -7,7 +7,7 @@ use Prim.Native.Nat.{ℕ, zero, suc, _+_, _*_, _-_, _≤_, _<_}
 use native.Mathlib.Nat.{not-suc-le-zero}
 use native.Mathlib.Numerals.{add-one}
 use native.Mathlib.Omega.{arith}
-use borrow.Author.Tests.{leb-true, eqb-true, eqb-false}
+use borrow.Author.Tests.{leb-true, eqb-true, eqb-false, eq-eqb}
 use lib.Dec.{leb, eqb}
 use lib.ListN.{length, take, drop, drop-of-length-le, length-drop, List·getD-eq-default}
 use lib.Seq.{length-take-le, drop-cons, drop-drop}
@@ -233,3 +233,7 @@ word-answer text at code value next c ok k t e = record {
       record { begins = t .begins ∙ rw (same, none, goes); within = (less, t .within .1) };
   nothing = λ y r z. let same : code ≡ c = cc (t .begins) in eqb-false code c (sym e ∙ y) same;
 }
+
+-- the first token is the word c
+pub first-word : {text : List ℕ} {at code value next c : ℕ} → Word c → FirstToken text at code value next → code ≡ c → FoundWord text at c next
+first-word {text} {at} {code} {value} {next} {c} k t e = word-answer text at code value next c (eqb code c) k t refl .found (eq-eqb code c e)

@@ -1,6 +1,6 @@
 -- Lists of bytes stored one behind the other, or one before the other.
 -- Assumes nothing.
-use mathlib.Core.Path.{_≡_, refl, sym, ap, _∙_}
+use mathlib.Core.Path.{_≡_, refl, sym, ap, ap₂, _∙_}
 use mathlib.Core.List.{List, [], _∷_, _++_, append-assoc}
 use Prim.Native.Nat.{ℕ, suc, _+_, _*_, _/_, _%_, _≤_, _<_}
 use native.Mathlib.Nat.{add-zero, add-suc, suc-add}
@@ -69,3 +69,16 @@ pub statements-append : (xs ys : List StatementRecord) → statementBytes (xs ++
 unfolding statementBytes
 statements-append [] ys = refl
 statements-append (s ∷ ss) ys = rw (statements-append ss ys, append-assoc)
+
+-- records behind others
+pub nodes-behind : (nodes : List ℕ) (m m' : ℕ) (xs ys : List NodeRecord) {one two : List ℕ} → m' ≡ m + length xs → one ≡ sets nodes (12 * m) (nodeBytes xs)
+    → two ≡ sets one (12 * m') (nodeBytes ys) → two ≡ sets nodes (12 * m) (nodeBytes (xs ++ ys))
+nodes-behind nodes m m' xs ys e f g =
+    let place : 12 * m' ≡ 12 * m + length (nodeBytes xs) = omega (arith, length-nodes xs) in
+    g ∙ ap₂ (λ l p. sets l p (nodeBytes ys)) f place ∙ sym (sets-append nodes (12 * m) (nodeBytes xs) (nodeBytes ys)) ∙ ap (λ l. sets nodes (12 * m) l) (sym (nodes-append xs ys))
+
+pub statements-behind : (out : List ℕ) (i i' : ℕ) (xs ys : List StatementRecord) {one two : List ℕ} → i' ≡ i + length xs → one ≡ sets out (12 * i) (statementBytes xs)
+    → two ≡ sets one (12 * i') (statementBytes ys) → two ≡ sets out (12 * i) (statementBytes (xs ++ ys))
+statements-behind out i i' xs ys e f g =
+    let place : 12 * i' ≡ 12 * i + length (statementBytes xs) = omega (arith, length-statements xs) in
+    g ∙ ap₂ (λ l p. sets l p (statementBytes ys)) f place ∙ sym (sets-append out (12 * i) (statementBytes xs) (statementBytes ys)) ∙ ap (λ l. sets out (12 * i) l) (sym (statements-append xs ys))

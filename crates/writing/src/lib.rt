@@ -1,6 +1,6 @@
 // Records written into a buffer, one behind the other. What lies past the buffer's end is not stored.
 ghost use mathlib.Core.Path.{_≡_};
-ghost use Prim.Native.Nat.{_*_, _<_, _≤_};
+ghost use Prim.Native.Nat.{_*_, _<_};
 ghost use lib.ListN.{set};
 ghost use lib.Seq.{sets};
 ghost use Rattle.writing.specs.Written.{wordBytes, recordBytes};

@@ -1,7 +1,9 @@
 -- The first token decides.
 -- Assumes nothing.
 use native.Mathlib.Omega.{arith}
-use Rattle.phrases.proofs.Operands.{is-nothing, is-leaf, first-within, number-leaf, logic-leaf, variable-leaf, signal-leaf, no-operand-here, opened-bracket, after-bracket}
+use Rattle.phrases.proofs.Operands.{is-nothing, is-leaf, first-within, number-leaf, logic-leaf, variable-leaf, signal-leaf, no-operand-here, after-bracket}
+use Rattle.tokens.proofs.Lexing.{first-word}
+use Rattle.grammar.specs.Words.{opening}
 use borrow.Author.Needs.{needs}
 use Rattle.phrases.proofs.operand.Statement.{statement}
 use Rattle.phrases.proofs.operand.Tie as tie
@@ -37,7 +39,7 @@ group-requires : tie.Need-group-requires
 group-requires c κs = omega (arith, c .before .before .before .before .before .token .ensures .within)
 
 returns-6 : tie.Need-returns-6
-returns-6 c = let w = opened-bracket (c .before .before .before .before .before .before .token .ensures) (c .before .if5 .left) in after-bracket w (omega (arith, w .within)) (c .group .ensures)
+returns-6 c = let w = first-word {c = opening} (search needs) (c .before .before .before .before .before .before .token .ensures) (c .before .if5 .left) in after-bracket w (omega (arith, w .within)) (c .group .ensures)
 
 pub operand-spec : {M : Type 1} → statement M
 operand-spec =

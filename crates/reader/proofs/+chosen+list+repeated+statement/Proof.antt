@@ -13,9 +13,10 @@ use Rattle.grammar.specs.Words.{null-word, wait-word, while-word, if-word}
 use Rattle.grammar.specs.Tokens.{signal-code, variable-code}
 use Rattle.phrases.proofs.GroupLaws.{yes-answer, no-answer}
 use Rattle.simple.proofs.AssignLaws.{stored}
+use Rattle.tokens.proofs.Lexing.{first-word}
 use Rattle.reader.specs.Reading.{behind-end, behind-else}
 use Rattle.reader.proofs.Clauses.{null-answer, no-test, no-body, while-answer, no-choice, no-first, no-second, choice-answer}
-use Rattle.reader.proofs.Lists.{named, a-word-here, from-before, no-level, no-statement-here, no-list, found-last, more-answer, Onward, behind-stops, behind-number, behind-logic}
+use Rattle.reader.proofs.Lists.{named, from-before, no-level, no-statement-here, no-list, found-last, more-answer, Onward, behind-stops, behind-number, behind-logic}
 use Prim.Native.Nat.{ℕ, _<_, _≤_, _+_, _-_, _*_}
 use borrow.Fn.Kinds.{In}
 use borrow.Fn.PlainCycle.{Measures, is, falls, and}
@@ -246,7 +247,7 @@ pub +chosen+list+repeated+statement-spec : {M : Type 1} → statement M
     -- same-length
     (λ c. search needs)
     -- returns
-    (λ c. let t = c .before .before .before .before .before .before .token .ensures in let p = c .before .before .before .before .before .before .before .before .before .before .before .pre in null-answer (a-word-here t null-word (search needs) (c .before .before .before .before .before .if1 .taken)) (p .1 .2) (p .1 .3) (c .before .before .before .before .word .ensures) (stored _ _ (c .before .before .put-record .ensures) refl))
+    (λ c. let t = c .before .before .before .before .before .before .token .ensures in let p = c .before .before .before .before .before .before .before .before .before .before .before .pre in null-answer (first-word {c = null-word} (search needs) t (c .before .before .before .before .before .if1 .taken)) (p .1 .2) (p .1 .3) (c .before .before .before .before .word .ensures) (stored _ _ (c .before .before .put-record .ensures) refl))
     -- assigned-requires
     (λ c κs. let t = c .before .before .before .before .before .token .ensures in let p = c .before .before .before .before .before .before .before .before .before .before .pre in let n = named t variable-code (c .before .before .before .if2 .taken) (λ z. omega (arith, z)) in (t .within .1, p .1 .1, omega (arith, p .1 .2, n .1), omega (arith, p .1 .3, n .1), t .variable (c .before .before .before .if2 .taken), p .1 .4))
     -- same-length-2
@@ -268,7 +269,7 @@ pub +chosen+list+repeated+statement-spec : {M : Type 1} → statement M
     -- returns-3
     (λ c. let t = c .before .before .before .before .before .before .before .before .before .before .before .before .before .token .ensures in let n = named t signal-code (c .before .before .before .before .before .before .before .before .before .before .if3 .taken) (λ z. omega (arith, z)) in from-before (n .0) (n .1) (c .before .before .before .before .before .before .driven .ensures _))
     -- waiting-requires
-    (λ c κs. let t = c .before .before .before .before .before .before .before .token .ensures in let p = c .before .before .before .before .before .before .before .before .before .before .before .before .pre in let w = a-word-here t wait-word (search needs) (c .before .before .before .if4 .taken) in (t .within .1, p .1 .1, omega (arith, p .1 .2, w .within), omega (arith, p .1 .3, w .within), p .1 .4))
+    (λ c κs. let t = c .before .before .before .before .before .before .before .token .ensures in let p = c .before .before .before .before .before .before .before .before .before .before .before .before .pre in let w = first-word {c = wait-word} (search needs) t (c .before .before .before .if4 .taken) in (t .within .1, p .1 .1, omega (arith, p .1 .2, w .within), omega (arith, p .1 .3, w .within), p .1 .4))
     -- same-length-8
     (λ c. search needs)
     -- same-length-9
@@ -276,13 +277,13 @@ pub +chosen+list+repeated+statement-spec : {M : Type 1} → statement M
     -- same-length-10
     (λ c. search needs)
     -- returns-4
-    (λ c. let t = c .before .before .before .before .before .before .before .before .before .before .before .before .before .before .token .ensures in let w = a-word-here t wait-word (search needs) (c .before .before .before .before .before .before .before .before .before .before .if4 .taken) in from-before (sym (w .begins)) (w .within .0) (c .before .before .before .before .before .before .waiting .ensures _))
+    (λ c. let t = c .before .before .before .before .before .before .before .before .before .before .before .before .before .before .token .ensures in let w = first-word {c = wait-word} (search needs) t (c .before .before .before .before .before .before .before .before .before .before .if4 .taken) in from-before (sym (w .begins)) (w .within .0) (c .before .before .before .before .before .before .waiting .ensures _))
     -- no-statement-requires
     (λ c κs. search needs)
     -- returns-5
     (λ c. let t = c .before .before .before .before .before .before .token .ensures in no-answer (c .no-statement .ensures) (no-level t (c .before .before .before .before .before .if1 .left) (c .before .before .before .before .if2 .left) (c .before .before .before .if3 .left) (c .before .before .if4 .left) (c .before .if5 .taken)))
     -- repeated-requires
-    (λ c κs. let t = c .before .before .before .before .before .before .before .before .before .token .ensures in let p = c .before .before .before .before .before .before .before .before .before .before .before .before .before .before .pre in let w = a-word-here t while-word (search needs) (c .before .before .before .if6 .taken) in (omega (arith, p .0, p .1 .0, w .within), (t .within .1, p .1 .1, omega (arith, p .1 .2, w .within), omega (arith, p .1 .3, w .within), omega (arith, c .before .before .before .before .if5 .left), p .1 .4)))
+    (λ c κs. let t = c .before .before .before .before .before .before .before .before .before .token .ensures in let p = c .before .before .before .before .before .before .before .before .before .before .before .before .before .before .pre in let w = first-word {c = while-word} (search needs) t (c .before .before .before .if6 .taken) in (omega (arith, p .0, p .1 .0, w .within), (t .within .1, p .1 .1, omega (arith, p .1 .2, w .within), omega (arith, p .1 .3, w .within), omega (arith, c .before .before .before .before .if5 .left), p .1 .4)))
     -- same-length-11
     (λ c. search needs)
     -- same-length-12
@@ -290,9 +291,9 @@ pub +chosen+list+repeated+statement-spec : {M : Type 1} → statement M
     -- same-length-13
     (λ c. search needs)
     -- returns-6
-    (λ c. let t = c .before .before .before .before .before .before .before .before .before .before .before .before .before .before .before .before .token .ensures in let w = a-word-here t while-word (search needs) (c .before .before .before .before .before .before .before .before .before .before .if6 .taken) in from-before (sym (w .begins)) (w .within .0) (c .before .before .before .before .before .before .repeated .ensures))
+    (λ c. let t = c .before .before .before .before .before .before .before .before .before .before .before .before .before .before .before .before .token .ensures in let w = first-word {c = while-word} (search needs) t (c .before .before .before .before .before .before .before .before .before .before .if6 .taken) in from-before (sym (w .begins)) (w .within .0) (c .before .before .before .before .before .before .repeated .ensures))
     -- chosen-requires
-    (λ c κs. let t = c .before .before .before .before .before .before .before .before .before .before .token .ensures in let p = c .before .before .before .before .before .before .before .before .before .before .before .before .before .before .before .pre in let w = a-word-here t if-word (search needs) (c .before .before .before .if7 .taken) in (omega (arith, p .0, p .1 .0, w .within), (t .within .1, p .1 .1, omega (arith, p .1 .2, w .within), omega (arith, p .1 .3, w .within), omega (arith, c .before .before .before .before .before .if5 .left), p .1 .4)))
+    (λ c κs. let t = c .before .before .before .before .before .before .before .before .before .before .token .ensures in let p = c .before .before .before .before .before .before .before .before .before .before .before .before .before .before .before .pre in let w = first-word {c = if-word} (search needs) t (c .before .before .before .if7 .taken) in (omega (arith, p .0, p .1 .0, w .within), (t .within .1, p .1 .1, omega (arith, p .1 .2, w .within), omega (arith, p .1 .3, w .within), omega (arith, c .before .before .before .before .before .if5 .left), p .1 .4)))
     -- same-length-14
     (λ c. search needs)
     -- same-length-15
@@ -300,7 +301,7 @@ pub +chosen+list+repeated+statement-spec : {M : Type 1} → statement M
     -- same-length-16
     (λ c. search needs)
     -- returns-7
-    (λ c. let t = c .before .before .before .before .before .before .before .before .before .before .before .before .before .before .before .before .before .token .ensures in let w = a-word-here t if-word (search needs) (c .before .before .before .before .before .before .before .before .before .before .if7 .taken) in from-before (sym (w .begins)) (w .within .0) (c .before .before .before .before .before .before .chosen .ensures))
+    (λ c. let t = c .before .before .before .before .before .before .before .before .before .before .before .before .before .before .before .before .before .token .ensures in let w = first-word {c = if-word} (search needs) t (c .before .before .before .before .before .before .before .before .before .before .if7 .taken) in from-before (sym (w .begins)) (w .within .0) (c .before .before .before .before .before .before .chosen .ensures))
     -- no-statement-requires-2
     (λ c κs. search needs)
     -- returns-8
