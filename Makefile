@@ -47,8 +47,10 @@ proved: setup tools
 bench: setup
 	rt staticlib exports
 	rt staticlib loop_exports
+	rt staticlib read_exports
 	bench/run
 	KERNEL_LIB_DIR=$(LIB) $(CARGO) run $(PEER) --features proved,loops --bin judgebench
+	KERNEL_LIB_DIR=$(LIB) $(CARGO) run $(PEER) --features bodies --bin readbench
 
 # With the proved libraries, for blocks move and blocks loops.
 tools: prove
