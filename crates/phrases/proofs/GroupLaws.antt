@@ -16,7 +16,8 @@ use Rattle.base.specs.Cases.{_∣_, _⇒_}
 use Rattle.base.proofs.Cases.{either-way}
 use lib.Seq.{sets}
 use Rattle.blocks.specs.declared.records.NodeRecord.{NodeRecord}
-use Rattle.grammar.specs.Tokens.{Token, word, from, Answer, FoundWord, NoWord}
+use Rattle.grammar.specs.Tokens.{Token, word, from, NoWord}
+use Rattle.tokens.specs.Answers.{FoundWord}
 use Rattle.grammar.specs.Words.{closing, operatorOf}
 use Rattle.grammar.specs.Grammar.{Expression, unary, binary, Says}
 use Rattle.grammar.specs.Made.{node, nodesIn, nodesOf, signalsIn, setWith, rootOf}
@@ -374,10 +375,3 @@ other-form h n m = omega arith
 
 pub group-small : {kind : ℕ} → (kind ≢ 0 → isPrefix kind ≡ true) → kind < 32
 group-small {kind} f = either-way (eqb kind 0) (λ e. omega (arith, eqb-true kind 0 e)) (λ e. prefix-small kind (f (eqb-false kind 0 e)))
-
--- answers
-pub yes-answer : {A B : Type 0} → A → Answer true A B
-yes-answer a = record { found = λ e. a; nothing = λ e. absurd (true≢false e) }
-
-pub no-answer : {A B : Type 0} {ok : Bool} → ok ≡ false → B → Answer ok A B
-no-answer n b = record { found = λ e. absurd (true≢false (sym e ∙ n)); nothing = λ e. b }

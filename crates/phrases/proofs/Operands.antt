@@ -15,7 +15,8 @@ use Rattle.base.specs.Cases.{_∣_, _⇒_}
 use lib.ListN.{length}
 use lib.Seq.{sets}
 use Rattle.writing.specs.Written.{recordBytes}
-use Rattle.grammar.specs.Tokens.{Token, tok, word, number-code, signal-code, variable-code, logic-code, end-code, from, Word, FirstToken, Answer, FoundWord, NoWord}
+use Rattle.grammar.specs.Tokens.{Token, tok, word, number-code, signal-code, variable-code, logic-code, end-code, from, NoWord}
+use Rattle.tokens.specs.Answers.{Word, FirstToken, Answer, FoundWord}
 use Rattle.grammar.specs.Words.{opening, closing, minus, not-word, delayed-word, and-word, or-word, xor-word, plus, equals, less, times, over, mod-word, rem-word, operatorOf}
 use Rattle.grammar.specs.Grammar.{Expression, number, logic, signal, variable, delayed, unary, binary, Says, says-number, says-logic, says-signal, says-variable, says-delayed, says-not, says-negate, says-binary}
 use Rattle.grammar.specs.Made.{node, nodesIn, nodesOf, signalsIn, setWith}

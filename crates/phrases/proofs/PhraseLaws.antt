@@ -5,7 +5,8 @@ use mathlib.Core.Bool.{Bool}
 use mathlib.Core.List.{List}
 use Prim.Native.Nat.{ℕ}
 use native.Mathlib.Omega.{arith}
-use Rattle.grammar.specs.Tokens.{Token, from, Answer, FoundWord, NoWord}
+use Rattle.grammar.specs.Tokens.{Token, from, NoWord}
+use Rattle.tokens.specs.Answers.{Answer, FoundWord}
 use Rattle.grammar.specs.Grammar.{Says}
 use Rattle.grammar.proofs.Unique.{one-expression}
 use Rattle.phrases.specs.Phrases.{FoundExpression, NoExpression, FoundPhrase, NoPhrase}

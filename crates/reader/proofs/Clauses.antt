@@ -6,7 +6,8 @@ use mathlib.Core.List.{List, [], _∷_}
 use Prim.Native.Nat.{ℕ, suc, _+_, _*_, _-_, _≤_, _<_}
 use native.Mathlib.Omega.{arith}
 use lib.Seq.{sets}
-use Rattle.grammar.specs.Tokens.{Token, word, from, Answer, FoundWord, NoWord}
+use Rattle.grammar.specs.Tokens.{Token, word, from, NoWord}
+use Rattle.tokens.specs.Answers.{Answer, FoundWord}
 use Rattle.grammar.specs.Words.{null-word, if-word, then-word, else-word, end-word, while-word, loop-word, semicolon}
 use Rattle.grammar.specs.Grammar.{Expression, Statement, null, while, choice, Says, one, list, Spells, spells-null, spells-while, spells-choice, last}
 use Rattle.grammar.specs.Made.{statement, nodesInBody, nodesOfBody, statementsIn, statementsOf}

@@ -7,7 +7,8 @@ use mathlib.Core.Logic.{_≢_}
 use Prim.Native.Nat.{ℕ, _≤_, _<_}
 use native.Mathlib.Omega.{arith}
 use lib.ListN.{length}
-use Rattle.grammar.specs.Tokens.{Token, tok, word, from, number-code, signal-code, variable-code, logic-code, end-code, FirstToken, Answer, FoundWord, NoWord}
+use Rattle.grammar.specs.Tokens.{Token, tok, word, from, number-code, signal-code, variable-code, logic-code, end-code, NoWord}
+use Rattle.tokens.specs.Answers.{FirstToken, Answer, FoundWord}
 use Rattle.grammar.specs.Words.{null-word, wait-word, semicolon}
 use Rattle.grammar.specs.Grammar.{Statement, one, list, Spells, spells-null, spells-assign, spells-drive, spells-wait, spells-while, spells-choice, last, more, _then_}
 use Rattle.grammar.specs.Made.{nodesInBody, statementsIn}

@@ -6,7 +6,8 @@ use mathlib.Core.Logic.{_≢_}
 use Prim.Native.Nat.{ℕ, _+_, _*_, _-_, _≤_, _<_}
 use lib.ListN.{length}
 use lib.Seq.{sets}
-use Rattle.grammar.specs.Tokens.{Token, word, from, end-code, Answer}
+use Rattle.grammar.specs.Tokens.{Token, word, from, end-code}
+use Rattle.tokens.specs.Answers.{Answer}
 use Rattle.grammar.specs.Words.{semicolon, end-word, else-word}
 use Rattle.grammar.specs.Grammar.{Statement, list, Spells, Sentence, OneReading}
 use Rattle.grammar.specs.Made.{statement, nodesInBody, nodesOfBody, statementsIn, statementsOf, madeNodes, madeStatements}

@@ -7,7 +7,8 @@ use Prim.Native.Nat.{ℕ, _+_, _*_, _-_, _≤_, _<_}
 use native.Mathlib.Omega.{arith}
 use lib.Seq.{sets}
 use Rattle.blocks.specs.declared.records.StatementRecord.{StatementRecord}
-use Rattle.grammar.specs.Tokens.{Token, tok, word, signal-code, variable-code, from, FoundWord, NoWord}
+use Rattle.grammar.specs.Tokens.{Token, tok, word, signal-code, variable-code, from, NoWord}
+use Rattle.tokens.specs.Answers.{FoundWord}
 use Rattle.grammar.specs.Words.{wait-word, on-word, after-word, semicolon, becomes, drives}
 use Rattle.grammar.specs.Grammar.{Expression, Statement, assign, drive, wait, Says, SaysSignals, SaysUntil, SaysOn, no-on, with-on, one, Spells, spells-assign, spells-drive, spells-wait}
 use Rattle.grammar.specs.Made.{statement, nodesIn, nodesOf, nodesInBody, nodesOfBody, statementsIn, statementsOf, waitSet}

@@ -6,7 +6,8 @@ use mathlib.Core.Logic.{_≢_}
 use Prim.Native.Nat.{ℕ, _*_, _%_, _^_, _≤_, _<_}
 use native.Mathlib.Omega.{arith}
 use lib.Bits.{bitOr}
-use Rattle.grammar.specs.Tokens.{Token, tok, word, signal-code, from, FirstToken, FoundWord, NoWord}
+use Rattle.grammar.specs.Tokens.{Token, tok, word, signal-code, from, NoWord}
+use Rattle.tokens.specs.Answers.{FirstToken, FoundWord}
 use Rattle.grammar.specs.Words.{comma}
 use Rattle.grammar.specs.Grammar.{SaysSignals, one-signal, more-signals}
 use Rattle.grammar.specs.Made.{setWith}

@@ -11,7 +11,8 @@ use native.Mathlib.Omega.{arith}
 use lib.ListN.{length}
 use lib.Seq.{sets}
 use borrow.Author.Needs.{needs}
-use Rattle.grammar.specs.Tokens.{Token, tok, word, from, FirstToken, Answer, FoundWord, NoWord}
+use Rattle.grammar.specs.Tokens.{Token, tok, word, from, NoWord}
+use Rattle.tokens.specs.Answers.{FirstToken, Answer, FoundWord}
 use Rattle.grammar.specs.Words.{semicolon, for-word, until-word}
 use Rattle.grammar.specs.Grammar.{Expression, Says, SaysFor, no-for, with-for, SaysUntil, no-until, with-until}
 use Rattle.grammar.specs.Made.{nodesIn, nodesOf, nodesOfPart, rootOfPart}

@@ -5,7 +5,8 @@ use mathlib.Core.List.{List}
 use Prim.Native.Nat.{ℕ, _+_, _*_, _≤_, _<_}
 use lib.ListN.{length}
 use lib.Seq.{sets}
-use Rattle.grammar.specs.Tokens.{Token, from, Answer}
+use Rattle.grammar.specs.Tokens.{Token, from}
+use Rattle.tokens.specs.Answers.{Answer}
 use Rattle.grammar.specs.Grammar.{Statement, one, Spells}
 use Rattle.grammar.specs.Made.{nodesInBody, nodesOfBody, statementsIn, statementsOf}
 use Rattle.writing.specs.Written.{nodeBytes, statementBytes}

@@ -15,7 +15,8 @@ use Rattle.base.specs.Below.{every}
 use Rattle.base.specs.Bytes.{byteAt, ByteIs}
 use Rattle.base.proofs.Below.{split, and-true-false, and-right, every-at}
 use Rattle.base.proofs.Cases.{by-test}
-use Rattle.grammar.specs.Tokens.{Token, tok, word, number-code, signal-code, variable-code, logic-code, end-code, isSpace, isDigit, inRun, runLength, inBase, isNumeral, numbered, wordOf, runOf, mostWord, logicOf, isQuoted, isPair, tokenAt, widthAt, tokensPast, tokens, from, Tells, PastSpaces, Word, FirstToken, Answer, FoundWord, NoWord}
+use Rattle.grammar.specs.Tokens.{Token, tok, word, number-code, signal-code, variable-code, logic-code, end-code, isSpace, isDigit, inRun, runLength, inBase, isNumeral, numbered, wordOf, runOf, mostWord, logicOf, isQuoted, isPair, tokenAt, widthAt, tokensPast, tokens, from, NoWord}
+use Rattle.tokens.specs.Answers.{Tells, PastSpaces, Word, FirstToken, Answer, FoundWord}
 use Rattle.tokens.proofs.Runs.{tested, rest, rest-dropped}
 
 -- a logic value between quotes and a sign of two bytes: a text that has one is so long
@@ -237,3 +238,10 @@ word-answer text at code value next c ok k t e = record {
 -- the first token is the word c
 pub first-word : {text : List ℕ} {at code value next c : ℕ} → Word c → FirstToken text at code value next → code ≡ c → FoundWord text at c next
 first-word {text} {at} {code} {value} {next} {c} k t e = word-answer text at code value next c (eqb code c) k t refl .found (eq-eqb code c e)
+
+-- answers
+pub yes-answer : {A B : Type 0} → A → Answer true A B
+yes-answer a = record { found = λ e. a; nothing = λ e. absurd (true≢false e) }
+
+pub no-answer : {A B : Type 0} {ok : Bool} → ok ≡ false → B → Answer ok A B
+no-answer n b = record { found = λ e. absurd (true≢false (sym e ∙ n)); nothing = λ e. b }

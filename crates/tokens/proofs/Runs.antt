@@ -14,7 +14,8 @@ use Rattle.base.specs.Bytes.{byteAt, ByteIs}
 use Rattle.base.specs.Below.{every}
 use Rattle.base.specs.Cases.{_∣_, _⇒_}
 use Rattle.base.proofs.Cases.{either-way}
-use Rattle.grammar.specs.Tokens.{number-code, signal-code, variable-code, isDigit, inRun, runLength, inBase, allDigits, isNumeral, numbered, wordOf, runOf, mostWord, Tells}
+use Rattle.grammar.specs.Tokens.{number-code, signal-code, variable-code, isDigit, inRun, runLength, inBase, allDigits, isNumeral, numbered, wordOf, runOf, mostWord}
+use Rattle.tokens.specs.Answers.{Tells}
 
 -- the part of a slice from a place on, as a slice of it has it
 abbrev pub rest : ℕ → List ℕ → List ℕ

@@ -4,7 +4,8 @@ ghost use Prim.Native.Nat.{_+_, _-_, _≤_, _<_};
 ghost use lib.Dec.{leb};
 ghost use lib.ListN.{length};
 ghost use Rattle.base.specs.Cases.{_∣_, _⇒_};
-ghost use Rattle.grammar.specs.Tokens.{isSpace, isDigit, inRun, runLength, inBase, allDigits, isNumeral, numbered, wordOf, runOf, logicOf, isQuoted, isPair, tokenAt, widthAt, from, Tells, PastSpaces, Word, FirstToken, Answer, FoundWord, NoWord};
+ghost use Rattle.grammar.specs.Tokens.{isSpace, isDigit, inRun, runLength, inBase, allDigits, isNumeral, numbered, wordOf, runOf, logicOf, isQuoted, isPair, tokenAt, widthAt, from, NoWord};
+ghost use Rattle.tokens.specs.Answers.{Tells, PastSpaces, Word, FirstToken, Answer, FoundWord};
 use base::byte;
 
 pub const NUMBER: usize = 256;
@@ -82,22 +83,22 @@ fn all_digits(t: &[u8]) -> bool
     true
 }
 
-// What a byte says as a digit, `none` saying nothing.
-fn digit(b: usize, none: usize) -> usize
-    ensures { λ r. ⌜ r ≡ b - none ⌝ }
+// What a byte says as a digit; `origin` is the byte of the digit 0.
+fn digit(b: usize, origin: usize) -> usize
+    ensures { λ r. ⌜ r ≡ b - origin ⌝ }
 {
-    if none <= b { b - none } else { 0 }
+    if origin <= b { b - origin } else { 0 }
 }
 
 // The number that the bytes say in a base, or `most` + 1 where it is larger than `most`.
-fn in_base(t: &[u8], base: usize, none: usize, most: usize) -> usize
+fn in_base(t: &[u8], base: usize, origin: usize, most: usize) -> usize
     requires { ⌜ (1 ≤ base) × (base ≤ 256) × (most ≤ 72057594037927935) ⌝ }
-    ensures { λ r. ⌜ r ≡ (leb (inBase base none 0 (now (t .entry))) most ⇒ inBase base none 0 (now (t .entry)) ∣ most + 1) ⌝ }
+    ensures { λ r. ⌜ r ≡ (leb (inBase base origin 0 (now (t .entry))) most ⇒ inBase base origin 0 (now (t .entry)) ∣ most + 1) ⌝ }
 {
     let mut v = 0;
     let mut i = 0;
     while i < t.len() {
-        v = base * v + digit(byte(t, i), none);
+        v = base * v + digit(byte(t, i), origin);
         if most < v {
             return most + 1;
         }

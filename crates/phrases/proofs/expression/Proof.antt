@@ -7,7 +7,8 @@ use native.Mathlib.Omega.{arith}
 use lib.ListN.{length}
 use borrow.Author.Needs.{needs}
 use borrow.Author.Tests.{not-true, not-false}
-use Rattle.phrases.proofs.GroupLaws.{Reads, wanting-first, leaf-read, group-opened, operator-read, group-closed, no-operand, no-operator, no-bracket, whole, top-small, reads-wanting, reads-having, reads-still, reads-on, other-form, group-small, yes-answer, no-answer}
+use Rattle.phrases.proofs.GroupLaws.{Reads, wanting-first, leaf-read, group-opened, operator-read, group-closed, no-operand, no-operator, no-bracket, whole, top-small, reads-wanting, reads-having, reads-still, reads-on, other-form, group-small}
+use Rattle.tokens.proofs.Lexing.{yes-answer, no-answer}
 use Rattle.phrases.proofs.expression.Statement.{statement}
 use Rattle.phrases.proofs.expression.Tie as tie
 

@@ -1,7 +1,7 @@
 -- An expression, and then the word.
 -- Assumes nothing.
 use native.Mathlib.Omega.{arith}
-use Rattle.phrases.proofs.GroupLaws.{no-answer}
+use Rattle.tokens.proofs.Lexing.{no-answer}
 use Rattle.phrases.proofs.PhraseLaws.{phrase-answer, no-phrase-here}
 use borrow.Author.Needs.{needs}
 use Rattle.phrases.proofs.phrase.Statement.{statement}

@@ -11,7 +11,7 @@ use borrow.Author.Needs.{needs}
 use borrow.Author.Tests.{not-true, not-false}
 use Rattle.grammar.specs.Words.{null-word, wait-word, while-word, if-word}
 use Rattle.grammar.specs.Tokens.{signal-code, variable-code}
-use Rattle.phrases.proofs.GroupLaws.{yes-answer, no-answer}
+use Rattle.tokens.proofs.Lexing.{yes-answer, no-answer}
 use Rattle.simple.proofs.AssignLaws.{stored}
 use Rattle.tokens.proofs.Lexing.{first-word}
 use Rattle.reader.specs.Reading.{behind-end, behind-else}

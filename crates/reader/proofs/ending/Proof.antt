@@ -1,7 +1,7 @@
 -- A word, and then the semicolon.
 -- Assumes nothing.
 use borrow.Author.Needs.{needs}
-use Rattle.phrases.proofs.GroupLaws.{no-answer}
+use Rattle.tokens.proofs.Lexing.{no-answer}
 use Rattle.reader.proofs.Lists.{ending-answer, no-ending}
 use borrow.Author.Needs.{needs}
 use Rattle.reader.proofs.ending.Statement.{statement}

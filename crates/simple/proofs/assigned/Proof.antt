@@ -2,7 +2,7 @@
 -- Assumes nothing.
 use native.Mathlib.Omega.{arith}
 use borrow.Author.Tests.{not-true, not-false}
-use Rattle.phrases.proofs.GroupLaws.{yes-answer, no-answer}
+use Rattle.tokens.proofs.Lexing.{yes-answer, no-answer}
 use Rattle.simple.proofs.AssignLaws.{no-becomes, no-value, found-assign}
 use borrow.Author.Needs.{needs}
 use Rattle.simple.proofs.assigned.Statement.{statement}

@@ -5,7 +5,7 @@ use native.Mathlib.Omega.{arith}
 use lib.ListN.{length}
 use borrow.Author.Needs.{needs}
 use borrow.Author.Tests.{not-true, not-false}
-use Rattle.phrases.proofs.GroupLaws.{yes-answer, no-answer}
+use Rattle.tokens.proofs.Lexing.{yes-answer, no-answer}
 use Rattle.simple.proofs.SignalLaws.{with-signal, Collects, collects-first, no-signal, signal-read, found-signals}
 use Rattle.simple.proofs.waits.signals.Statement.{statement}
 use Rattle.simple.proofs.waits.signals.Tie as tie

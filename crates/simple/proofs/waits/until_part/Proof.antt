@@ -2,7 +2,7 @@
 -- Assumes nothing.
 use native.Mathlib.Omega.{arith}
 use borrow.Author.Tests.{not-true, not-false}
-use Rattle.phrases.proofs.GroupLaws.{no-answer}
+use Rattle.tokens.proofs.Lexing.{no-answer}
 use Rattle.simple.proofs.WaitLaws.{without-until, no-condition, with-condition}
 use borrow.Author.Needs.{needs}
 use Rattle.simple.proofs.waits.until_part.Statement.{statement}
