@@ -1,6 +1,8 @@
 // The bench cases of document 01, by the definitions alone: the proved table, what the inverter prints, and the claims over all
 // models and lists of orders, used on the inverter; its dump; a bus and a register whose drivers turn off; delays of 0; inertial
 // delays; and a line with its own pair table.
+#![tactic(auto)]
+
 ghost use Rattle.std.specs.Prelude.{◌≡◌, length};
 ghost use Rattle.values.specs.Bench.{Holds};
 ghost use Rattle.cases.specs.Table.{rows, TableWhole};

@@ -1,4 +1,6 @@
 // The closed chain to return, of a relation given as rows of bits: bit b of row a says that process a leads to process b.
+#![tactic(auto)]
+
 ghost use Rattle.std.specs.Prelude.{◌≡◌, ◌&&◌, suc, ◌≤◌, ◌<◌};
 ghost use Rattle.base.specs.Course.{first_with};
 ghost use Rattle.sets.specs.Sets.{in_set, SetOf};

@@ -1,4 +1,6 @@
 // What is due, and the refusals of a delta step and of a time step.
+#![tactic(auto)]
+
 ghost use Rattle.std.specs.Prelude.{◌≡◌, ◌≤◌, min, length};
 ghost use Rattle.waveforms.specs.Pending.{NoneBefore};
 ghost use Rattle.due.specs.Due.{soonest_of, soonest_in, some_is, standing_refusal, delta_refusal, time_refusal};

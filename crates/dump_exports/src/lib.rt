@@ -1,5 +1,7 @@
 // The dump of a run under a plain name, for programs in other languages. A library of its own, besides exports: where sessions and dumps
 // stand in one, the list's loop has two callers, and copies more (bench/README.md).
+#![tactic(auto)]
+
 ghost use Rattle.std.specs.Prelude.{◌≡◌, set};
 ghost use Rattle.dumps.specs.Dumps.{dumped_of};
 

@@ -1,4 +1,6 @@
 // Reads the files `model` and `orders`, and writes the dump of their run, or the number of a refused one.
+#![tactic(auto)]
+
 use dumps::{dump_room, print};
 use files::take_file;
 use libc::STDOUT_FILENO;

@@ -1,4 +1,6 @@
 // The dump of a run for a wave viewer: the session of a model and orders, the settled values of each time, and their text.
+#![tactic(auto)]
+
 ghost use Rattle.std.specs.Prelude.{◌≡◌, ◌≤◌, ◌<◌, length, replicate};
 ghost use Rattle.base.specs.Below.{list_below};
 ghost use Rattle.blocks.specs.Records.{model_of};

@@ -1,6 +1,8 @@
 // The kernel under plain names, for programs in other languages: the operators and resolution of the nine values, the judging of a model,
 // and a whole session with its number, every byte of the answer buffer and the words of its end configuration. Each contract states the
 // whole result by the definitions of the function that it calls.
+#![tactic(auto)]
+
 pub mod dump;
 
 ghost use Rattle.std.specs.Prelude.{◌≡◌, length};

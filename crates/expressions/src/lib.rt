@@ -1,4 +1,6 @@
 // The value of an expression, and what a statement does.
+#![tactic(auto)]
+
 pub mod effect;
 pub mod eval;
 pub mod operators;

@@ -1,4 +1,6 @@
 // Rule 5: the fields of each record, the spans of the processes, and the process of a statement.
+#![tactic(auto)]
+
 ghost use Rattle.std.specs.Prelude.{◌≡◌, ◌+◌, ◌^◌, ◌≤◌, ◌<◌, ltb, length};
 ghost use Rattle.base.specs.Below.{all_below};
 ghost use Rattle.blocks.specs.Records.{Model, model_of, signal_at, variable_at, driver_at, node_at, statement_at, row_at};

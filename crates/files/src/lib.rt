@@ -1,4 +1,6 @@
 // Files, read as far as a buffer holds them.
+#![tactic(auto)]
+
 ghost use Rattle.io.specs.Counts.{IsPrefixLen};
 
 // What reading a file gave: whether all went well, and how many bytes.

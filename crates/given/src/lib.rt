@@ -1,4 +1,6 @@
 // The records that are given with a text: whether all their bytes are there, and whether the text names others.
+#![tactic(auto)]
+
 ghost use Rattle.std.specs.Prelude.{◌≡◌};
 ghost use Rattle.given.specs.Given.{whole_ok};
 ghost use Rattle.given.specs.Names.{name_ok, named};

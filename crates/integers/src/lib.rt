@@ -1,4 +1,6 @@
 // Quotient, mod and rem of integers.
+#![tactic(auto)]
+
 pub mod division;
 
 ghost use Rattle.std.specs.Prelude.{◌≡◌};

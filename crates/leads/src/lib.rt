@@ -1,4 +1,6 @@
 // Which process of a model leads to which: by the signals that it assigns without delay and those that it waits on.
+#![tactic(auto)]
+
 ghost use Rattle.std.specs.Prelude.{◌≡◌, ◌<◌, length};
 ghost use Rattle.blocks.specs.Records.{model_of, statement_at};
 ghost use Rattle.blocks.specs.Index.{Starts};

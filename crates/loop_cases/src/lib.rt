@@ -1,4 +1,6 @@
 // Loops without delay in small models, by the definitions alone: chains, the inverter, which has none, and a model that meets the bound.
+#![tactic(auto)]
+
 ghost use Rattle.std.specs.Prelude.{◌≡◌};
 ghost use Rattle.bounded.specs.Bounded.{delta_steps};
 ghost use Rattle.loop_cases.specs.LoopCases.{steppers, step_orders, LoopsShown};

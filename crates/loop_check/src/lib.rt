@@ -1,4 +1,6 @@
 // The check for loops without delay: the closed chain of a model's processes that is asked for, or none.
+#![tactic(auto)]
+
 ghost use Rattle.loop_check.specs.Check.{CheckIs, LoopLaws};
 
 use chains::{Chain, closed_chain};

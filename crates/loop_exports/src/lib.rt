@@ -1,4 +1,6 @@
 // The check for loops without delay under a plain name, for programs in other languages. A library of its own, as dump_exports is.
+#![tactic(auto)]
+
 ghost use Rattle.std.specs.Prelude.{◌≡◌, [], ◌∷◌, ◌++◌, length, get_or};
 ghost use Rattle.base.specs.Below.{list_below};
 ghost use Rattle.base.specs.Cases.{◌∣◌, ◌⇒◌};

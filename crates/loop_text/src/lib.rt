@@ -1,4 +1,6 @@
 // The text that the program prints of a check: a line with the chain's processes, `none`, or the number of a refused model.
+#![tactic(auto)]
+
 ghost use Rattle.std.specs.Prelude.{◌≡◌, [], ◌∷◌, ◌++◌, ◌+◌, ◌*◌, ◌≤◌, length, get_or, take, replicate};
 ghost use Rattle.base.specs.Below.{join_below};
 ghost use Rattle.numerals.specs.Numerals.{decimal_of, space, line_feed};

@@ -1,4 +1,6 @@
 // Reads the file `model`, and writes the chain of its loop without delay, `none`, or the number of a refused model.
+#![tactic(auto)]
+
 use files::take_file;
 use libc::STDOUT_FILENO;
 use loop_text::{loop_room, print};

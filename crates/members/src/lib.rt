@@ -1,4 +1,6 @@
 // Picks of a process and of the processes of a set, by the standings: the refusal, and whether one of the set has stopped.
+#![tactic(auto)]
+
 ghost use Rattle.std.specs.Prelude.{◌≡◌, ◌≤◌};
 ghost use Rattle.members.specs.Members.{pick_refusal, set_refusal, stopped_in};
 

@@ -1,4 +1,6 @@
 // Moving a stored list of orders over, under a plain name, for programs in other languages. A library of its own, as dump_exports is.
+#![tactic(auto)]
+
 ghost use Rattle.std.specs.Prelude.{◌≡◌};
 ghost use Rattle.moving.specs.Moving.{moved_of};
 

@@ -1,5 +1,7 @@
 // Stored lists of orders move over: each order 2, an advance until it was withdrawn, becomes the delta step or the time step that
 // gives its old answer.
+#![tactic(auto)]
+
 ghost use Rattle.std.specs.Prelude.{◌≡◌, ◌*◌, ◌/◌, [], ◌∷◌, length};
 ghost use Rattle.blocks.specs.Records.{model_of};
 ghost use Rattle.cycle.specs.View.{Valid, view_of};

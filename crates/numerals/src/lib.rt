@@ -1,4 +1,6 @@
 // Numbers as text, in base ten and in base two, and texts put one behind the other.
+#![tactic(auto)]
+
 pub mod put;
 
 ghost use Rattle.std.specs.Prelude.{◌≡◌, length, take};

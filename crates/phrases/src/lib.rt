@@ -1,4 +1,6 @@
 // Expressions, read by a loop with a stack of open groups, so that no call nests with the text.
+#![tactic(auto)]
+
 pub mod words;
 
 ghost use Rattle.std.specs.Prelude.{◌≡◌, true, false, ◌||◌, ◌∷◌, ◌+◌, ◌≤◌, ◌<◌, eqb, length};

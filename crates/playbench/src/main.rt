@@ -1,4 +1,6 @@
 // Reads the files `model` and `orders`, and writes the text of their session: a line for each answer, or the number of a refused one.
+#![tactic(auto)]
+
 use files::take_file;
 use libc::STDOUT_FILENO;
 use text::{model_room, orders_room, print, text_room};

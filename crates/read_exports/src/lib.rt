@@ -1,4 +1,6 @@
 // The reader of process bodies and the maker of models under plain names, for programs in other languages. A library of its own, as dump_exports is.
+#![tactic(auto)]
+
 ghost use Rattle.std.specs.Prelude.{◌≡◌, [], ◌∷◌, length, get_or};
 ghost use Rattle.reader.specs.Reading.{Read};
 ghost use Rattle.text_model.specs.Texts.{Taken};

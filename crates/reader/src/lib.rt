@@ -1,4 +1,6 @@
 // The reader of a process body: lists and statements call each other, a list being a loop over its statements.
+#![tactic(auto)]
+
 ghost use Rattle.std.specs.Prelude.{◌≡◌, ◌∷◌, ◌≤◌, ◌<◌, length};
 ghost use Rattle.grammar.specs.Tokens.{from, word as a_word};
 ghost use Rattle.tokens.specs.Answers.{Word, Answer};

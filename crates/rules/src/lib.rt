@@ -1,5 +1,7 @@
 // The rules of configurations, statements and orders (specs/), and their laws (proofs/). Code has only the forms that the rules name:
 // a value or a fault, a value or null, when a signal is read, how an assignment delays, and what a statement does.
+#![tactic(auto)]
+
 pub mod driven;
 pub mod effect;
 pub mod mechanism;

@@ -1,4 +1,6 @@
 // The session layer: orders, answers, lists of orders and sessions; determinacy over whole lists.
+#![tactic(auto)]
+
 pub mod encode;
 pub mod play;
 

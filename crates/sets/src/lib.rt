@@ -1,4 +1,6 @@
 // Sets of signals or of processes: bit n for signal or process n.
+#![tactic(auto)]
+
 ghost use Rattle.std.specs.Prelude.{◌≡◌, ◌&&◌, ◌||◌, ◌<◌, eqb};
 ghost use Rattle.base.specs.Below.{any_below};
 ghost use Rattle.sets.specs.Sets.{in_set, SetOf};

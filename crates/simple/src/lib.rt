@@ -1,4 +1,6 @@
 // Simple statements: assignments, and waits with their parts.
+#![tactic(auto)]
+
 pub mod waits;
 
 ghost use Rattle.std.specs.Prelude.{◌≡◌, false, ◌∷◌, ◌≤◌, ◌<◌, length};

@@ -1,4 +1,6 @@
 // A model's pair table, the standard's or its own: written into the index, and rules 24 and 25.
+#![tactic(auto)]
+
 ghost use Rattle.std.specs.Prelude.{◌≡◌, ◌<◌, length, get_or};
 ghost use Rattle.base.specs.Rules.{first_failing};
 ghost use Rattle.values.specs.Resolve.{entries, entry_of};

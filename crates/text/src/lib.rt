@@ -1,4 +1,6 @@
 // The text that the program prints of a session: a line for each answer, or the number of a refused session.
+#![tactic(auto)]
+
 ghost use Rattle.std.specs.Prelude.{◌≡◌, ◌+◌, ◌*◌, ◌/◌, ◌≤◌, ◌<◌, length, take, replicate};
 ghost use Rattle.session.specs.Lists.{orders_of, time_in};
 ghost use Rattle.session.specs.Sessions.{session_of};

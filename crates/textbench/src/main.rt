@@ -1,5 +1,7 @@
 // Reads the files `text` and `records`, and prints 0 or the number of the refusal; with 0 it has written the model's blocks into the file
 // `model`.
+#![tactic(auto)]
+
 use files::{give_file, take_file};
 use libc::STDOUT_FILENO;
 use text::put_refusal;

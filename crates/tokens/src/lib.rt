@@ -1,4 +1,6 @@
 // The tokens of a text: the first one from a place on, and the place after it.
+#![tactic(auto)]
+
 ghost use Rattle.std.specs.Prelude.{◌≡◌, ◌+◌, ◌-◌, ◌≤◌, ◌<◌, leb, length};
 ghost use Rattle.base.specs.Cases.{◌∣◌, ◌⇒◌};
 ghost use Rattle.grammar.specs.Tokens.{is_space, is_digit, in_run, run_length, in_base, all_digits, is_numeral, numbered, word_of, run_of, logic_of, is_quoted, is_pair, token_at, width_at, from, NoWord};

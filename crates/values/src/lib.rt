@@ -1,5 +1,7 @@
 // The nine values of IEEE 1164: the pair table, resolution by a lent one, its tests, and the operators. Total on words: a number above 8 is
 // read as X.
+#![tactic(auto)]
+
 ghost use Rattle.std.specs.Prelude.{◌≡◌, ◌&&◌, ◌||◌, ◌<◌, eqb, length};
 ghost use Rattle.base.specs.Cases.{◌∣◌, ◌⇒◌};
 ghost use Rattle.values.specs.Nine.{U, X, ‘0’, ‘1’, code_of, is_u, low, high};

@@ -1,4 +1,6 @@
 // A value change dump: the lines of a run's rows. A row has 32 entries, the value of signal s at s.
+#![tactic(auto)]
+
 ghost use Rattle.std.specs.Prelude.{not, ◌≡◌, ◌+◌, ◌*◌, ◌-◌, ◌≤◌, ◌<◌, length};
 ghost use Rattle.base.specs.Below.{any_below, join_below, list_below};
 ghost use Rattle.numerals.specs.Puts.{far, Puts};

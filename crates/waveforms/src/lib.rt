@@ -1,2 +1,4 @@
 // A driver's pending transactions.
+#![tactic(auto)]
+
 pub mod driver;

@@ -1,4 +1,6 @@
 // Records written into a buffer, one behind the other. What lies past the buffer's end is not stored.
+#![tactic(auto)]
+
 ghost use Rattle.std.specs.Prelude.{◌≡◌, ◌*◌, ◌<◌, set};
 ghost use Rattle.std.proofs.lemmas.List.Edits.{sets};
 ghost use Rattle.writing.specs.Written.{word_bytes, record_bytes};

@@ -1,0 +1,7 @@
+use borrow.Author.Rules.{rules}
+use Rattle.values.specs.Nine.{is_u, low, high}
+use Rattle.values.proofs.class.Goals as goal
+
+pub returns : goal.returns
+unfolding is_u low high
+returns c = rw (← c.choose32.ensures, ← c.choose32-2.ensures) c.choose32-3.ensures

@@ -1,0 +1,6 @@
+use borrow.Author.Rules.{rules}
+use Rattle.values.proofs.Formulas.{not_by_class}
+use Rattle.values.proofs.not.Goals as goal
+
+pub returns : goal.returns
+returns c = rw (c.choose32-2.ensures, c.choose32.ensures, c.class-a.ensures) (not_by_class _)

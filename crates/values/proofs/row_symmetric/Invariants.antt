@@ -1,0 +1,15 @@
+use mathlib.Core.Path.{◌≡◌, ap, ◌∙◌}
+use Prim.Native.Nat.{◌-◌, ◌≤◌, zero-le}
+use native.Mathlib.Nat.{le_antisymm}
+use lib.Dec.{eqb}
+use borrow.Author.Rules.{rules}
+use Rattle.base.specs.Below.{all_below}
+use Rattle.base.proofs.Turns.{turn_most, all_begun, all_turn}
+use Rattle.values.specs.Resolve.{pair_in, row_symmetric}
+use Rattle.values.proofs.row_symmetric.Given as goal
+
+abbrev pub invariant-loop-y : goal.invariant-loop-y
+invariant-loop-y l = (l.y ≤ 9) × (l.ok ≡ all_below (λ y. eqb (pair_in l.table l.x y) (pair_in l.table y l.x)) l.y)
+
+abbrev pub decreases-loop-y : goal.decreases-loop-y
+decreases-loop-y l = 9 - l.y
