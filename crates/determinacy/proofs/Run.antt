@@ -61,12 +61,12 @@ module _ (K : Kernel) where
     -- A run of n picks to a normal form says of all picks what `Exactly n` says.
     exactly : {c e : Conf} (n : ℕ) → Sound c → NormalForm K e → Run c 0 n e → Exactly K n c e
     exactly zero s q stay = (q, refl)
-    exactly (suc n) s q (by_pick x rx t) = (
+    exactly {c = c} {e = e} (suc n) s q (by_pick x rx t) = (
       (x, rx),
       λ p r.
           let (m, less, u) = diamond s q (by_pick x rx t) p r in
           let same : m ≡ n = omega arith in
-          exactly n (step_sound p _ s r) q (rw same at u),
+          exactly {c = step p c} {e = e} n (step_sound p _ s r) q (rw same at u),
     )
 
     behind_run : {first c d : Conf} {a n k : ℕ} → Sound first → NormalForm K c → Run first a n c → Run first a k d

@@ -40,7 +40,8 @@ module _ {State Stop : Type 0} (M : Machine State Stop) where
   pub shows_after : {n : ℕ} {c d : Control} {s t : State} {h : History State Stop} → Steps move c s d t → ShowsIn M n c s h
       → (m : ℕ) × (m ≤ n) × ShowsIn M m d t h
   shows_after {n} stay w = (n, omega arith, w)
-  shows_after (step e p) (later f w) = let (m, le, x) = shows_after p (one_step f e w) in (m, omega arith, x)
+  shows_after {h = h} (step {c = c} {d = d} {e = e'} {s = s} {t = t} {u = u} e p) (later {n = n} {d = d'} {t = t'} f w) =
+      let (m, le, x) = shows_after {n = n} p (one_step f e w) in (m, omega arith, x)
   shows_after (step e p) (wait f) = clash (cc)
   shows_after (step e p) (fault f) = clash (cc)
   shows_after (step e p) (on f w) = clash (cc)

@@ -1,0 +1,38 @@
+use mathlib.Core.Path.{refl, ◌∙◌}
+use Prim.Native.Nat.{◌+◌, ◌≤◌}
+use native.Mathlib.Omega.{arith}
+use lib.ListN.{length}
+use borrow.Author.Rules.{rules}
+use Rattle.blocks.specs.Records.{model_of, variable_of}
+use Rattle.blocks.specs.Index.{section_of}
+use Rattle.blocks.proofs.Entries.{entry_place, entry_fits, entry_scaled}
+use Rattle.blocks.proofs.Lookup.{variables_length, variables_most, inside, recorded}
+use Rattle.blocks.proofs.index.variable_at.Goals as goal
+
+pub overflow_add-n : goal.overflow_add-n
+overflow_add-n c = entry_fits 32 64 tt _ _ c.requires.n_in_bounds (variables_most _ c.requires.starts.totals)
+
+pub offset_bounds-index-n : goal.offset_bounds-index-n
+offset_bounds-index-n c = entry_scaled 32 64 tt _ _ c.requires.n_in_bounds (variables_most _ c.requires.starts.totals)
+
+pub bounds-index-n : goal.bounds-index-n
+bounds-index-n c = entry_place 32 64 tt _ _ c.requires.n_in_bounds (variables_most _ c.requires.starts.totals)
+
+-- the record lies within the model
+within : (c : goal.After-wide-start) → c.wide-start.result + 12 ≤ length c.args.m.now
+unfolding section_of
+within c =
+    let h = rw variables_length at c.requires.n_in_bounds in
+    rw c.wide-start.ensures (inside 2 _ c.args.index.now c.args.n _ refl c.requires.starts h)
+
+pub overflow_add-start : goal.overflow_add-start
+overflow_add-start c = omega (arith, within c)
+
+pub slice_bounds-read_variable-end : goal.slice_bounds-read_variable-end
+slice_bounds-read_variable-end c = within c
+
+pub returns : goal.returns
+unfolding model_of section_of
+returns c =
+        let h = rw variables_length at c.requires.n_in_bounds in
+    c.read_variable.ensures ∙ rw c.wide-start.ensures (recorded 2 _ c.args.index.now c.args.n _ refl c.requires.starts h variable_of _)
