@@ -11,7 +11,7 @@ use std::rt::Files;
 use std::{io, str};
 
 // What reading a file gave: whether all went well, and how many bytes.
-#[derive(Drop)]
+#[derive(Clone, Copy)]
 pub struct Taken {
     pub ok: bool,
     pub count: usize,
