@@ -1,4 +1,4 @@
-# make run: plays the bundled example, within seconds. make prove: proves every crate. make test: every test; it installs what
+# make run: plays the bundled example, within a minute. make prove: proves every crate. make test: every test; it installs what
 # is missing (Debian packages).
 .PHONY: run prove test peers proved bench tools blocks setup clean
 
@@ -18,15 +18,12 @@ test: peers proved
 
 # What needs no proof.
 peers: setup
-	rt fmt --check
 	$(CARGO) test $(PEER)
 	$(CARGO) test $(BLOCKS)
 
 # What runs the proved kernel.
 proved: setup tools
-	rt staticlib exports
-	rt staticlib dump_exports
-	rt staticlib read_exports
+	tools/lib exports dump_exports read_exports
 	KERNEL_LIB_DIR=$(LIB) $(CARGO) test $(BLOCKS) --features library
 	sh tests/run.sh
 	sh tests/examples.sh
@@ -47,17 +44,14 @@ proved: setup tools
 	$(CARGO) run $(PEER) --bin edge text target/bin/textbench
 
 bench: setup
-	rt staticlib exports
-	rt staticlib loop_exports
-	rt staticlib read_exports
+	tools/lib exports loop_exports read_exports
 	bench/run
 	KERNEL_LIB_DIR=$(LIB) $(CARGO) run $(PEER) --features proved,loops --bin judgebench
 	KERNEL_LIB_DIR=$(LIB) $(CARGO) run $(PEER) --features bodies --bin readbench
 
 # With the proved libraries, for blocks move and blocks loops.
 tools: prove
-	rt staticlib move_exports
-	rt staticlib loop_exports
+	tools/lib move_exports loop_exports
 	KERNEL_LIB_DIR=$(LIB) $(CARGO) build $(BLOCKS) --features library
 
 # Without them: no proof, and all but these two.

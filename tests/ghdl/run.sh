@@ -1,6 +1,6 @@
 #!/bin/sh
 # Every comparison with GHDL: run.sh [N [SEED]], by default 200 models from 1. Tables, runs and operators are both kernels';
-# the proved one is libexports.a, libdump_exports.a and libread_exports.a in target/staticlib (`rt staticlib exports` and so on), or in
+# the proved one is libexports.a, libdump_exports.a and libread_exports.a in target/staticlib (`tools/lib exports` and so on), or in
 # the folder KERNEL_LIB_DIR.
 # run.sh second [N [SEED]] compares the second kernel alone.
 set -eu
@@ -15,7 +15,7 @@ alone=
 [ "${1:-}" != second ] || { alone=yes; shift; }
 for name in exports dump_exports read_exports; do
     if [ -z "$alone" ] && [ ! -f "$lib/lib$name.a" ]; then
-        echo "run.sh: no $lib/lib$name.a: rt staticlib $name makes it" >&2
+        echo "run.sh: no $lib/lib$name.a: tools/lib $name makes it" >&2
         exit 1
     fi
 done

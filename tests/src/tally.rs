@@ -756,6 +756,7 @@ impl SessionTally {
 mod tests {
     use super::*;
     use crate::body::records::read_into;
+    use crate::body::whole::make_into;
     use crate::loops::check;
     use crate::moves::move_over;
     use crate::vcd::write::write;
@@ -779,6 +780,7 @@ mod tests {
         move_over: Some(&move_over),
         check: Some(&check),
         read: Some(&read_into),
+        make: Some(&make_into),
     };
 
     fn judged_by<'a>(judge: Judge<'a>) -> Other<'a> {

@@ -2,18 +2,17 @@
 #![tactic(auto)]
 
 use dumps::{dump_room, print};
-use files::take_file;
-use libc::STDOUT_FILENO;
+use files::{print_bytes, take_file};
 use text::{model_room, orders_room};
 
-fn main() {
+fn main(rt: HostRuntime) {
     let mut model = model_room();
-    let m = take_file(b"model", &mut model);
+    let m = take_file(&rt, b"model", &mut model);
     if !m.ok {
         return;
     }
     let mut orders = orders_room();
-    let o = take_file(b"orders", &mut orders);
+    let o = take_file(&rt, b"orders", &mut orders);
     if !o.ok {
         return;
     }
@@ -21,7 +20,5 @@ fn main() {
     let b = o.count;
     let mut text = dump_room();
     let n = print(&model[..a], &orders[..b], &mut text);
-    if !io::write_all(STDOUT_FILENO, &text[..n]) {
-        os::fail(b"standard output");
-    }
+    print_bytes(&rt, &text[..n]);
 }

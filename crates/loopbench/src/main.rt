@@ -1,21 +1,18 @@
 // Reads the file `model`, and writes the chain of its loop without delay, `none`, or the number of a refused model.
 #![tactic(auto)]
 
-use files::take_file;
-use libc::STDOUT_FILENO;
+use files::{print_bytes, take_file};
 use loop_text::{loop_room, print};
 use text::model_room;
 
-fn main() {
+fn main(rt: HostRuntime) {
     let mut model = model_room();
-    let m = take_file(b"model", &mut model);
+    let m = take_file(&rt, b"model", &mut model);
     if !m.ok {
         return;
     }
     let a = m.count;
     let mut text = loop_room();
     let n = print(&model[..a], &mut text);
-    if !io::write_all(STDOUT_FILENO, &text[..n]) {
-        os::fail(b"standard output");
-    }
+    print_bytes(&rt, &text[..n]);
 }

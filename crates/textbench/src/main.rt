@@ -2,19 +2,18 @@
 // `model`.
 #![tactic(auto)]
 
-use files::{give_file, take_file};
-use libc::STDOUT_FILENO;
+use files::{give_file, print_bytes, take_file};
 use text::put_refusal;
 use text_model::{make, model_room, records_room, text_room};
 
-fn main() {
+fn main(rt: HostRuntime) {
     let mut text = text_room();
-    let t = take_file(b"text", &mut text);
+    let t = take_file(&rt, b"text", &mut text);
     if !t.ok {
         return;
     }
     let mut records = records_room();
-    let g = take_file(b"records", &mut records);
+    let g = take_file(&rt, b"records", &mut records);
     if !g.ok {
         return;
     }
@@ -24,13 +23,11 @@ fn main() {
     let made = make(&text[..a], &records[..b], &mut model);
     if made.number == 0 {
         let n = 512 * made.blocks;
-        if !give_file(b"model", &model[..n]) {
+        if !give_file(&rt, b"model", &model[..n]) {
             return;
         }
     }
     let mut line = [0u8; 128];
     let n = put_refusal(made.number, &mut line);
-    if !io::write_all(STDOUT_FILENO, &line[..n]) {
-        os::fail(b"standard output");
-    }
+    print_bytes(&rt, &line[..n]);
 }

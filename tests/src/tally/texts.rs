@@ -501,12 +501,16 @@ mod tests {
         );
         told_of(
             |_, _, m, w| {
-                if w[0] == 0 && m.len() < BLOCK * w[3] as usize && m.len() % BLOCK == 7 {
+                let inside = 1..BLOCK - 1;
+                if w[0] == 0
+                    && inside.contains(&(m.len() % BLOCK))
+                    && m.len() < BLOCK * w[3] as usize
+                {
                     let last = m.len() - 1;
                     m[last] ^= 1;
                 }
             },
-            "byte 6 of block",
+            " of block",
         );
         // Given bytes that are too many by a record.
         told_of(
