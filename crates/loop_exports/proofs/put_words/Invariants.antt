@@ -1,0 +1,12 @@
+-- The loop writes the chain's words, and behind them come two. Assumes nothing.
+use Prim.Native.Nat.{◌-◌}
+use native.Mathlib.Omega.{arith}
+use borrow.Author.Rules.{rules}
+use Rattle.loop_exports.proofs.WordLaws.{Written, none_written, one_written, written_length, room_left, same_room, all_written}
+use Rattle.loop_exports.proofs.put_words.Given as goal
+
+abbrev pub invariant-loop-i : goal.invariant-loop-i
+invariant-loop-i l = Written l.initial.out l.chain l.out l.i
+
+abbrev pub decreases-loop-i : goal.decreases-loop-i
+decreases-loop-i l = 16 - l.i
