@@ -36,7 +36,7 @@ pub const TABLE_AT: usize = 1385;
 pub type Index = [u16; INDEX_SIZE];
 
 // How many records of each kind a model has.
-#[derive(Drop)]
+#[derive(Clone, Copy)]
 pub struct Totals {
     pub signals: usize,
     pub variables: usize,

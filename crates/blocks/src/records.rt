@@ -12,7 +12,7 @@ pub const BUS: usize = 1;
 
 pub const REGISTER: usize = 2;
 
-#[derive(Drop)]
+#[derive(Clone, Copy)]
 pub struct SignalRecord {
     pub ty: usize,
     pub kind: usize,
@@ -20,7 +20,7 @@ pub struct SignalRecord {
     pub zeros: bool,
 }
 
-#[derive(Drop)]
+#[derive(Clone, Copy)]
 pub struct VariableRecord {
     pub ty: usize,
     pub process: usize,
@@ -28,21 +28,21 @@ pub struct VariableRecord {
     pub zeros: bool,
 }
 
-#[derive(Drop)]
+#[derive(Clone, Copy)]
 pub struct ProcessRecord {
     pub first: usize,
     pub count: usize,
     pub zeros: bool,
 }
 
-#[derive(Drop)]
+#[derive(Clone, Copy)]
 pub struct DriverRecord {
     pub process: usize,
     pub signal: usize,
     pub zeros: bool,
 }
 
-#[derive(Drop)]
+#[derive(Clone, Copy)]
 pub struct NodeRecord {
     pub kind: usize,
     pub a: usize,
@@ -51,7 +51,7 @@ pub struct NodeRecord {
     pub zeros: bool,
 }
 
-#[derive(Drop)]
+#[derive(Clone, Copy)]
 pub struct StatementRecord {
     pub kind: usize,
     pub a: usize,
@@ -62,7 +62,7 @@ pub struct StatementRecord {
 }
 
 // A row of the model's own pair table.
-#[derive(Drop)]
+#[derive(Clone, Copy)]
 pub struct RowRecord {
     pub codes: [u8; 9],
     pub zeros: bool,

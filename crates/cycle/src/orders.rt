@@ -10,7 +10,7 @@ use crate::picks::Picks;
 use blocks::index::Index;
 
 // An answer, without the time.
-#[derive(Drop)]
+#[derive(Clone, Copy)]
 pub struct Answer {
     pub refusal: usize,
     pub byte: usize,

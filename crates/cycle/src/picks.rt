@@ -17,7 +17,7 @@ use rules::{NO_NODE, READY, STOPPED, WAITING};
 use sets::has;
 
 // The picks that an order asks for.
-#[derive(Drop)]
+#[derive(Clone, Copy)]
 pub enum Picks {
     // one, of the process
     One(usize),
@@ -31,7 +31,7 @@ pub enum Picks {
 pub const ALL: usize = 65535;
 
 // The loop's part: from process first on those of the set, at most count picks; behind a pick it goes on by the stride.
-#[derive(Drop)]
+#[derive(Clone, Copy)]
 pub struct Turns {
     pub first: usize,
     pub count: usize,

@@ -25,7 +25,7 @@ use vcd::put_dump;
 const DUMP_ROOM: usize = 2406375;
 
 // What a dump gives: its number, and how many bytes were written.
-#[derive(Drop)]
+#[derive(Clone, Copy)]
 pub struct Dumped {
     pub number: usize,
     pub length: usize,

@@ -59,7 +59,7 @@ fn truth(t: bool) -> u32
 }
 
 // The values of two operands, or the first fault: "a before b".
-#[derive(Drop)]
+#[derive(Clone, Copy)]
 pub enum Operands {
     Values(u32, u32),
     Failed(Failure),

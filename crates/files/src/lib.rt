@@ -4,7 +4,7 @@
 ghost use Rattle.io.specs.Counts.{IsPrefixLen};
 
 // What reading a file gave: whether all went well, and how many bytes.
-#[derive(Drop)]
+#[derive(Clone, Copy)]
 pub struct Taken {
     pub ok: bool,
     pub count: usize,

@@ -1,5 +1,5 @@
 // The three divisions of integers.
-#[derive(Drop)]
+#[derive(Clone, Copy)]
 pub enum Division {
     Quotient,
     Modulo,

@@ -24,7 +24,7 @@ fn constant_above_0<'a>(m: &'a [u8], index: &'a Index, n: usize) -> bool
 }
 
 // What a process assigns without delay and what it waits on, as sets of signals.
-#[derive(Drop)]
+#[derive(Clone, Copy)]
 struct Sides {
     assigned: u32,
     waited: u32,

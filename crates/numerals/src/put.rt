@@ -13,7 +13,7 @@ pub fn put(text: &[u8], out: &mut [u8], at: usize) -> usize
 {
     let end = at + text.len();
     if end <= out.len() {
-        bytes::copy(text, &mut out[at..end]);
+        out[at..end].copy_from_slice(text);
     }
     end
 }

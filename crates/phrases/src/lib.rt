@@ -20,7 +20,7 @@ use writing::put_record;
 pub const GROUPS: usize = 65536;
 
 // An expression: whether one stands there, the place after it, how many nodes there are with it, and the set of its signals.
-#[derive(Drop)]
+#[derive(Clone, Copy)]
 pub struct Reading {
     pub ok: bool,
     pub next: usize,
@@ -29,7 +29,7 @@ pub struct Reading {
 }
 
 // What stands where an operand is awaited: nothing (0), an expression of one node (1), or a group that opens (2).
-#[derive(Drop)]
+#[derive(Clone, Copy)]
 pub struct Awaited {
     pub form: usize,
     pub kind: usize,
@@ -38,7 +38,7 @@ pub struct Awaited {
     pub next: usize,
 }
 
-#[derive(Drop)]
+#[derive(Clone, Copy)]
 pub struct Infix {
     pub ok: bool,
     pub kind: usize,

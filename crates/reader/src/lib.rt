@@ -241,7 +241,7 @@ fn list(
 }
 
 // What a text is read as: 0 or 26, and how many nodes and statements it makes.
-#[derive(Drop)]
+#[derive(Clone, Copy)]
 pub struct Report {
     pub number: usize,
     pub nodes: usize,

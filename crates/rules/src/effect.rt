@@ -4,7 +4,7 @@ use crate::mechanism::Mechanism;
 use crate::value::Failure;
 
 // What one statement does to its process, its variables and its drivers.
-#[derive(Drop)]
+#[derive(Clone, Copy)]
 pub enum Effect {
     // nothing but to move on
     Skip,

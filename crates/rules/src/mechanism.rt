@@ -1,5 +1,5 @@
 // How an assignment delays what it schedules.
-#[derive(Drop)]
+#[derive(Clone, Copy)]
 pub enum Mechanism {
     // pending transactions before the new one stay
     Transport,

@@ -1,5 +1,5 @@
 // When an expression reads a signal.
-#[derive(Drop)]
+#[derive(Clone, Copy)]
 pub enum Moment {
     Now,
     // before the latest delta step

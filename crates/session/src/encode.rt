@@ -40,5 +40,5 @@ pub(crate) fn put_answer(out: &mut [u8], answer: Answer, time: u64)
         answer.value,
         time,
     );
-    bytes::copy(&b, out);
+    out.copy_from_slice(&b);
 }

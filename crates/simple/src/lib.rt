@@ -15,7 +15,7 @@ use tokens::word;
 use writing::put_record;
 
 // A statement: whether one stands there, the place after it, and how many nodes and statements there are with it.
-#[derive(Drop)]
+#[derive(Clone, Copy)]
 pub struct Made {
     pub ok: bool,
     pub next: usize,

@@ -12,7 +12,7 @@ use tokens::{SIGNAL, token, word};
 pub const ABSENT: usize = 65535;
 
 // Signals with commas between, as a set.
-#[derive(Drop)]
+#[derive(Clone, Copy)]
 pub struct Names {
     pub ok: bool,
     pub next: usize,
@@ -20,7 +20,7 @@ pub struct Names {
 }
 
 // The time of a wait: the place after its semicolon, how many nodes there are with it, and its root.
-#[derive(Drop)]
+#[derive(Clone, Copy)]
 pub struct Timed {
     pub ok: bool,
     pub next: usize,
@@ -29,7 +29,7 @@ pub struct Timed {
 }
 
 // The condition and the time of a wait: the same, both roots, and the signals of the condition.
-#[derive(Drop)]
+#[derive(Clone, Copy)]
 pub struct Waited {
     pub ok: bool,
     pub next: usize,

@@ -91,7 +91,7 @@ pub fn resolve<'a>(
 }
 
 // A process, and the processes, as the configuration holds them.
-#[derive(Drop)]
+#[derive(Clone, Copy)]
 pub struct Process {
     pub place: usize,
     pub standing: usize,

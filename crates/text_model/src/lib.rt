@@ -51,7 +51,7 @@ pub fn model_room() -> [u8; MODEL_BYTES]
 }
 
 // What a text comes to: 0 or the number of its refusal, how many nodes and statements it makes, and how many blocks the model has.
-#[derive(Drop)]
+#[derive(Clone, Copy)]
 pub struct Report {
     pub number: usize,
     pub nodes: usize,

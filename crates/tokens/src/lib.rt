@@ -19,14 +19,14 @@ pub const LOGIC: usize = 259;
 pub const END: usize = 260;
 
 // A token's code and its value.
-#[derive(Drop)]
+#[derive(Clone, Copy)]
 pub struct Lexeme {
     pub code: usize,
     pub value: usize,
 }
 
 // The same, and the place after it.
-#[derive(Drop)]
+#[derive(Clone, Copy)]
 pub struct Found {
     pub code: usize,
     pub value: usize,
@@ -34,7 +34,7 @@ pub struct Found {
 }
 
 // Whether a word stands at a place, and the place after it.
-#[derive(Drop)]
+#[derive(Clone, Copy)]
 pub struct Place {
     pub ok: bool,
     pub next: usize,

@@ -15,7 +15,7 @@ pub const NEVER: u64 = 18446744073709551615;
 // The word that stands for null: no value has it.
 pub const NULL: u32 = 2147483648;
 
-#[derive(Drop)]
+#[derive(Clone, Copy)]
 pub struct Driver {
     pub times: [u32; 8],
     pub values: [u32; 8],
@@ -23,7 +23,7 @@ pub struct Driver {
 }
 
 // A driver, and whether a ninth transaction was refused.
-#[derive(Drop)]
+#[derive(Clone, Copy)]
 pub struct Scheduled {
     pub driver: Driver,
     pub full: bool,

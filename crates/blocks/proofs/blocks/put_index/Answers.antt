@@ -17,7 +17,7 @@ put_kind-requires c = (length_most _ c.requires.m_value, omega (arith, section_r
 
 pub loop-kind-preserved : goal.loop-kind-preserved
 loop-kind-preserved c =
-        let e = c.put_kind.ensures ∙ ap (λ p. placed c.loop-kind.out p (starts_of c.loop-kind.kind c.args.m.now)) c.section-at.ensures in (
+    let e = c.put_kind.ensures ∙ ap (λ p. placed c.loop-kind.out p (starts_of c.loop-kind.kind c.args.m.now)) c.section-at.ensures in (
       search rules,
       search rules,
       search rules,
@@ -26,5 +26,5 @@ loop-kind-preserved c =
 
 pub returns : goal.returns
 returns c =
-        let e : c.loop-kind.kind ≡ 8 = omega arith in
+    let e : c.loop-kind.kind ≡ 8 = omega arith in
     filled_all _ c.requires.m_value_2 c.requires.m_value_3 c.loop-kind.out (rw e at c.loop-kind.invariant.3)

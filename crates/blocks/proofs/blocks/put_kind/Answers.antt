@@ -35,7 +35,7 @@ overflow_add-n c = omega (arith, room_2 c)
 
 pub loop-b-preserved : goal.loop-b-preserved
 loop-b-preserved c =
-        let inv = c.loop-b.invariant in
+    let inv = c.loop-b.invariant in
     let t : c.loop-b.b < length c.args.m.now / 512 = omega arith in (
       search rules,
       rw sum_more (omega (arith, c.count_in-count.ensures.value)),

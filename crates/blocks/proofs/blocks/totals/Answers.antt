@@ -4,7 +4,7 @@ use Rattle.blocks.proofs.blocks.totals.Goals as goal
 
 pub returns : goal.returns
 returns c =
-        record {
+    record {
       signals = c.total.ensures ∙ sym (signals_length _);
       variables = c.total-2.ensures ∙ sym (variables_length _);
       processes = c.total-3.ensures ∙ sym (processes_length _);

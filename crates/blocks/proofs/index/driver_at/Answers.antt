@@ -34,5 +34,5 @@ slice_bounds-read_driver-end c = within c
 pub returns : goal.returns
 unfolding model_of section_of
 returns c =
-        let h = rw drivers_length at c.requires.n_in_bounds in
+    let h = rw drivers_length at c.requires.n_in_bounds in
     c.read_driver.ensures ∙ rw c.wide-start.ensures (recorded 4 _ c.args.index.now c.args.n _ refl c.requires.starts h driver_of _)

@@ -34,5 +34,5 @@ slice_bounds-read_process-end c = within c
 pub returns : goal.returns
 unfolding model_of section_of
 returns c =
-        let h = rw processes_length at c.requires.n_in_bounds in
+    let h = rw processes_length at c.requires.n_in_bounds in
     c.read_process.ensures ∙ rw c.wide-start.ensures (recorded 3 _ c.args.index.now c.args.n _ refl c.requires.starts h process_of _)

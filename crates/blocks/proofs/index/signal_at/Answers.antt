@@ -30,5 +30,5 @@ slice_bounds-read_signal-end c = within c
 pub returns : goal.returns
 unfolding model_of section_of
 returns c =
-        let h = rw signals_length at c.requires.n_in_bounds in
+    let h = rw signals_length at c.requires.n_in_bounds in
     c.read_signal.ensures ∙ rw c.wide-start.ensures (recorded 1 _ c.args.index.now c.args.n _ (omega arith) c.requires.starts h signal_of _)

@@ -34,5 +34,5 @@ slice_bounds-read_statement-end c = within c
 pub returns : goal.returns
 unfolding model_of section_of
 returns c =
-        let h = rw statements_length at c.requires.n_in_bounds in
+    let h = rw statements_length at c.requires.n_in_bounds in
     c.read_statement.ensures ∙ rw c.wide-start.ensures (recorded 6 _ c.args.index.now c.args.n _ refl c.requires.starts h statement_of _)

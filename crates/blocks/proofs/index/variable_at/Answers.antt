@@ -34,5 +34,5 @@ slice_bounds-read_variable-end c = within c
 pub returns : goal.returns
 unfolding model_of section_of
 returns c =
-        let h = rw variables_length at c.requires.n_in_bounds in
+    let h = rw variables_length at c.requires.n_in_bounds in
     c.read_variable.ensures ∙ rw c.wide-start.ensures (recorded 2 _ c.args.index.now c.args.n _ refl c.requires.starts h variable_of _)

@@ -1,0 +1,27 @@
+use mathlib.Core.Path.{◌≡◌, ap, ◌∙◌}
+use Prim.Native.Nat.{◌-◌, ◌≤◌, zero-le}
+use borrow.Author.Count.{falls}
+use Rattle.base.specs.Below.{all_below}
+use Rattle.base.proofs.Turns.{turn_next, turn_most, all_begun, all_turn, all_ended}
+use Rattle.blocks.specs.Records.{model_of, node_at}
+use Rattle.blocks.proofs.Lookup.{nodes_most}
+use Rattle.fields.specs.Fields.{node_ok}
+use Rattle.fields.proofs.nodes_ok.Goals as goal
+
+pub loop-n-init : goal.loop-n-init
+loop-n-init c = (zero-le, all_begun _)
+
+pub node_at-requires : goal.node_at-requires
+node_at-requires c = record { starts = c.requires.starts; n_in_bounds = rw c.requires.totals_of.nodes at c.loop-n-test.true }
+
+pub overflow_add-n : goal.overflow_add-n
+overflow_add-n c = turn_next 400 _ _ _ c.requires.totals_of.nodes (nodes_most _ c.requires.starts.totals) c.loop-n-test.true tt
+
+pub loop-n-smaller : goal.loop-n-smaller
+loop-n-smaller c = falls _ _ c.loop-n-test.true
+
+pub loop-n-preserved : goal.loop-n-preserved
+loop-n-preserved c = (turn_most _ _ c.loop-n-test.true, all_turn _ _ _ _ c.loop-n.invariant.1 (c.node_ok-ok.ensures _ c.requires.totals_of ∙ ap (node_ok (model_of c.args.m.now)) c.node_at.ensures))
+
+pub returns : goal.returns
+returns c = all_ended _ _ _ _ _ c.loop-n.invariant.1 c.loop-n.invariant.0 c.loop-n-test.false c.requires.totals_of.nodes

@@ -1,0 +1,15 @@
+use mathlib.Core.Path.{◌≡◌}
+use Prim.Native.Nat.{◌-◌, ◌≤◌, zero-le}
+use borrow.Author.Count.{falls}
+use Rattle.base.specs.Below.{all_below}
+use Rattle.base.proofs.Turns.{turn_next, turn_most, all_begun, all_turn, all_ended}
+use Rattle.blocks.specs.Records.{model_of}
+use Rattle.blocks.proofs.Lookup.{processes_most}
+use Rattle.fields.specs.Fields.{process_ok}
+use Rattle.fields.proofs.processes_ok.Given as goal
+
+abbrev pub invariant-loop-p : goal.invariant-loop-p
+invariant-loop-p l = (l.p ≤ l.t.processes) × (l.ok ≡ all_below (process_ok (model_of l.m)) l.p)
+
+abbrev pub decreases-loop-p : goal.decreases-loop-p
+decreases-loop-p l = l.t.processes - l.p

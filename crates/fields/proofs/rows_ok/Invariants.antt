@@ -1,0 +1,15 @@
+use mathlib.Core.Path.{◌≡◌, ap, ◌∙◌}
+use Prim.Native.Nat.{◌-◌, ◌≤◌, zero-le}
+use borrow.Author.Count.{falls}
+use Rattle.base.specs.Below.{all_below}
+use Rattle.base.proofs.Turns.{turn_next, turn_most, all_begun, all_turn, all_ended}
+use Rattle.blocks.specs.Records.{model_of, row_at}
+use Rattle.blocks.proofs.Lookup.{rows_most}
+use Rattle.fields.specs.Fields.{row_ok}
+use Rattle.fields.proofs.rows_ok.Given as goal
+
+abbrev pub invariant-loop-n : goal.invariant-loop-n
+invariant-loop-n l = (l.n ≤ l.t.rows) × (l.ok ≡ all_below (λ i. row_ok (row_at (model_of l.m) i)) l.n)
+
+abbrev pub decreases-loop-n : goal.decreases-loop-n
+decreases-loop-n l = l.t.rows - l.n

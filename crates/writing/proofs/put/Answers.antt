@@ -1,0 +1,10 @@
+-- A byte past the end is not stored.
+-- Assumes nothing.
+use mathlib.Core.Path.{sym}
+use native.Mathlib.Omega.{arith}
+use lib.Seq.{set_out}
+use borrow.Author.Rules.{rules}
+use Rattle.writing.proofs.put.Goals as goal
+
+pub returns-else-at-out : goal.returns-else-at-out
+returns-else-at-out c = sym (set_out _ _ _ (omega arith))
