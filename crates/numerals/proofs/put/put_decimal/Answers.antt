@@ -1,0 +1,7 @@
+-- The digits of the number are put. Assumes nothing.
+use borrow.Author.Rules.{rules}
+use Rattle.numerals.proofs.PutLaws.{said}
+use Rattle.numerals.proofs.put.put_decimal.Goals as goal
+
+pub returns : goal.returns
+returns c = said c.decimal-k.ensures.text_after c.put.ensures

@@ -1,0 +1,17 @@
+-- The loop keeps the sum of the words so far. Assumes nothing.
+use mathlib.Core.Path.{◌≡◌, sym}
+use Prim.Native.Nat.{◌+◌, ◌*◌, ◌-◌, ◌≤◌, zero-le}
+use native.Mathlib.Nat.{le_antisymm}
+use borrow.Author.Count.{falls}
+use borrow.Author.Rules.{rules}
+use Rattle.base.specs.Below.{sum_below}
+use Rattle.base.specs.Bytes.{word_at}
+use Rattle.base.proofs.Below.{sum_none}
+use Rattle.base.proofs.Turns.{turn_most, sum_turn}
+use Rattle.packing.proofs.words.Given as goal
+
+abbrev pub invariant-loop-i : goal.invariant-loop-i
+invariant-loop-i l = (l.i ≤ 255) × (l.sum ≤ 65536 * l.i) × (l.sum ≡ sum_below (λ j. word_at l.block (2 * j)) l.i)
+
+abbrev pub decreases-loop-i : goal.decreases-loop-i
+decreases-loop-i l = 255 - l.i
