@@ -1,0 +1,19 @@
+use mathlib.Core.Path.{◌≡◌, sym, ap, ◌∙◌}
+use Prim.Native.Nat.{◌-◌, ◌≤◌, zero-le}
+use borrow.Author.Count.{falls}
+use lib.Dec.{eqb}
+use Rattle.base.specs.Below.{sum_below}
+use Rattle.base.specs.Cases.{◌∣◌, ◌⇒◌}
+use Rattle.base.proofs.Below.{sum_none}
+use Rattle.base.proofs.Turns.{turn_next, turn_most, sum_turn, sum_ended, count_fits, count_most}
+use Rattle.blocks.specs.Records.{model_of, driver_at}
+use Rattle.blocks.proofs.Lookup.{drivers_most}
+use Rattle.model.specs.Owners.{drivers_of}
+use Rattle.model.proofs.owners.drivers_of.Given as goal
+
+abbrev pub invariant-loop-i : goal.invariant-loop-i
+invariant-loop-i l =
+    (l.i ≤ l.t.drivers) × (l.n ≤ l.i) × (l.n ≡ sum_below (λ k. eqb (driver_at (model_of l.m) k).signal l.s ⇒ 1 ∣ 0) l.i)
+
+abbrev pub decreases-loop-i : goal.decreases-loop-i
+decreases-loop-i l = l.t.drivers - l.i

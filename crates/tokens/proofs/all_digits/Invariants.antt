@@ -1,0 +1,16 @@
+-- The loop keeps that all bytes are digits exactly if those that follow are. Assumes nothing.
+use mathlib.Core.Path.{◌≡◌, refl, sym, ◌∙◌}
+use Prim.Native.Nat.{◌-◌, ◌≤◌}
+use native.Mathlib.Omega.{arith}
+use borrow.Author.Rules.{rules}
+use borrow.Author.Tests.{not-true, not-false}
+use lib.ListN.{length, drop}
+use Rattle.grammar.specs.Tokens.{is_digit, all_digits}
+use Rattle.tokens.proofs.Runs.{tested, digits_again, digits_end, digits_over}
+use Rattle.tokens.proofs.all_digits.Given as goal
+
+abbrev pub invariant-loop-i : goal.invariant-loop-i
+invariant-loop-i l = (l.i ≤ length l.t) × (all_digits l.t ≡ all_digits (drop l.i l.t))
+
+abbrev pub decreases-loop-i : goal.decreases-loop-i
+decreases-loop-i l = length l.t - l.i

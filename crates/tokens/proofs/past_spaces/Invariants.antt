@@ -1,0 +1,16 @@
+-- The loop keeps that the tokens from `at` on are those from `i` on. Assumes nothing.
+use mathlib.Core.Path.{◌≡◌, refl}
+use Prim.Native.Nat.{◌-◌, ◌≤◌}
+use native.Mathlib.Omega.{arith}
+use borrow.Author.Rules.{rules}
+use borrow.Author.Tests.{not-true, not-false}
+use lib.ListN.{length}
+use Rattle.grammar.specs.Tokens.{from}
+use Rattle.tokens.proofs.Lexing.{space_again, space_found, spaces_over}
+use Rattle.tokens.proofs.past_spaces.Given as goal
+
+abbrev pub invariant-loop-i : goal.invariant-loop-i
+invariant-loop-i l = (l.at ≤ l.i) × (l.i ≤ length l.text) × (from l.text l.at ≡ from l.text l.i)
+
+abbrev pub decreases-loop-i : goal.decreases-loop-i
+decreases-loop-i l = length l.text - l.i
