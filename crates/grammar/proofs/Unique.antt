@@ -35,10 +35,10 @@ other_first n l g v o (says_not p) = o refl
 other_first n l g v o (says_negate p) = o refl
 other_first n l g v o (says_binary m p q) = o refl
 
-not_first : {a : Expression} {s t : List Token} → Says a (word not_word ∷ s) t → ⊥
+pub not_first : {a : Expression} {s t : List Token} → Says a (word not_word ∷ s) t → ⊥
 not_first = other_first (λ e. omega arith) (λ e. omega arith) (λ e. omega arith) (λ e. omega arith) (λ e. omega arith)
 
-minus_first : {a : Expression} {s t : List Token} → Says a (word minus ∷ s) t → ⊥
+pub minus_first : {a : Expression} {s t : List Token} → Says a (word minus ∷ s) t → ⊥
 minus_first = other_first (λ e. omega arith) (λ e. omega arith) (λ e. omega arith) (λ e. omega arith) (λ e. omega arith)
 
 same_unary : {k : ℕ} {a b : Expression} {r t : List Token} → (a ≡ b) × (word closing ∷ r ≡ word closing ∷ t) → (unary k a ≡ unary k b) × (r ≡ t)

@@ -20,7 +20,7 @@ use Rattle.tokens.specs.Answers.{Word, FirstToken, Answer, FoundWord}
 use Rattle.grammar.specs.Words.{opening, closing, minus, not_word, delayed_word, and_word, or_word, xor_word, plus, equals, less, times, over, mod_word, rem_word, operator_of}
 use Rattle.grammar.specs.Grammar.{Expression, number, logic, signal, variable, delayed, unary, binary, Says, says_number, says_logic, says_signal, says_variable, says_delayed, says_not, says_negate, says_binary}
 use Rattle.grammar.specs.Made.{node, nodes_in, nodes_of, signals_in, set_with}
-use Rattle.grammar.proofs.Unique.{says_at, not_delayed}
+use Rattle.grammar.proofs.Unique.{says_at, not_delayed, not_first, minus_first}
 use Rattle.phrases.specs.Groups.{left, prefix, Closes, closed, closes_prefix, closes_left, Awaits, opened, is_prefix, closed_node}
 use Rattle.phrases.proofs.GroupLaws.{closed_whole, one_node}
 use Rattle.phrases.specs.Phrases.{NoExpression, FoundOperator, NoOperator, FoundLeaf, FoundGroup, OperandIs, leaf_signals, ClosedNode}
@@ -109,10 +109,17 @@ module _ {text : List ℕ} {at code value next : ℕ} (t : FirstToken text at co
   no_operand_here a b c d e x r h = not_begun a b c d e (says_at t.begins h)
 
 -- ( s delayed k )
+-- The codes of the name and of the word are variables here: so antt needs not tell two long words apart by counting.
+delayed_by : {e : Expression} {s c v a d : ℕ} {u r : List Token} → a ≡ signal_code → d ≡ delayed_word → Says e (word opening ∷ tok a s ∷ word d ∷ tok c v ∷ u) r
+    → (c ≡ number_code) × (v ≤ 31) × (e ≡ delayed s v) × (u ≡ word closing ∷ r)
+delayed_by f g (says_delayed h) = (refl, h, refl, refl)
+delayed_by f g (says_not p) = absurd (omega arith)
+delayed_by f g (says_negate p) = absurd (omega arith)
+delayed_by f g (says_binary n p q) = absurd (not_delayed n (rw (f, g) at p))
+
 delayed_alone : {e : Expression} {s c v : ℕ} {u r : List Token} → Says e (word opening ∷ tok signal_code s ∷ word delayed_word ∷ tok c v ∷ u) r
     → (c ≡ number_code) × (v ≤ 31) × (e ≡ delayed s v) × (u ≡ word closing ∷ r)
-delayed_alone (says_delayed h) = (refl, h, refl, refl)
-delayed_alone (says_binary n p q) = absurd (not_delayed n p)
+delayed_alone = delayed_by refl refl
 
 module _ (s : ℕ) {text : List ℕ} {at code value next : ℕ} (t : FirstToken text at code value next) where
   group_at : {e : Expression} {r : List Token} → Says e (word opening ∷ tok signal_code s ∷ word delayed_word ∷ from text at) r
@@ -154,11 +161,18 @@ prefix_down : {kind : ℕ} {e f : Expression} {s r : List Token} → f ≡ unary
 prefix_down {kind} {e} {f} {s} {r} same h =
     record { tree = e; rest = word closing ∷ r; says = h; closes = subst (λ x. Closes (prefix kind ∷ []) e x (word closing ∷ r) r) (sym same) (closes_prefix closed) }
 
+not_down_by : {c : ℕ} {e : Expression} {s r : List Token} → c ≡ not_word → Says e (word opening ∷ word c ∷ s) r → Awaits (prefix 6 ∷ []) e s r
+not_down_by f (says_delayed h) = absurd (omega arith)
+not_down_by f (says_not p) = prefix_down refl p
+not_down_by f (says_negate p) = absurd (omega arith)
+not_down_by f (says_binary n p q) = absurd (not_first (rw f at p))
+
 not_down : {e : Expression} {s r : List Token} → Says e (word opening ∷ word not_word ∷ s) r → Awaits (prefix 6 ∷ []) e s r
-not_down (says_not p) = prefix_down refl p
+not_down = not_down_by refl
 
 negate_down : {e : Expression} {s r : List Token} → Says e (word opening ∷ word minus ∷ s) r → Awaits (prefix 10 ∷ []) e s r
 negate_down (says_negate p) = prefix_down refl p
+negate_down (says_binary n p q) = absurd (minus_first p)
 
 -- what closes the one group
 one_prefix : {kind : ℕ} {e t : Expression} {s r : List Token} → Closes (prefix kind ∷ []) e t s r → (t ≡ unary kind e) × (s ≡ word closing ∷ r)

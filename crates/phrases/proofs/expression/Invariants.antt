@@ -1,0 +1,20 @@
+-- The loop keeps what is read so far (proofs/GroupLaws): where an operand is awaited, and where one has been read.
+-- Assumes nothing.
+use Rattle.phrases.proofs.Operands.{closing_word}
+use mathlib.Core.Path.{◌≡◌, refl}
+use Prim.Native.Nat.{◌-◌, ◌≤◌}
+use native.Mathlib.Omega.{arith}
+use lib.ListN.{length}
+use borrow.Author.Rules.{rules}
+use borrow.Author.Tests.{not-true, not-false}
+use Rattle.phrases.proofs.GroupLaws.{Reads, wanting_first, leaf_read, group_opened, operator_read, group_closed, no_operand, no_operator, no_bracket, whole, top_small, reads_wanting, reads_having, reads_still, reads_on, other_form, group_small}
+use Rattle.tokens.proofs.Lexing.{yes_answer, no_answer}
+use Rattle.phrases.proofs.expression.Given as goal
+
+abbrev pub invariant-loop-wanted : goal.invariant-loop-wanted
+invariant-loop-wanted l =
+    (l.at ≤ l.i) × (l.i ≤ length l.text) × (length l.text ≤ 65535) × (l.n ≤ l.i) × (l.depth ≤ l.i) × (l.nodes ≤ l.n) × (length l.out ≡ length l.initial.out) × (length l.stack ≡ length l.initial.stack) × (length l.stack ≡ 65536)
+    × Reads l.text l.at l.nodes l.initial.out l.i l.n l.set l.depth l.wanted l.stack l.out
+
+abbrev pub decreases-loop-wanted : goal.decreases-loop-wanted
+decreases-loop-wanted l = length l.text - l.i
