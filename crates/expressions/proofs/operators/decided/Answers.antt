@@ -1,0 +1,6 @@
+-- `decided` is `decided_by`. Assumes nothing.
+use borrow.Author.Rules.{rules}
+use Rattle.expressions.proofs.operators.decided.Goals as goal
+
+pub returns-in-Of : goal.returns-in-Of
+returns-in-Of c = rw c.in-Of.is

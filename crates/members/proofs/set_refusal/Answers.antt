@@ -1,0 +1,27 @@
+use mathlib.Core.Path.{sym, ◌∙◌}
+use mathlib.Core.Logic.{⊎_elim}
+use Prim.Native.Nat.{◌-◌}
+use borrow.Author.Rules.{rules}
+use Rattle.rules.specs.Orders.{set_bits}
+use Rattle.members.proofs.MemberLaws.{Looked, looked_none, looked_past, looked_unknown, looked_ready, looked_unready, looked_all}
+use Rattle.members.proofs.set_refusal.Goals as goal
+
+pub loop-p-init : goal.loop-p-init
+loop-p-init c = looked_none _ _ _
+
+pub returns-then-p-nprocesses : goal.returns-then-p-nprocesses
+returns-then-p-nprocesses c = looked_unknown _ _ _ c.loop-p.invariant c.loop-p-test.true (sym c.has.ensures ∙ c.if-has.true) c.if-p-nprocesses.true
+
+pub loop-p-preserved : goal.loop-p-preserved
+loop-p-preserved c =
+        let inv = c.loop-p.invariant in
+    let here = c.loop-p-test.true in
+    ⊎_elim
+    (λ w. rw w.4 (looked_unready _ _ _ inv here (sym c.has.ensures ∙ w.0.taken) w.1.left w.3.taken))
+    (⊎_elim
+    (λ w. rw w.4 (looked_ready _ _ _ inv here (sym c.has.ensures ∙ w.0.taken) w.1.left w.3.left))
+    (λ w. rw w.1 (looked_past _ _ _ inv here (sym c.has.ensures ∙ w.0.left))))
+    c.if-has.branch-raw
+
+pub returns : goal.returns
+returns c = looked_all _ _ _ c.loop-p.invariant c.loop-p-test.false
