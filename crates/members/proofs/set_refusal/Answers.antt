@@ -5,6 +5,7 @@ use borrow.Author.Rules.{rules}
 use Rattle.rules.specs.Orders.{set_bits}
 use Rattle.members.proofs.MemberLaws.{Looked, looked_none, looked_past, looked_unknown, looked_ready, looked_unready, looked_all}
 use Rattle.members.proofs.set_refusal.Goals as goal
+use Rattle.members.proofs.set_refusal.Goals.{then-has+else-p-nprocesses+then-standings-p-ne-READY, then-has+else-p-nprocesses+else-standings-p-ne-READY, else-has}
 
 pub loop-p-init : goal.loop-p-init
 loop-p-init c = looked_none _ _ _
@@ -14,14 +15,15 @@ returns-then-p-nprocesses c = looked_unknown _ _ _ c.loop-p.invariant c.loop-p-t
 
 pub loop-p-preserved : goal.loop-p-preserved
 loop-p-preserved c =
-        let inv = c.loop-p.invariant in
+    let inv = c.loop-p.invariant in
     let here = c.loop-p-test.true in
-    ⊎_elim
-    (λ w. rw w.4 (looked_unready _ _ _ inv here (sym c.has.ensures ∙ w.0.taken) w.1.left w.3.taken))
-    (⊎_elim
-    (λ w. rw w.4 (looked_ready _ _ _ inv here (sym c.has.ensures ∙ w.0.taken) w.1.left w.3.left))
-    (λ w. rw w.1 (looked_past _ _ _ inv here (sym c.has.ensures ∙ w.0.left))))
-    c.if-has.branch-raw
+    elim c.if-has.branch [
+      then-has+else-p-nprocesses+then-standings-p-ne-READY w ↦
+        rw w.refusal-is (looked_unready _ _ _ inv here (sym c.has.ensures ∙ w.if-has.true) w.if-p-nprocesses.false w.if-standings-p-ne-READY.true)
+      | then-has+else-p-nprocesses+else-standings-p-ne-READY w ↦
+        rw w.refusal-is (looked_ready _ _ _ inv here (sym c.has.ensures ∙ w.if-has.true) w.if-p-nprocesses.false w.if-standings-p-ne-READY.false)
+      | else-has w ↦ rw w.refusal-is (looked_past _ _ _ inv here (sym c.has.ensures ∙ w.if-has.false))
+    ]
 
 pub returns : goal.returns
 returns c = looked_all _ _ _ c.loop-p.invariant c.loop-p-test.false

@@ -1,0 +1,29 @@
+use mathlib.Core.Path.{refl}
+use borrow.Author.Rules.{rules}
+use Rattle.cycle.proofs.First.{begins_first}
+use Rattle.cycle.proofs.config.Config.first.Goals as goal
+
+pub returns : goal.returns
+returns c =
+        begins_first _ c.requires.runs.facts _ c.none-d.result c.first_values-values.result c.histories-signals.result
+    (record {
+      time = refl;
+      deltas = refl;
+      nsignals = c.requires.totals_of.signals;
+      nvariables = c.requires.totals_of.variables;
+      ndrivers = c.requires.totals_of.drivers;
+      nprocesses = c.requires.totals_of.processes;
+      variables = c.first_variables-variables.ensures;
+      places = c.first_places-places.ensures;
+      currents = c.first_currents-currents.ensures;
+      values = c.first_values-values.ensures;
+      histories = c.histories-signals.ensures;
+      signals = c.keep.ensures;
+      c.none-d = c.none-d.ensures;
+      drivers = refl;
+      due = refl;
+      standings = refl;
+      deadlines = refl;
+      faults = refl;
+      nodes = refl;
+    })

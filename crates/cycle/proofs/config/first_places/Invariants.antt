@@ -1,0 +1,15 @@
+use mathlib.Core.Path.{ap, refl}
+use Prim.Native.Nat.{◌≤◌, ◌-◌, zero-le}
+use borrow.Author.Count.{falls}
+use Rattle.base.proofs.Turns.{turn_there, turn_room, turn_eights, turn_next, turn_most}
+use Rattle.blocks.specs.declared.records.ProcessRecord.{ProcessRecord}
+use Rattle.blocks.specs.Records.{model_of}
+use Rattle.cycle.specs.Arrays.{process_first}
+use Rattle.cycle.proofs.Arrays.{Filled, filled_none, filled_more, filled_all}
+use Rattle.cycle.proofs.config.first_places.Given as goal
+
+abbrev pub invariant-loop-i : goal.invariant-loop-i
+invariant-loop-i l = (l.i ≤ l.n) × Filled (process_first (model_of l.m)) 16 l.i l.r
+
+abbrev pub decreases-loop-i : goal.decreases-loop-i
+decreases-loop-i l = l.n - l.i

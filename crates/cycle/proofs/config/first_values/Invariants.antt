@@ -1,0 +1,14 @@
+use mathlib.Core.Path.{refl}
+use Prim.Native.Nat.{◌≤◌, ◌-◌, zero-le}
+use borrow.Author.Count.{falls}
+use Rattle.base.proofs.Turns.{turn_there, turn_room, turn_fours, turn_next, turn_most}
+use Rattle.blocks.specs.Records.{model_of}
+use Rattle.cycle.specs.Arrays.{first_value}
+use Rattle.cycle.proofs.Arrays.{Filled, filled_none, filled_more, filled_all}
+use Rattle.cycle.proofs.config.first_values.Given as goal
+
+abbrev pub invariant-loop-i : goal.invariant-loop-i
+invariant-loop-i l = (l.i ≤ l.n) × Filled (first_value (model_of l.m) l.currents l.ndrivers) 32 l.i l.r
+
+abbrev pub decreases-loop-i : goal.decreases-loop-i
+decreases-loop-i l = l.n - l.i

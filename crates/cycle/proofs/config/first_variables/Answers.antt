@@ -1,0 +1,33 @@
+use mathlib.Core.Path.{ap, refl}
+use Prim.Native.Nat.{◌≤◌, ◌-◌, zero-le}
+use borrow.Author.Count.{falls}
+use Rattle.base.proofs.Turns.{turn_there, turn_room, turn_fours, turn_next, turn_most}
+use Rattle.blocks.specs.declared.records.VariableRecord.{VariableRecord}
+use Rattle.blocks.specs.Records.{model_of}
+use Rattle.cycle.specs.Arrays.{variable_start}
+use Rattle.cycle.proofs.Arrays.{Filled, filled_none, filled_more, filled_all}
+use Rattle.cycle.proofs.config.first_variables.Goals as goal
+
+pub loop-i-init : goal.loop-i-init
+loop-i-init c = (zero-le, filled_none _ _ _ refl)
+
+pub variable_at-v-requires : goal.variable_at-v-requires
+variable_at-v-requires c = record { starts = c.requires.runs.usable.starts; n_in_bounds = turn_there 64 _ _ _ c.requires.n_value c.requires.runs.facts.totals.variables c.loop-i-test.true }
+
+pub offset_bounds-r-i : goal.offset_bounds-r-i
+offset_bounds-r-i c = turn_fours 64 _ _ _ c.requires.n_value c.requires.runs.facts.totals.variables c.loop-i-test.true tt
+
+pub bounds-r-i : goal.bounds-r-i
+bounds-r-i c = turn_room 64 _ _ _ c.requires.n_value c.requires.runs.facts.totals.variables c.loop-i-test.true
+
+pub overflow_add-i : goal.overflow_add-i
+overflow_add-i c = turn_next 64 _ _ _ c.requires.n_value c.requires.runs.facts.totals.variables c.loop-i-test.true tt
+
+pub loop-i-smaller : goal.loop-i-smaller
+loop-i-smaller c = falls _ _ c.loop-i-test.true
+
+pub loop-i-preserved : goal.loop-i-preserved
+loop-i-preserved c = (turn_most _ _ c.loop-i-test.true, filled_more _ _ _ _ _ (turn_room 64 _ _ _ c.requires.n_value c.requires.runs.facts.totals.variables c.loop-i-test.true) (ap (λ (v : VariableRecord). v.start) c.variable_at-v.ensures) c.loop-i.invariant.1)
+
+pub returns : goal.returns
+returns c = filled_all _ _ _ _ _ c.loop-i-test.false c.loop-i.invariant.1

@@ -1,0 +1,7 @@
+-- `woken` is `wakes`. Assumes nothing.
+use borrow.Author.Rules.{rules}
+use Rattle.steps.proofs.DeltaProcesses.{woken_is}
+use Rattle.steps.proofs.delta.woken.Goals as goal
+
+pub returns : goal.returns
+returns c = woken_is _ _ _ c.args.q c.next_place.ensures
