@@ -18,16 +18,16 @@ pub time_refusal-refusal-requires : goal.time_refusal-refusal-requires
 time_refusal-refusal-requires c = few_processes c.requires.runs.facts c.requires.valid
 
 -- what holds once it is known what is due
-model : (c : goal.After-refused) → Model
+abbrev model : (c : goal.After-refused) → Model
 model c = model_of c.args.m.now
 
-config : (c : goal.After-refused) → Config
+abbrev config : (c : goal.After-refused) → Config
 config c = c.args.self
 
 valid : (c : goal.After-refused) → Valid (model c) (config c)
 valid c = c.requires.valid
 
-t : (c : goal.After-refused) → ℕ
+abbrev t : (c : goal.After-refused) → ℕ
 t c = c.next_due-t.result
 
 says : (c : goal.After-refused) → Says (model c) (config c) (valid c) (TimeDue (model c) (config c) (valid c) (t c)) c.time_refusal-refusal.result (time_stepped (model c) (view_of (config c)))
@@ -37,16 +37,16 @@ pub returns-then-refusal-ne0 : goal.returns-then-refusal-ne0
 returns-then-refusal-ne0 c = says_refused _ _ (valid c) (says c) c.if-refusal-ne0.true _ c.refused.ensures.result_value c.refused.ensures.keeps
 
 -- what holds once it is known what is due
-model_2 : (c : goal.Else-refusal-ne0) → Model
+abbrev model_2 : (c : goal.Else-refusal-ne0) → Model
 model_2 c = model_of c.args.m.now
 
-config_2 : (c : goal.Else-refusal-ne0) → Config
+abbrev config_2 : (c : goal.Else-refusal-ne0) → Config
 config_2 c = c.args.self
 
 valid_2 : (c : goal.Else-refusal-ne0) → Valid (model_2 c) (config_2 c)
 valid_2 c = c.requires.valid
 
-t_2 : (c : goal.Else-refusal-ne0) → ℕ
+abbrev t_2 : (c : goal.Else-refusal-ne0) → ℕ
 t_2 c = c.next_due-t.result
 
 says_2 : (c : goal.Else-refusal-ne0) → Says (model_2 c) (config_2 c) (valid_2 c) (TimeDue (model_2 c) (config_2 c) (valid_2 c) (t_2 c)) c.time_refusal-refusal.result (time_stepped (model_2 c) (view_of (config_2 c)))
@@ -59,13 +59,13 @@ pub overflow_sub-passed : goal.overflow_sub-passed
 overflow_sub-passed c = search (rules, (later c).from_now)
 
 -- what holds once it is known what is due
-model_3 : (c : goal.After-shift-arg-1) → Model
+abbrev model_3 : (c : goal.After-shift-arg-1) → Model
 model_3 c = model_of c.args.m.now
 
 facts : (c : goal.After-shift-arg-1) → Facts (model_3 c)
 facts c = c.requires.runs.facts
 
-config_3 : (c : goal.After-shift-arg-1) → Config
+abbrev config_3 : (c : goal.After-shift-arg-1) → Config
 config_3 c = c.args.self
 
 valid_3 : (c : goal.After-shift-arg-1) → Valid (model_3 c) (config_3 c)
@@ -79,13 +79,13 @@ pub shift-requires : goal.shift-requires
 shift-requires c = record { nsignals_bound = few_signals (facts c) (valid_3 c); signals_len = (whole c).signals }
 
 -- what holds once it is known what is due
-model_4 : (c : goal.After-shift) → Model
+abbrev model_4 : (c : goal.After-shift) → Model
 model_4 c = model_of c.args.m.now
 
 facts_2 : (c : goal.After-shift) → Facts (model_4 c)
 facts_2 c = c.requires.runs.facts
 
-config_4 : (c : goal.After-shift) → Config
+abbrev config_4 : (c : goal.After-shift) → Config
 config_4 c = c.args.self
 
 valid_4 : (c : goal.After-shift) → Valid (model_4 c) (config_4 c)
@@ -99,16 +99,16 @@ pub loop-k-init : goal.loop-k-init
 loop-k-init c = (search rules, few_drivers (facts_2 c) (valid_4 c), elapsing_none _ _ (whole_2 c).drivers)
 
 -- what holds once it is known what is due
-model_5 : (c : goal.After-d-1) → Model
+abbrev model_5 : (c : goal.After-d-1) → Model
 model_5 c = model_of c.args.m.now
 
-config_5 : (c : goal.After-d-1) → Config
+abbrev config_5 : (c : goal.After-d-1) → Config
 config_5 c = c.args.self
 
 valid_5 : (c : goal.After-d-1) → Valid (model_5 c) (config_5 c)
 valid_5 c = c.requires.valid
 
-t_3 : (c : goal.After-d-1) → ℕ
+abbrev t_3 : (c : goal.After-d-1) → ℕ
 t_3 c = c.next_due-t.result
 
 says_3 : (c : goal.After-d-1) → Says (model_5 c) (config_5 c) (valid_5 c) (TimeDue (model_5 c) (config_5 c) (valid_5 c) (t_3 c)) c.time_refusal-refusal.result (time_stepped (model_5 c) (view_of (config_5 c)))
@@ -129,16 +129,16 @@ pub loop-k-preserved : goal.loop-k-preserved
 loop-k-preserved c = (search rules, search rules, elapsing_more _ _ _ _ c.loop-k.invariant.2 (search rules) _ c.elapsed-e.ensures)
 
 -- what holds once it is known what is due
-model_6 : (c : goal.After-loop-k) → Model
+abbrev model_6 : (c : goal.After-loop-k) → Model
 model_6 c = model_of c.args.m.now
 
-config_6 : (c : goal.After-loop-k) → Config
+abbrev config_6 : (c : goal.After-loop-k) → Config
 config_6 c = c.args.self
 
 valid_6 : (c : goal.After-loop-k) → Valid (model_6 c) (config_6 c)
 valid_6 c = c.requires.valid
 
-t_4 : (c : goal.After-loop-k) → ℕ
+abbrev t_4 : (c : goal.After-loop-k) → ℕ
 t_4 c = c.next_due-t.result
 
 says_4 : (c : goal.After-loop-k) → Says (model_6 c) (config_6 c) (valid_6 c) (TimeDue (model_6 c) (config_6 c) (valid_6 c) (t_4 c)) c.time_refusal-refusal.result (time_stepped (model_6 c) (view_of (config_6 c)))

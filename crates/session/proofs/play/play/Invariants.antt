@@ -1,0 +1,18 @@
+-- The loop keeps `Playing`; what the order gave goes on to the next order by `playing_next`. The measure is the orders left. Assumes
+-- nothing.
+use mathlib.Core.Logic.{⊎_elim}
+use Prim.Native.Nat.{◌+◌, ◌*◌, ◌-◌, ◌<◌}
+use native.Mathlib.Omega.{arith}
+use borrow.Author.Rules.{rules}
+use Rattle.blocks.specs.Records.{model_of}
+use Rattle.cycle.specs.View.{view_of}
+use Rattle.cycle.proofs.Advances.{few_signals}
+use Rattle.session.specs.Lists.{played_by}
+use Rattle.session.proofs.PlayLaws.{Playing, Reading, playing_next, refused_gives, picks_give, delta_gives, time_gives, read_gives, no_orders, all_written}
+use Rattle.session.proofs.play.play.Given as goal
+
+abbrev pub invariant-loop-i : goal.invariant-loop-i
+invariant-loop-i l = Playing (model_of l.m) l.orders (view_of l.initial.at) l.i l.at l.answers
+
+abbrev pub decreases-loop-i : goal.decreases-loop-i
+decreases-loop-i l = l.n - l.i
