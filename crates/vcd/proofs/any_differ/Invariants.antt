@@ -1,0 +1,11 @@
+-- The loop keeps whether one below s differs. Assumes nothing.
+use Prim.Native.Nat.{◌-◌}
+use borrow.Author.Rules.{rules}
+use Rattle.vcd.proofs.WalkLaws.{Finding, find_none, find_next, find_all}
+use Rattle.vcd.proofs.any_differ.Given as goal
+
+abbrev pub invariant-loop-s : goal.invariant-loop-s
+invariant-loop-s l = Finding l.types l.n l.before l.row l.found l.s
+
+abbrev pub decreases-loop-s : goal.decreases-loop-s
+decreases-loop-s l = l.n - l.s
