@@ -1,3 +1,4 @@
 pub mod GivenLaws
 pub mod StoreLaws
 pub mod PutLaws
+pub mod PageBytes
