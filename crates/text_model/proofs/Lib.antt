@@ -2,3 +2,4 @@ pub mod GivenLaws
 pub mod StoreLaws
 pub mod PutLaws
 pub mod PageBytes
+pub mod PageRecords
