@@ -71,7 +71,7 @@ unfolding totals_ok
 totals_within M h =
     (leb-true _ _ (every_at _ 0 h), leb-true _ _ (every_at _ 1 h), leb-true _ _ (every_at _ 4 h), leb-true _ _ (every_at _ 5 h), leb-true _ _ (every_at _ 6 h), leb-true _ _ (every_at _ 7 h))
 
-given_numbered : (text g : List ℕ) (p : Statement) → numbered 27 (given_rules text g p) ≡ true
+pub given_numbered : (text g : List ℕ) (p : Statement) → numbered 27 (given_rules text g p) ≡ true
 unfolding given_rules
 given_numbered text g p = refl
 

@@ -3,3 +3,4 @@ pub mod StoreLaws
 pub mod PutLaws
 pub mod PageBytes
 pub mod PageRecords
+pub mod MakeLaws
