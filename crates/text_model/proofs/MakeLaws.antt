@@ -2,32 +2,31 @@
 -- Assumes nothing.
 use mathlib.Core.Path.{◌≡◌, refl, sym, ap, subst, ◌∙◌}
 use mathlib.Core.Bool.{true}
-use mathlib.Core.List.{List, [], ◌∷◌, ◌++◌}
+use mathlib.Core.List.{List, []}
 use mathlib.Core.Logic.{◌≢◌}
-use Prim.Native.Nat.{ℕ, ◌+◌, ◌*◌, ◌/◌, ◌%◌, ◌≤◌, ◌<◌}
+use Prim.Native.Nat.{ℕ, ◌*◌, ◌%◌, ◌≤◌, ◌<◌}
 use native.Mathlib.Omega.{arith}
 use borrow.Author.Tests.{le-leb, eq-eqb}
-use lib.Dec.{eqb, leb}
 use lib.ListN.{length, take, replicate, length-replicate}
 use lib.Seq.{sets, sets-eq, take_at}
 use Rattle.base.specs.Below.{every}
 use Rattle.base.specs.Rules.{first_failing}
 use Rattle.base.proofs.Rules.{none_left, passes, later_decide, first_decides}
 use Rattle.blocks.specs.Blocks.{length_ok, sums_ok, heads_ok}
-use Rattle.blocks.specs.Records.{Model, model_of}
+use Rattle.blocks.specs.Records.{model_of}
 use Rattle.blocks.specs.Totals.{totals_ok, block_rules}
 use Rattle.blocks.proofs.BlockForms.{blocks_numbered}
 use Rattle.model.specs.Rules.{record_rules, rules_of, refusal_of}
 use Rattle.grammar.specs.Grammar.{Statement, Sentence, OneReading}
 use Rattle.grammar.specs.Made.{made_nodes, made_statements}
 use Rattle.grammar.proofs.MadeLaws.{length_nodes_of_body, length_statements_of}
-use Rattle.packing.specs.Packed.{Parts, packed, blocks_in, PackedIn}
+use Rattle.packing.specs.Packed.{packed, blocks_in, PackedIn}
 use Rattle.packing.proofs.PageLaws.{length_blocks, length_all}
 use Rattle.given.specs.Given.{signals_given, variables_given, drivers_given, variables_from, drivers_from, model_from, parts_from, given_rules, rules_with}
 use Rattle.given.proofs.Parts.{given_length, length_part, model_back}
 use Rattle.reader.specs.Reading.{longest, Meaning, Read, Accepted as SentenceRead}
 use Rattle.body_meaning.specs.Meaning.{Makes}
-use Rattle.writing.specs.Written.{record_bytes, node_bytes, statement_bytes}
+use Rattle.writing.specs.Written.{node_bytes, statement_bytes}
 use Rattle.writing.proofs.WriteLaws.{length_record, length_nodes, length_statements}
 use Rattle.text_model.specs.Texts.{Taken, GivenFits}
 use Rattle.text_model.proofs.GivenLaws.{Within, given_numbered, given_within}

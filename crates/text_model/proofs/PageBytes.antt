@@ -1,16 +1,16 @@
 -- The bytes of blocks that hold pages, one block behind the other: each block passes the rules of blocks.
 -- Assumes nothing.
-use mathlib.Core.Path.{◌≡◌, refl, sym, ap, ap₂, ◌∙◌}
-use mathlib.Core.Bool.{Bool, true, false, ◌||◌}
-use mathlib.Core.List.{List, [], ◌∷◌, ◌++◌, append-nil}
+use mathlib.Core.Path.{◌≡◌, refl, ap, ap₂, ◌∙◌}
+use mathlib.Core.Bool.{true}
+use mathlib.Core.List.{List, [], ◌∷◌, ◌++◌}
 use mathlib.Core.Logic.{⊎_elim}
 use Prim.Native.Nat.{ℕ, zero, suc, ◌+◌, ◌*◌, ◌/◌, ◌%◌, ◌-◌, ◌≤◌, ◌<◌}
 use native.Mathlib.Omega.{arith}
 use borrow.Author.Tests.{lt-ltb, le-leb, eq-eqb, ne_eqb}
-use lib.Dec.{eqb, leb, ltb}
+use lib.Dec.{ltb}
 use lib.ListN.{length, get_or, get_or-append, get_or-eq_default}
 use lib.Seq.{get_or-append-add}
-use Rattle.base.specs.Below.{all_below, sum_below, list_below, every}
+use Rattle.base.specs.Below.{sum_below, list_below, every}
 use Rattle.base.specs.Bytes.{byte_at, word_at}
 use Rattle.base.proofs.Below.{split, or_second, all_of, sum_more, list_none, list_first, list_length, list_at}
 use Rattle.blocks.specs.Blocks.{blocks_of, block_sum, sum_ok, sums_ok, kind_at, count_at, trailing_at, trailing_ok, head_ok, heads_ok}

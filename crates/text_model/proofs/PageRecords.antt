@@ -1,24 +1,22 @@
 -- The records that blocks hold are those of their pages, kind by kind.
 -- Assumes nothing.
 use mathlib.Core.Path.{◌≡◌, refl, sym, ap, ap₂, ◌∙◌}
-use mathlib.Core.Bool.{Bool, true, false}
+use mathlib.Core.Bool.{true, false}
 use mathlib.Core.List.{List, [], ◌∷◌, ◌++◌, map, append_assoc, append-nil}
-use Prim.Native.Nat.{ℕ, zero, suc, ◌+◌, ◌*◌, ◌/◌, ◌%◌, ◌-◌, ◌≤◌, ◌<◌, min}
+use Prim.Native.Nat.{ℕ, zero, suc, ◌+◌, ◌*◌, ◌/◌, ◌-◌, ◌≤◌, ◌<◌, min}
 use native.Mathlib.Nat.{add-zero}
-use native.Mathlib.Numerals.{add-one}
 use native.Mathlib.Omega.{arith}
 use borrow.Author.Tests.{eq-eqb, ne_eqb}
 use lib.Dec.{eqb}
 use mathlib.Core.Logic.{◌≢◌}
-use lib.ListN.{length, get_or, take, drop, length-take, length-drop}
+use lib.ListN.{length, take, drop, length-take, length-drop}
 use lib.Seq.{length-take-le, get_or-take, get_or-drop, ext_get_or, take-add, take-take, drop_at, drop-drop}
 use Rattle.base.specs.Below.{join_below, list_below}
-use Rattle.base.specs.Bytes.{byte_at}
 use Rattle.base.specs.Cases.{◌∣◌, ◌⇒◌}
-use Rattle.base.proofs.Below.{list_none, list_first, list_more, list_length, list_same, join_none, join_more, join_same}
-use Rattle.blocks.specs.Blocks.{blocks_of, kind_at, count_at, count_in, start_at, starts_in, starts_of, part_at}
-use Rattle.blocks.specs.Records.{Model, model_of, records_of, signal_of, variable_of, process_of, driver_of, node_of, statement_of, row_of}
-use Rattle.packing.specs.Packed.{Page, block_byte, blocks_from, blocks_for, page_of, pages_of, records_in, Parts, model_in, pages, packed}
+use Rattle.base.proofs.Below.{list_none, list_more, list_same, join_none, join_same}
+use Rattle.blocks.specs.Blocks.{blocks_of, count_in, start_at, starts_in, starts_of, part_at}
+use Rattle.blocks.specs.Records.{model_of, records_of, signal_of, variable_of, process_of, driver_of, node_of, statement_of, row_of}
+use Rattle.packing.specs.Packed.{Page, blocks_from, blocks_for, page_of, pages_of, records_in, Parts, model_in, pages, packed}
 use Rattle.packing.proofs.PageLaws.{length_blocks}
 use Rattle.text_model.proofs.PageBytes.{PageFits, Ordered, ordered_kind, page_at, fits_at, byte_rest, how_many, byte_in, kind_is, count_is}
 

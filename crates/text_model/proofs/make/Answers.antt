@@ -1,6 +1,6 @@
 -- The text is read, its names and totals are judged, the model is put into blocks and judged, and written where nothing refuses it.
 -- Assumes nothing.
-use mathlib.Core.Path.{◌≡◌, sym, ◌∙◌}
+use mathlib.Core.Path.{sym}
 use native.Mathlib.Omega.{arith}
 use lib.Seq.{length-take-le}
 use Rattle.text_model.proofs.MakeLaws.{node_room, statement_room, block_room, unread_taken, counted_nodes, counted_statements, early_taken, late_taken, all_taken, ready, fitting, bounds, put_there, few_put}
