@@ -1,7 +1,7 @@
 -- The text that the program prints: "a line per answer: refusal, byte 1, picks, value (bytes 4-7, signed), time, in base ten with
 -- one space between (a refused session: its number alone)". Document 02, item 3: "From here on `playbench` prints value and node as two
 -- columns, in the bench case too: byte 4 and bytes 6-7 for a pick, bytes 4 to 7 and 0 for other orders."
-use Rattle.std.specs.Prelude.{◌≡◌, List, [], ◌∷◌, ◌++◌, ℕ, ◌+◌, ◌*◌, ◌-◌, ◌/◌, ◌≤◌, eqb, ltb, length, take, drop, replicate}
+use Rattle.std.specs.Prelude.{◌≡◌, List, [], ◌∷◌, ◌++◌, ℕ, ◌*◌, ◌-◌, ◌/◌, ◌≤◌, eqb, ltb, length, take, drop, replicate}
 use Rattle.base.specs.Below.{list_below}
 use Rattle.base.specs.Bytes.{byte_at, word_at, long_at}
 use Rattle.base.specs.Cases.{◌∣◌, ◌⇒◌, ◌is◌⇒◌}

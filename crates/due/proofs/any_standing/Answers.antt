@@ -1,10 +1,7 @@
-use mathlib.Core.Path.{◌≡◌, sym}
-use mathlib.Core.Bool.{false}
-use Prim.Native.Nat.{◌≤◌, ◌-◌}
+use mathlib.Core.Path.{sym}
 use borrow.Author.Tests.{eq-eqb, ne_eqb}
 use borrow.Author.Rules.{rules}
 use Rattle.base.proofs.Below.{any_start, any_more, any_done, any_found}
-use Rattle.due.specs.Due.{some_is}
 use Rattle.due.proofs.any_standing.Goals as goal
 
 pub loop-i-init : goal.loop-i-init

@@ -1,10 +1,7 @@
 -- `any_standing`: the loop has found none among the processes passed. Assumes nothing.
-use mathlib.Core.Path.{◌≡◌, sym}
+use mathlib.Core.Path.{◌≡◌}
 use mathlib.Core.Bool.{false}
 use Prim.Native.Nat.{◌≤◌, ◌-◌}
-use borrow.Author.Tests.{eq-eqb, ne_eqb}
-use borrow.Author.Rules.{rules}
-use Rattle.base.proofs.Below.{any_start, any_more, any_done, any_found}
 use Rattle.due.specs.Due.{some_is}
 use Rattle.due.proofs.any_standing.Given as goal
 

@@ -1,9 +1,6 @@
-use mathlib.Core.Path.{◌≡◌}
-use Prim.Native.Nat.{◌≤◌, ◌-◌}
 use borrow.Author.Rules.{rules}
 use Rattle.rules.proofs.Earliest.{least_start, least_next, least_found, least_done}
 use Rattle.waveforms.specs.Pending.{never}
-use Rattle.due.specs.Due.{soonest_of}
 use Rattle.due.proofs.earliest.Goals as goal
 
 pub loop-i-init : goal.loop-i-init

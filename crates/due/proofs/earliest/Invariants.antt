@@ -1,9 +1,6 @@
 -- `earliest`: the loop has the least of the times passed; one that is `time` is the least of all. Assumes nothing.
 use mathlib.Core.Path.{◌≡◌}
 use Prim.Native.Nat.{◌≤◌, ◌-◌}
-use borrow.Author.Rules.{rules}
-use Rattle.rules.proofs.Earliest.{least_start, least_next, least_found, least_done}
-use Rattle.waveforms.specs.Pending.{never}
 use Rattle.due.specs.Due.{soonest_of}
 use Rattle.due.proofs.earliest.Given as goal
 

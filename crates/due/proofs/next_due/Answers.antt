@@ -1,5 +1,4 @@
 -- `next_due`: the earlier of what the two searches found. Assumes nothing.
-use borrow.Author.Rules.{rules}
 use Rattle.rules.proofs.Earliest.{earlier_found}
 use Rattle.due.proofs.next_due.Goals as goal
 

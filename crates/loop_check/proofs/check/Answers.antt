@@ -1,6 +1,5 @@
 -- `check`: a refused model's number, or the chain of the rows that are its relation. Assumes nothing.
 use mathlib.Core.Path.{refl, sym, ◌∙◌}
-use borrow.Author.Rules.{rules}
 use Rattle.chains.proofs.Rounds.{holds_none}
 use Rattle.model.proofs.Facts.{facts}
 use Rattle.loop_check.proofs.CheckLaws.{refused_is, accepted_is, chain_is, loop_laws}

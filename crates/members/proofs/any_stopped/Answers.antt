@@ -1,14 +1,7 @@
-use mathlib.Core.Path.{◌≡◌, sym}
-use mathlib.Core.Bool.{false, ◌&&◌}
-use Prim.Native.Nat.{◌≤◌, ◌-◌}
+use mathlib.Core.Path.{sym}
 use borrow.Author.Rules.{rules}
-use lib.Dec.{eqb}
-use lib.ListN.{get_or}
-use Rattle.base.specs.Below.{any_below}
 use Rattle.base.proofs.Below.{any_start, any_more, any_done, any_found}
-use Rattle.sets.specs.Sets.{in_set}
-use Rattle.rules.specs.Configuration.{stopped}
-use Rattle.rules.specs.Orders.{set_bits, some_member}
+use Rattle.rules.specs.Orders.{some_member}
 use Rattle.members.proofs.any_stopped.Goals as goal
 
 pub loop-p-init : goal.loop-p-init

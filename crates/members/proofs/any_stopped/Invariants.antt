@@ -1,15 +1,13 @@
 -- The loop has found none among the members passed. Assumes nothing.
-use mathlib.Core.Path.{◌≡◌, sym}
+use mathlib.Core.Path.{◌≡◌}
 use mathlib.Core.Bool.{false, ◌&&◌}
 use Prim.Native.Nat.{◌≤◌, ◌-◌}
-use borrow.Author.Rules.{rules}
 use lib.Dec.{eqb}
 use lib.ListN.{get_or}
 use Rattle.base.specs.Below.{any_below}
-use Rattle.base.proofs.Below.{any_start, any_more, any_done, any_found}
 use Rattle.sets.specs.Sets.{in_set}
 use Rattle.rules.specs.Configuration.{stopped}
-use Rattle.rules.specs.Orders.{set_bits, some_member}
+use Rattle.rules.specs.Orders.{set_bits}
 use Rattle.members.proofs.any_stopped.Given as goal
 
 abbrev pub invariant-loop-p : goal.invariant-loop-p

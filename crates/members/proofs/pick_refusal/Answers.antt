@@ -1,5 +1,4 @@
 -- By the two tests. Assumes nothing.
-use borrow.Author.Rules.{rules}
 use borrow.Author.Tests.{le-leb, lt-leb, eq-eqb, ne_eqb}
 use Rattle.members.proofs.pick_refusal.Goals as goal
 

@@ -1,9 +1,5 @@
 use mathlib.Core.Path.{sym, ◌∙◌}
-use mathlib.Core.Logic.{⊎_elim}
-use Prim.Native.Nat.{◌-◌}
-use borrow.Author.Rules.{rules}
-use Rattle.rules.specs.Orders.{set_bits}
-use Rattle.members.proofs.MemberLaws.{Looked, looked_none, looked_past, looked_unknown, looked_ready, looked_unready, looked_all}
+use Rattle.members.proofs.MemberLaws.{looked_none, looked_past, looked_unknown, looked_ready, looked_unready, looked_all}
 use Rattle.members.proofs.set_refusal.Goals as goal
 use Rattle.members.proofs.set_refusal.Goals.{then-has+else-p-nprocesses+then-standings-p-ne-READY, then-has+else-p-nprocesses+else-standings-p-ne-READY, else-has}
 
@@ -18,10 +14,10 @@ loop-p-preserved c =
     let inv = c.loop-p.invariant in
     let here = c.loop-p-test.true in
     elim c.if-has.branch [
-      then-has+else-p-nprocesses+then-standings-p-ne-READY w ↦
-        rw w.refusal-is (looked_unready _ _ _ inv here (sym c.has.ensures ∙ w.if-has.true) w.if-p-nprocesses.false w.if-standings-p-ne-READY.true)
+      | then-has+else-p-nprocesses+then-standings-p-ne-READY w ↦
+          rw w.refusal-is (looked_unready _ _ _ inv here (sym c.has.ensures ∙ w.if-has.true) w.if-p-nprocesses.false w.if-standings-p-ne-READY.true)
       | then-has+else-p-nprocesses+else-standings-p-ne-READY w ↦
-        rw w.refusal-is (looked_ready _ _ _ inv here (sym c.has.ensures ∙ w.if-has.true) w.if-p-nprocesses.false w.if-standings-p-ne-READY.false)
+          rw w.refusal-is (looked_ready _ _ _ inv here (sym c.has.ensures ∙ w.if-has.true) w.if-p-nprocesses.false w.if-standings-p-ne-READY.false)
       | else-has w ↦ rw w.refusal-is (looked_past _ _ _ inv here (sym c.has.ensures ∙ w.if-has.false))
     ]
 

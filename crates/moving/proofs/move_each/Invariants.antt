@@ -1,11 +1,8 @@
 -- The loop keeps `Moving`. The measure is the orders left. Assumes nothing.
-use mathlib.Core.Path.{refl}
-use Prim.Native.Nat.{◌+◌, ◌*◌, ◌-◌}
-use native.Mathlib.Omega.{arith}
-use borrow.Author.Rules.{rules}
+use Prim.Native.Nat.{◌-◌}
 use Rattle.blocks.specs.Records.{model_of}
 use Rattle.cycle.specs.View.{view_of}
-use Rattle.moving.proofs.MoveLaws.{Moving, moving_next, moving_all}
+use Rattle.moving.proofs.MoveLaws.{Moving}
 use Rattle.moving.proofs.move_each.Given as goal
 
 abbrev pub invariant-loop-i : goal.invariant-loop-i

@@ -1,5 +1,4 @@
 -- Each way by its law. Assumes nothing.
-use borrow.Author.Rules.{rules}
 use Rattle.moving.proofs.MoveLaws.{moved_delta, moved_time, moved_new, moved_other}
 use Rattle.moving.proofs.move_order.Goals as goal
 

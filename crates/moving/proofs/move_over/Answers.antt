@@ -2,8 +2,6 @@
 use mathlib.Core.Path.{◌≡◌, sym, ◌∙◌}
 use mathlib.Core.Bool.{true}
 use native.Mathlib.Omega.{arith}
-use borrow.Author.Rules.{rules}
-use borrow.Author.Tests.{not-true, not-false}
 use Rattle.expressions.proofs.Runs.{runs}
 use Rattle.model.specs.Rules.{refusal_of}
 use Rattle.session.specs.Sessions.{orders_ok}

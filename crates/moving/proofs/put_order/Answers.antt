@@ -1,5 +1,4 @@
 -- The four bytes one by one. Assumes nothing.
-use borrow.Author.Rules.{rules}
 use Rattle.moving.proofs.MoveLaws.{four_set}
 use Rattle.moving.proofs.put_order.Goals as goal
 

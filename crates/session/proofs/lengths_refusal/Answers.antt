@@ -2,8 +2,7 @@
 use mathlib.Core.Path.{◌≡◌, sym, ◌∙◌}
 use mathlib.Core.Bool.{true}
 use native.Mathlib.Omega.{arith}
-use borrow.Author.Rules.{rules}
-use borrow.Author.Tests.{not-true, not-false, eq-eqb, ne_eqb}
+use borrow.Author.Tests.{eq-eqb, ne_eqb}
 use Rattle.session.specs.Sessions.{orders_ok, buffer_ok}
 use Rattle.session.proofs.SessionLaws.{nine, ten, neither, orders_few}
 use Rattle.session.proofs.lengths_refusal.Goals as goal

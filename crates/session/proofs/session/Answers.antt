@@ -1,6 +1,5 @@
 -- Each answer by the laws of a session, from what loading, the length rules and the play say. Assumes nothing.
 use mathlib.Core.Path.{◌≡◌, refl, sym, ◌∙◌}
-use borrow.Author.Rules.{rules}
 use Rattle.model.specs.Rules.{refusal_of}
 use Rattle.expressions.proofs.Runs.{runs}
 use Rattle.session.proofs.SessionLaws.{room, model_refused, model_accepted, refused_session, played_session}

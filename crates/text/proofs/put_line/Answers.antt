@@ -4,7 +4,6 @@ use mathlib.Core.List.{List}
 use native.Mathlib.Omega.{arith}
 use Prim.Native.Nat.{ℕ, ◌+◌, ◌≤◌, ◌<◌}
 use lib.ListN.{length}
-use borrow.Author.Rules.{rules}
 use Rattle.numerals.proofs.PutLaws.{behind, said}
 use Rattle.text.specs.Text.{columns, line_of, line_most}
 use Rattle.text.proofs.TextLaws.{columns_most, columns_line}

@@ -1,10 +1,7 @@
 use mathlib.Core.Path.{◌∙◌}
-use Prim.Native.Nat.{◌-◌}
 use native.Mathlib.Omega.{arith}
-use borrow.Author.Rules.{rules}
-use Rattle.numerals.proofs.PutLaws.{Putting, putting_none, putting_next, putting_all, said}
-use Rattle.text.specs.Text.{line_most}
-use Rattle.text.proofs.PrintLaws.{line_at, line_at_lem, all_lines}
+use Rattle.numerals.proofs.PutLaws.{putting_none, putting_next, putting_all, said}
+use Rattle.text.proofs.PrintLaws.{line_at_lem, all_lines}
 use Rattle.text.proofs.put_lines.Goals as goal
 
 pub loop-i-init : goal.loop-i-init
@@ -15,7 +12,7 @@ byte-kind-requires c = omega (arith, c.loop-i-test.true, c.requires.answers_len)
 
 pub loop-i-preserved : goal.loop-i-preserved
 loop-i-preserved c =
-        putting_next c.loop-i.invariant c.loop-i-test.true c.put_line-at.auto.out c.put_line-at.ensures.upper_bound
+    putting_next c.loop-i.invariant c.loop-i-test.true c.put_line-at.auto.out c.put_line-at.ensures.upper_bound
     (said (line_at_lem c.args.orders.now c.args.answers.now _ c.byte-kind.ensures.value) c.put_line-at.ensures.puts)
 
 pub returns : goal.returns

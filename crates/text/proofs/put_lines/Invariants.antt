@@ -1,11 +1,8 @@
 -- The loop puts the line of each answer. The measure is the answers left. Assumes nothing.
-use mathlib.Core.Path.{◌∙◌}
 use Prim.Native.Nat.{◌-◌}
-use native.Mathlib.Omega.{arith}
-use borrow.Author.Rules.{rules}
-use Rattle.numerals.proofs.PutLaws.{Putting, putting_none, putting_next, putting_all, said}
+use Rattle.numerals.proofs.PutLaws.{Putting}
 use Rattle.text.specs.Text.{line_most}
-use Rattle.text.proofs.PrintLaws.{line_at, line_at_lem, all_lines}
+use Rattle.text.proofs.PrintLaws.{line_at}
 use Rattle.text.proofs.put_lines.Given as goal
 
 abbrev pub invariant-loop-i : goal.invariant-loop-i

@@ -1,6 +1,5 @@
 -- The digits, and the character behind them. Assumes nothing.
 use native.Mathlib.Omega.{arith}
-use borrow.Author.Rules.{rules}
 use Rattle.numerals.proofs.NumeralLaws.{decimal_short}
 use Rattle.numerals.proofs.PutLaws.{behind}
 use Rattle.text.proofs.put_number.Goals as goal

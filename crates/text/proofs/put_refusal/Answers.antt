@@ -1,6 +1,5 @@
 -- The number's text has room. Assumes nothing.
 use native.Mathlib.Omega.{arith}
-use borrow.Author.Rules.{rules}
 use Rattle.text.proofs.put_refusal.Goals as goal
 
 pub returns : goal.returns

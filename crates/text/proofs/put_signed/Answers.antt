@@ -1,6 +1,5 @@
 -- By the sign. Assumes nothing.
 use native.Mathlib.Omega.{arith}
-use borrow.Author.Rules.{rules}
 use Rattle.numerals.proofs.PutLaws.{behind}
 use Rattle.text.proofs.TextLaws.{not_negative, negative}
 use Rattle.text.proofs.put_signed.Goals as goal

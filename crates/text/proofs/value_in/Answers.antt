@@ -1,6 +1,5 @@
 -- By the kind of the order. Assumes nothing.
 use native.Mathlib.Omega.{arith}
-use borrow.Author.Rules.{rules}
 use borrow.Author.Tests.{eq-eqb, ne_eqb}
 use Rattle.text.proofs.value_in.Goals as goal
 

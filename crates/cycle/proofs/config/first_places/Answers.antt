@@ -1,11 +1,9 @@
 use mathlib.Core.Path.{ap, refl}
-use Prim.Native.Nat.{◌≤◌, ◌-◌, zero-le}
+use Prim.Native.Nat.{zero-le}
 use borrow.Author.Count.{falls}
 use Rattle.base.proofs.Turns.{turn_there, turn_room, turn_eights, turn_next, turn_most}
 use Rattle.blocks.specs.declared.records.ProcessRecord.{ProcessRecord}
-use Rattle.blocks.specs.Records.{model_of}
-use Rattle.cycle.specs.Arrays.{process_first}
-use Rattle.cycle.proofs.Arrays.{Filled, filled_none, filled_more, filled_all}
+use Rattle.cycle.proofs.Arrays.{filled_none, filled_more, filled_all}
 use Rattle.cycle.proofs.config.first_places.Goals as goal
 
 pub loop-i-init : goal.loop-i-init

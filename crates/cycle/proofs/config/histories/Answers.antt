@@ -1,9 +1,7 @@
 use mathlib.Core.Path.{refl}
 use native.Mathlib.Omega.{arith}
 use borrow.Author.Rules.{rules}
-use Prim.Native.Nat.{◌≤◌, ◌-◌, ◌*◌}
-use Rattle.cycle.specs.Arrays.{value_at}
-use Rattle.cycle.proofs.Arrays.{Filled, filled_none, filled_more, filled_all}
+use Rattle.cycle.proofs.Arrays.{filled_none, filled_more, filled_all}
 use Rattle.cycle.proofs.config.histories.Goals as goal
 
 pub loop-i-init : goal.loop-i-init

@@ -1,9 +1,6 @@
-use mathlib.Core.Path.{refl}
-use native.Mathlib.Omega.{arith}
-use borrow.Author.Rules.{rules}
 use Prim.Native.Nat.{◌≤◌, ◌-◌, ◌*◌}
 use Rattle.cycle.specs.Arrays.{value_at}
-use Rattle.cycle.proofs.Arrays.{Filled, filled_none, filled_more, filled_all}
+use Rattle.cycle.proofs.Arrays.{Filled}
 use Rattle.cycle.proofs.config.histories.Given as goal
 
 abbrev pub invariant-loop-i : goal.invariant-loop-i

@@ -1,5 +1,4 @@
 -- By the order's picks. Assumes nothing.
-use borrow.Author.Rules.{rules}
 use Rattle.cycle.proofs.picks.refusal_of.Goals as goal
 
 pub returns-in-One : goal.returns-in-One

@@ -1,5 +1,4 @@
 -- By the refusal, then by the order's picks. Assumes nothing.
-use borrow.Author.Rules.{rules}
 use borrow.Author.Tests.{eq-eqb, ne_eqb}
 use Rattle.cycle.proofs.picks.turns_of.Goals as goal
 

@@ -1,5 +1,4 @@
 -- `assign`: by the value. Assumes nothing.
-use borrow.Author.Rules.{rules}
 use Rattle.expressions.proofs.effect.assign.Goals as goal
 
 pub returns-in-Fault : goal.returns-in-Fault

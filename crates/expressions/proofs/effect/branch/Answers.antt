@@ -1,5 +1,4 @@
 -- `branch`: by the value. Assumes nothing.
-use borrow.Author.Rules.{rules}
 use borrow.Author.Tests.{eq-eqb, ne_eqb}
 use Rattle.expressions.proofs.effect.branch.Goals as goal
 

@@ -76,7 +76,7 @@ returns-in-1 c = rw (← c.statement_at-s.ensures, c.in-1.is, ← c.eval.ensures
 
 pub returns-in-2 : goal.returns-in-2
 returns-in-2 c =
-        let driver = rw (← c.statement_at-s.ensures) at c.assignment_driver.ensures in
+    let driver = rw (← c.statement_at-s.ensures) at c.assignment_driver.ensures in
     rw (← c.statement_at-s.ensures)
     (c.assign.ensures ∙ rw (c.eval-v.ensures, c.eval-in-2.ensures, driver, c.mechanism_of.ensures) (assigned _ _ _ _ c.in-2.is))
 

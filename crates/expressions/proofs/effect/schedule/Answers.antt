@@ -1,5 +1,4 @@
 -- `schedule`: by the delay. Assumes nothing.
-use borrow.Author.Rules.{rules}
 use Rattle.rules.specs.declared.effect.Effect.TheVariants.{Schedule}
 use Rattle.expressions.proofs.Statements.{delay_fault, delay_negative, delay_kept}
 use Rattle.expressions.proofs.effect.schedule.Goals as goal

@@ -1,5 +1,4 @@
 -- `wait_for`: by the delay. Assumes nothing.
-use borrow.Author.Rules.{rules}
 use Rattle.rules.specs.declared.effect.Effect.TheVariants.{WaitFor}
 use Rattle.expressions.proofs.Statements.{delay_fault, delay_negative, delay_kept}
 use Rattle.expressions.proofs.effect.wait_for.Goals as goal

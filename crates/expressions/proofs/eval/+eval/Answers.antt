@@ -3,34 +3,11 @@
 use mathlib.Core.Path.{◌∙◌, refl, sym}
 use native.Mathlib.Omega.{arith}
 use borrow.Author.Rules.{rules}
-use Prim.Native.Nat.{ℕ, ◌<◌}
-use borrow.Fn.Kinds.{In}
-use borrow.Fn.PlainCycle.{Measures, is, falls, and}
 use Rattle.values.specs.Operators.{and_of, or_of}
-use Rattle.blocks.proofs.index.node_at.Reads as node-at-reads
-use Rattle.trees.proofs.types.type_at.Reads as type-at-reads
 use Rattle.rules.specs.Evaluation.{value_by}
 use Rattle.rules.proofs.Evaluation.{delay_held}
 use Rattle.expressions.proofs.Logical.{decides}
 use Rattle.expressions.proofs.Recursion.{call_a, call_b, type_call, variable_below, signal_below, delay_below, no_other, leaf_value, unary_value, binary_value}
-use Rattle.expressions.proofs.eval.eval.Reads as eval
-use Rattle.expressions.proofs.eval.eval.Kinds as eval-kinds
-use Rattle.expressions.proofs.eval.delayed.Reads as delayed-reads
-use Rattle.expressions.proofs.eval.signal_of.Reads as signal-of-reads
-use Rattle.expressions.proofs.eval.variable_of.Reads as variable-of-reads
-use Rattle.expressions.proofs.operators.and.Reads as and-reads
-use Rattle.expressions.proofs.operators.decided.Reads as decided-reads
-use Rattle.expressions.proofs.operators.divide.Reads as divide-reads
-use Rattle.expressions.proofs.operators.equal.Reads as equal-reads
-use Rattle.expressions.proofs.operators.less.Reads as less-reads
-use Rattle.expressions.proofs.operators.minus.Reads as minus-reads
-use Rattle.expressions.proofs.operators.negate.Reads as negate-reads
-use Rattle.expressions.proofs.operators.not.Reads as not-reads
-use Rattle.expressions.proofs.operators.or.Reads as or-reads
-use Rattle.expressions.proofs.operators.plus.Reads as plus-reads
-use Rattle.expressions.proofs.operators.product.Reads as product-reads
-use Rattle.expressions.proofs.operators.xor.Reads as xor-reads
-use Rattle.expressions.proofs.eval.+eval.{statement}
 use Rattle.expressions.proofs.eval.+eval.Goals as goal
 
 pub node_at-d-requires : goal.node_at-d-requires
@@ -55,11 +32,10 @@ delayed-requires t c = search rules
 
 pub signal_of-requires-in-5 : goal.signal_of-requires-in-5
 unfolding value_by
-signal_of-requires-in-5 t c =
-    (
-      signal_below (c.decreases, (c.requires.runs, c.requires.n_in_bounds)) c.node_at-d.ensures (omega arith) (omega arith),
-      rw c.delayed.ensures (delay_held _ (delay_below (c.decreases, (c.requires.runs, c.requires.n_in_bounds)) c.node_at-d.ensures c.in-5.is)),
-    )
+signal_of-requires-in-5 t c = (
+  signal_below (c.decreases, (c.requires.runs, c.requires.n_in_bounds)) c.node_at-d.ensures (omega arith) (omega arith),
+  rw c.delayed.ensures (delay_held _ (delay_below (c.decreases, (c.requires.runs, c.requires.n_in_bounds)) c.node_at-d.ensures c.in-5.is)),
+)
 
 pub type_at-requires : goal.type_at-requires
 unfolding value_by

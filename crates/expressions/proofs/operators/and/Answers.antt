@@ -1,6 +1,5 @@
 -- `and`: by the operands, then by the type. Assumes nothing.
 use mathlib.Core.Path.{refl, ap, ◌∙◌}
-use borrow.Author.Rules.{rules}
 use borrow.Author.Tests.{eq-eqb, ne_eqb}
 use Rattle.values.specs.Operators.{and_of}
 use Rattle.rules.specs.declared.value.Value.TheVariants.{Of}

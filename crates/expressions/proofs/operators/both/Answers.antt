@@ -1,5 +1,4 @@
 -- By the operands. Assumes nothing.
-use borrow.Author.Rules.{rules}
 use Rattle.expressions.proofs.operators.both.Goals as goal
 
 pub returns-in-Fault : goal.returns-in-Fault

@@ -1,5 +1,4 @@
 -- `decided` is `decided_by`. Assumes nothing.
-use borrow.Author.Rules.{rules}
 use Rattle.expressions.proofs.operators.decided.Goals as goal
 
 pub returns-in-Of : goal.returns-in-Of

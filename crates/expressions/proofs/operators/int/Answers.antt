@@ -1,6 +1,5 @@
 -- `int`: 32 bits below half are the integer, any other are 2 ^ 32 above it. Assumes nothing.
 use mir.Facts.{to_z-of_z}
-use borrow.Author.Rules.{rules}
 use Rattle.rules.proofs.Signed.{int_high, int_fits, int_low}
 use Rattle.expressions.proofs.operators.int.Goals as goal
 

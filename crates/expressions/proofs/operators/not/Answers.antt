@@ -1,6 +1,5 @@
 -- `not`: by the operand, then by the type. Assumes nothing.
 use mathlib.Core.Path.{ap}
-use borrow.Author.Rules.{rules}
 use borrow.Author.Tests.{eq-eqb, ne_eqb}
 use lib.Dec.{eqb}
 use Rattle.base.proofs.Cases.{either}

@@ -1,6 +1,5 @@
 -- `xor`: by the operands, then by the type. Assumes nothing.
 use mathlib.Core.Path.{refl, ap, ◌∙◌}
-use borrow.Author.Rules.{rules}
 use borrow.Author.Tests.{eq-eqb, ne_eqb}
 use lib.Dec.{eqb}
 use Rattle.trees.specs.Trees.{boolean}

@@ -28,7 +28,7 @@ no5 c e = c.in-6.in_default-own.rest.1 (inr e)
 pub returns-in-6 : goal.returns-in-6
 unfolding is_known
 returns-in-6 c =
-        let kind = c.args.kind in
+    let kind = c.args.kind in
     ⊎_elim
     (λ (h : kind < 7). let e : kind ≡ 6 = omega (arith, c.in-6.if-kind-lt3-own.false, no3 c, no4 c, no5 c) in rw e)
     (λ (h : 7 ≤ kind). let e : kind ≡ 7 = omega (arith, c.in-6.if-kind-lt8-own.true) in rw e)
@@ -50,7 +50,7 @@ no5_2 c e = c.in_default.in_default-own.rest.1 (inr e)
 pub returns-in_default : goal.returns-in_default
 unfolding is_known
 returns-in_default c =
-        let kind = c.args.kind in
+    let kind = c.args.kind in
     let low : kind < 3 = c.in_default.if-kind-lt3-own.true in
     rw (ne_eqb kind 1 (no1 c), ne_eqb kind 3 (no3_2 c), ne_eqb kind 4 (no4_2 c), ne_eqb kind 5 (no5_2 c), ne_eqb kind 6 (λ e. omega arith), ne_eqb kind 7 (λ e. omega arith))
 
@@ -70,6 +70,6 @@ no5_3 c e = c.in_default.in_default-own.rest.1 (inr e)
 pub returns-in_default-2 : goal.returns-in_default-2
 unfolding is_known
 returns-in_default-2 c =
-        let kind = c.args.kind in
+    let kind = c.args.kind in
     let high : 8 ≤ kind = c.in_default.if-kind-lt8-own.false in
     rw (ne_eqb kind 1 (no1_2 c), ne_eqb kind 3 (no3_3 c), ne_eqb kind 4 (no4_3 c), ne_eqb kind 5 (no5_3 c), ne_eqb kind 6 (λ e. omega arith), ne_eqb kind 7 (λ e. omega arith))

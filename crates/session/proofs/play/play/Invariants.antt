@@ -1,14 +1,9 @@
 -- The loop keeps `Playing`; what the order gave goes on to the next order by `playing_next`. The measure is the orders left. Assumes
 -- nothing.
-use mathlib.Core.Logic.{⊎_elim}
-use Prim.Native.Nat.{◌+◌, ◌*◌, ◌-◌, ◌<◌}
-use native.Mathlib.Omega.{arith}
-use borrow.Author.Rules.{rules}
+use Prim.Native.Nat.{◌-◌}
 use Rattle.blocks.specs.Records.{model_of}
 use Rattle.cycle.specs.View.{view_of}
-use Rattle.cycle.proofs.Advances.{few_signals}
-use Rattle.session.specs.Lists.{played_by}
-use Rattle.session.proofs.PlayLaws.{Playing, Reading, playing_next, refused_gives, picks_give, delta_gives, time_gives, read_gives, no_orders, all_written}
+use Rattle.session.proofs.PlayLaws.{Playing}
 use Rattle.session.proofs.play.play.Given as goal
 
 abbrev pub invariant-loop-i : goal.invariant-loop-i

@@ -1,11 +1,6 @@
-use mathlib.Core.Logic.{⊎_elim}
-use Prim.Native.Nat.{◌≤◌, ◌-◌}
 use mathlib.Core.Path.{ap}
 use borrow.Author.Rules.{rules}
-use Rattle.sets.specs.Sets.{SetOf}
-use Rattle.blocks.specs.Records.{model_of}
 use Rattle.blocks.specs.declared.records.DriverRecord.{DriverRecord}
-use Rattle.steps.specs.Delta.{active_in}
 use Rattle.steps.proofs.DeltaSignals.{active_none, active_more, active_same, active_all, signal_below}
 use Rattle.steps.proofs.delta.actives.Goals as goal
 use Rattle.steps.proofs.delta.actives.Goals.{then-due-k, else-due-k}
@@ -20,14 +15,13 @@ pub with-active-requires : goal.with-active-requires
 with-active-requires c = signal_below _ c.requires.runs.facts _ _ (search rules) c.driver_at-d.ensures
 
 pub loop-k-preserved : goal.loop-k-preserved
-loop-k-preserved c =
-    (
-      search rules,
-      elim c.if-due-k.branch [
-        then-due-k w ↦ rw w.active-is (active_more _ _ _ _ _ _ _ (ap (λ (d : DriverRecord). d.signal) w.driver_at-d.ensures) w.if-due-k.true w.with-active.ensures c.loop-k.invariant.1)
-        | else-due-k w ↦ rw w.active-is (active_same _ _ _ _ _ w.if-due-k.false c.loop-k.invariant.1)
-      ],
-    )
+loop-k-preserved c = (
+  search rules,
+  elim c.if-due-k.branch [
+    | then-due-k w ↦ rw w.active-is (active_more _ _ _ _ _ _ _ (ap (λ (d : DriverRecord). d.signal) w.driver_at-d.ensures) w.if-due-k.true w.with-active.ensures c.loop-k.invariant.1)
+    | else-due-k w ↦ rw w.active-is (active_same _ _ _ _ _ w.if-due-k.false c.loop-k.invariant.1)
+  ],
+)
 
 pub returns : goal.returns
 returns c = active_all _ _ _ _ _ _ c.loop-k.invariant.0 c.loop-k-test.false c.loop-k.invariant.1

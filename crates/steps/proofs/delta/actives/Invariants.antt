@@ -1,13 +1,8 @@
 -- `actives`: the set has a signal where a driver of it, of those passed, has a transaction due. Assumes nothing.
-use mathlib.Core.Logic.{⊎_elim}
 use Prim.Native.Nat.{◌≤◌, ◌-◌}
-use mathlib.Core.Path.{ap}
-use borrow.Author.Rules.{rules}
 use Rattle.sets.specs.Sets.{SetOf}
 use Rattle.blocks.specs.Records.{model_of}
-use Rattle.blocks.specs.declared.records.DriverRecord.{DriverRecord}
 use Rattle.steps.specs.Delta.{active_in}
-use Rattle.steps.proofs.DeltaSignals.{active_none, active_more, active_same, active_all, signal_below}
 use Rattle.steps.proofs.delta.actives.Given as goal
 
 abbrev pub invariant-loop-k : goal.invariant-loop-k

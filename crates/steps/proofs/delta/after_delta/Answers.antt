@@ -1,6 +1,5 @@
 -- `after_delta` is `after_delta`: one case after the other. Assumes nothing.
 use mathlib.Core.Path.{sym, ◌∙◌}
-use borrow.Author.Rules.{rules}
 use Rattle.steps.proofs.DeltaProcesses.{at_place, place_there, condition_there, not_waiting, at_deadline, after_change, no_change}
 use Rattle.steps.proofs.delta.after_delta.Goals as goal
 

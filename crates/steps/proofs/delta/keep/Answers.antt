@@ -1,8 +1,4 @@
-use mathlib.Core.Path.{◌≡◌}
-use Prim.Native.Nat.{◌≤◌, ◌-◌}
-use lib.ListN.{length}
 use borrow.Author.Rules.{rules}
-use Rattle.steps.specs.Delta.{KeptTo}
 use Rattle.steps.proofs.DeltaSignals.{kept_none, kept_more, kept_all}
 use Rattle.steps.proofs.delta.keep.Goals as goal
 

@@ -1,12 +1,9 @@
 -- `resolve`: the signals passed have their new values. Assumes nothing.
-use mathlib.Core.Logic.{⊎_elim}
 use Prim.Native.Nat.{◌≤◌, ◌-◌}
-use mathlib.Core.Path.{◌≡◌, refl, sym, ◌∙◌}
-use lib.ListN.{length, length-set}
-use borrow.Author.Rules.{rules}
+use mathlib.Core.Path.{◌≡◌}
+use lib.ListN.{length}
 use Rattle.blocks.specs.Records.{model_of}
 use Rattle.steps.specs.Delta.{ResolvedTo}
-use Rattle.steps.proofs.DeltaSignals.{resolved_none, resolved_same, resolved_more, resolved_all}
 use Rattle.steps.proofs.delta.resolve.Given as goal
 
 abbrev pub invariant-loop-s : goal.invariant-loop-s

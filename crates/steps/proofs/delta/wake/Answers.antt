@@ -1,5 +1,4 @@
-use mathlib.Core.Logic.{⊎_elim}
-use Prim.Native.Nat.{◌+◌, ◌*◌, ◌-◌, ◌≤◌, ◌<◌, zero-le}
+use Prim.Native.Nat.{◌+◌, ◌*◌, ◌<◌, zero-le}
 use borrow.Author.Count.{falls}
 use borrow.Author.Rules.{length_unmapped}
 use lib.ListN.{length}
@@ -7,8 +6,7 @@ use mir.Syntax.{w64}
 use mir.Val.{Fits}
 use Rattle.base.proofs.Turns.{turn_there, turn_room, turn_fours, turn_eights, turn_next, turn_most}
 use Rattle.blocks.specs.Records.{model_of}
-use Rattle.expressions.specs.Reading.{arrays}
-use Rattle.steps.proofs.DeltaProcesses.{Waking, waking_none, waking_valid, waking_more, waking_same, waking_all}
+use Rattle.steps.proofs.DeltaProcesses.{waking_none, waking_valid, waking_more, waking_same, waking_all}
 use Rattle.steps.proofs.delta.wake.Goals as goal
 use Rattle.steps.proofs.delta.wake.Goals.{then-r-q, else-r-q}
 
@@ -134,14 +132,13 @@ small_7 : (c : goal.Joined-r-q) → c.loop-p.p < 16
 small_7 c = turn_room 16 _ _ _ c.requires.nprocesses_value c.requires.runs.facts.totals.processes c.loop-p-test.true
 
 pub loop-p-preserved : goal.loop-p-preserved
-loop-p-preserved c =
-    (
-      turn_most _ _ c.loop-p-test.true,
-      elim c.if-r-q.branch [
-        then-r-q w ↦ rw w.ps-is (waking_more _ _ _ _ _ _ _ _ (small_7 c) c.after_delta-r.ensures c.loop-p.invariant.1)
-        | else-r-q w ↦ rw w.ps-is (waking_same _ _ _ _ _ _ _ c.after_delta-r.result c.after_delta-r.ensures w.if-r-q.false c.loop-p.invariant.1)
-      ],
-    )
+loop-p-preserved c = (
+  turn_most _ _ c.loop-p-test.true,
+  elim c.if-r-q.branch [
+    | then-r-q w ↦ rw w.ps-is (waking_more _ _ _ _ _ _ _ _ (small_7 c) c.after_delta-r.ensures c.loop-p.invariant.1)
+    | else-r-q w ↦ rw w.ps-is (waking_same _ _ _ _ _ _ _ c.after_delta-r.result c.after_delta-r.ensures w.if-r-q.false c.loop-p.invariant.1)
+  ],
+)
 
 pub returns : goal.returns
 returns c = waking_all _ _ _ _ _ _ _ _ c.loop-p.invariant.0 c.loop-p-test.false c.loop-p.invariant.1

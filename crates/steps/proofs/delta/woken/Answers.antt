@@ -1,5 +1,4 @@
 -- `woken` is `wakes`. Assumes nothing.
-use borrow.Author.Rules.{rules}
 use Rattle.steps.proofs.DeltaProcesses.{woken_is}
 use Rattle.steps.proofs.delta.woken.Goals as goal
 

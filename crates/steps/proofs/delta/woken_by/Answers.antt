@@ -1,5 +1,4 @@
 -- `woken_by` is `woken_by`. Assumes nothing.
-use borrow.Author.Rules.{rules}
 use Rattle.steps.proofs.DeltaProcesses.{by_fault, by_true, by_false}
 use Rattle.steps.proofs.delta.woken_by.Goals as goal
 

@@ -1,13 +1,11 @@
 use mathlib.Core.Path.{sym, ap}
-use mathlib.Core.Logic.{⊎_elim}
 use borrow.Author.Rules.{rules}
 use native.Mathlib.Omega.{arith}
-use Prim.Native.Nat.{◌-◌, ◌≤◌, ◌<◌}
+use Prim.Native.Nat.{◌≤◌, ◌<◌}
 use lib.ListN.{length}
 use lib.Seq.{length-take-le}
 use Rattle.blocks.specs.declared.records.DriverRecord.{DriverRecord}
-use Rattle.blocks.specs.Records.{model_of}
-use Rattle.steps.proofs.Resolving.{Gathered, gathered_none, gathered_more, gathered_same, gathered_all, none_drives, some_drive}
+use Rattle.steps.proofs.Resolving.{gathered_none, gathered_more, gathered_same, gathered_all, none_drives, some_drive}
 use Rattle.steps.proofs.resolve.resolved.Goals as goal
 use Rattle.steps.proofs.resolve.resolved.Goals.{then-d-s, else-d-s}
 
@@ -37,7 +35,7 @@ loop-k-preserved c =
     let h : c.loop-k.k < 64 = omega (arith, c.requires.ndrivers_value, c.requires.runs.facts.totals.drivers, c.loop-k-test.true) in (
       search rules,
       elim c.if-d-s.branch [
-        then-d-s w ↦ rw (w.driving-is, w.n-is) (gathered_more _ _ _ c.loop-k.k _ _ h _ d c.loop-k.invariant.1 w.if-d-s.true)
+        | then-d-s w ↦ rw (w.driving-is, w.n-is) (gathered_more _ _ _ c.loop-k.k _ _ h _ d c.loop-k.invariant.1 w.if-d-s.true)
         | else-d-s w ↦ rw (w.driving-is, w.n-is) (gathered_same _ _ _ c.loop-k.k _ _ h _ d c.loop-k.invariant.1 w.if-d-s.false)
       ],
     )
@@ -68,5 +66,5 @@ few_3 c =
 
 pub returns : goal.returns
 returns c =
-        some_drive _ _ _ _ _ c.loop-k.driving _ c.if-n-eq0.false (few_3 c) c.requires.runs.usable.table.table c.resolve_by.ensures
+    some_drive _ _ _ _ _ c.loop-k.driving _ c.if-n-eq0.false (few_3 c) c.requires.runs.usable.table.table c.resolve_by.ensures
     (gathered_all _ _ _ _ _ _ _ c.loop-k.invariant.0 c.loop-k-test.false c.loop-k.invariant.1)

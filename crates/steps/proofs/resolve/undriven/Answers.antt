@@ -1,4 +1,3 @@
-use borrow.Author.Rules.{rules}
 use borrow.Author.Tests.{eq-eqb, ne_eqb}
 use Rattle.rules.specs.Steps.{undriven}
 use Rattle.steps.proofs.resolve.undriven.Goals as goal

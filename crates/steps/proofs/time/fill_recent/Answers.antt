@@ -1,8 +1,5 @@
 use mathlib.Core.Path.{refl}
-use Prim.Native.Nat.{◌+◌, ◌≤◌}
-use lib.ListN.{get_or}
 use borrow.Author.Rules.{rules}
-use Rattle.steps.specs.Shift.{Between}
 use Rattle.steps.proofs.Shifts.{between_none, between_turn, between_all}
 use Rattle.steps.proofs.time.fill_recent.Goals as goal
 

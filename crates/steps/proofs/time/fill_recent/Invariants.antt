@@ -1,10 +1,7 @@
 -- `fill_recent`: the entries passed have the first's value, the others stand. Assumes nothing.
-use mathlib.Core.Path.{refl}
 use Prim.Native.Nat.{◌+◌, ◌≤◌}
 use lib.ListN.{get_or}
-use borrow.Author.Rules.{rules}
 use Rattle.steps.specs.Shift.{Between}
-use Rattle.steps.proofs.Shifts.{between_none, between_turn, between_all}
 use Rattle.steps.proofs.time.fill_recent.Given as goal
 
 abbrev pub invariant-loop-j : goal.invariant-loop-j

@@ -1,7 +1,4 @@
-use Prim.Native.Nat.{◌+◌, ◌-◌, ◌≤◌, ◌<◌}
-use lib.ListN.{get_or}
 use borrow.Author.Rules.{rules}
-use Rattle.steps.specs.Shift.{Between}
 use Rattle.steps.proofs.Shifts.{between_none, between_turn, between_all}
 use Rattle.steps.proofs.time.move_past.Goals as goal
 

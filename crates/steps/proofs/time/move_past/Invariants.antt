@@ -1,9 +1,7 @@
 -- `move_past`: the entries passed have moved, the others stand. Assumes nothing.
 use Prim.Native.Nat.{◌+◌, ◌-◌, ◌≤◌, ◌<◌}
 use lib.ListN.{get_or}
-use borrow.Author.Rules.{rules}
 use Rattle.steps.specs.Shift.{Between}
-use Rattle.steps.proofs.Shifts.{between_none, between_turn, between_all}
 use Rattle.steps.proofs.time.move_past.Given as goal
 
 abbrev pub invariant-loop-j : goal.invariant-loop-j

@@ -1,8 +1,4 @@
-use mathlib.Core.Path.{◌≡◌}
-use Prim.Native.Nat.{◌-◌, ◌≤◌}
-use lib.ListN.{length}
 use borrow.Author.Rules.{rules}
-use Rattle.steps.specs.Shift.{ShiftedBy}
 use Rattle.steps.proofs.Shifts.{shift_none, shift_turn, shift_all}
 use Rattle.steps.proofs.time.shift.Goals as goal
 

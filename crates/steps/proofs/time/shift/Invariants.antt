@@ -2,9 +2,7 @@
 use mathlib.Core.Path.{◌≡◌}
 use Prim.Native.Nat.{◌-◌, ◌≤◌}
 use lib.ListN.{length}
-use borrow.Author.Rules.{rules}
 use Rattle.steps.specs.Shift.{ShiftedBy}
-use Rattle.steps.proofs.Shifts.{shift_none, shift_turn, shift_all}
 use Rattle.steps.proofs.time.shift.Given as goal
 
 abbrev pub invariant-loop-s : goal.invariant-loop-s

@@ -1,5 +1,4 @@
 -- `holds`: by what v is; a word that holds no null is its value. Assumes nothing.
-use borrow.Author.Rules.{rules}
 use Rattle.waveforms.proofs.Held.{holds_value, holds_null}
 use Rattle.waveforms.proofs.driver.holds.Goals as goal
 

@@ -1,6 +1,4 @@
 use borrow.Author.Count.{below_more}
-use Prim.Native.Nat.{ℕ, ◌≤◌, ◌<◌, ◌-◌}
-use lib.ListN.{get_or}
 use borrow.Author.Rules.{rules}
 use Rattle.waveforms.proofs.driver.kept.Goals as goal
 

@@ -1,7 +1,5 @@
-use borrow.Author.Count.{below_more}
 use Prim.Native.Nat.{ℕ, ◌≤◌, ◌<◌, ◌-◌}
 use lib.ListN.{get_or}
-use borrow.Author.Rules.{rules}
 use Rattle.waveforms.proofs.driver.kept.Given as goal
 
 abbrev pub invariant-loop-n : goal.invariant-loop-n

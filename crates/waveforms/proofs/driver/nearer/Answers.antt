@@ -1,11 +1,11 @@
-use Prim.Native.Nat.{◌≤◌, ◌-◌}
+use Prim.Native.Nat.{◌≤◌}
 use native.Mathlib.Nat.{le_refl}
 use native.Mathlib.Omega.{arith}
 use lib.ListN.{get_or}
 use mir.Syntax.{w32}
 use mir.Val.{Fits}
 use borrow.Author.Rules.{rules}
-use Rattle.waveforms.proofs.Drivers.{Nearing, nearing_none, nearing_more, nearing_all}
+use Rattle.waveforms.proofs.Drivers.{nearing_none, nearing_more, nearing_all}
 use Rattle.waveforms.proofs.driver.nearer.Goals as goal
 
 pub loop-i-init : goal.loop-i-init

@@ -1,12 +1,6 @@
 -- `nearer`: the times passed are n less, the others stand. Assumes nothing.
 use Prim.Native.Nat.{◌≤◌, ◌-◌}
-use native.Mathlib.Nat.{le_refl}
-use native.Mathlib.Omega.{arith}
-use lib.ListN.{get_or}
-use mir.Syntax.{w32}
-use mir.Val.{Fits}
-use borrow.Author.Rules.{rules}
-use Rattle.waveforms.proofs.Drivers.{Nearing, nearing_none, nearing_more, nearing_all}
+use Rattle.waveforms.proofs.Drivers.{Nearing}
 use Rattle.waveforms.proofs.driver.nearer.Given as goal
 
 abbrev pub invariant-loop-i : goal.invariant-loop-i

@@ -1,7 +1,5 @@
 use native.Mathlib.Omega.{arith}
 use borrow.Author.Rules.{rules}
-use borrow.Author.Tests.{not-true, not-false}
-use Rattle.waveforms.specs.Waveform.{Run}
 use Rattle.waveforms.proofs.Schedules.{run_none, run_more, run_stops, run_whole}
 use Rattle.waveforms.proofs.driver.run_start.Goals as goal
 

@@ -1,9 +1,5 @@
 -- `run_start`: back from the last, as long as the value is that of v. Assumes nothing.
-use native.Mathlib.Omega.{arith}
-use borrow.Author.Rules.{rules}
-use borrow.Author.Tests.{not-true, not-false}
 use Rattle.waveforms.specs.Waveform.{Run}
-use Rattle.waveforms.proofs.Schedules.{run_none, run_more, run_stops, run_whole}
 use Rattle.waveforms.proofs.driver.run_start.Given as goal
 
 abbrev pub invariant-loop-first : goal.invariant-loop-first

@@ -1,6 +1,4 @@
-use mathlib.Core.Logic.{⊎_elim}
 use mathlib.Core.Path.{◌∙◌}
-use Prim.Native.Nat.{◌≤◌, ◌-◌}
 use borrow.Author.Rules.{rules}
 use Rattle.blocks.specs.Records.{Model, model_of}
 use Rattle.model.specs.Facts.{Facts}
@@ -115,7 +113,7 @@ loop-k-preserved c =
       search rules,
       search rules,
       elim c.if-self-k.branch [
-        then-self-k w ↦ rw w.self-is (taking_more _ _ _ c.loop-k.invariant.2 (search rules) _ (slot_taken _ (slot_of c.loop-k.self c.loop-k.k) timed (time_most_lem _ _ f) w.if-self-k.true _ _ w.without_first-e.ensures w.first_time.ensures))
+        | then-self-k w ↦ rw w.self-is (taking_more _ _ _ c.loop-k.invariant.2 (search rules) _ (slot_taken _ (slot_of c.loop-k.self c.loop-k.k) timed (time_most_lem _ _ f) w.if-self-k.true _ _ w.without_first-e.ensures w.first_time.ensures))
         | else-self-k w ↦ rw w.self-is (taking_same _ _ _ c.loop-k.invariant.2 (slot_kept _ (slot_of c.loop-k.self c.loop-k.k) timed w.if-self-k.false))
       ],
     )

@@ -1,5 +1,4 @@
 use mathlib.Core.Path.{refl}
-use borrow.Author.Rules.{rules}
 use Rattle.cycle.proofs.First.{view_empty}
 use Rattle.cycle.proofs.config.Config.empty.Goals as goal
 

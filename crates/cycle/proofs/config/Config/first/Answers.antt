@@ -1,11 +1,10 @@
 use mathlib.Core.Path.{refl}
-use borrow.Author.Rules.{rules}
 use Rattle.cycle.proofs.First.{begins_first}
 use Rattle.cycle.proofs.config.Config.first.Goals as goal
 
 pub returns : goal.returns
 returns c =
-        begins_first _ c.requires.runs.facts _ c.none-d.result c.first_values-values.result c.histories-signals.result
+    begins_first _ c.requires.runs.facts _ c.none-d.result c.first_values-values.result c.histories-signals.result
     (record {
       time = refl;
       deltas = refl;

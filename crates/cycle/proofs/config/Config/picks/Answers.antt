@@ -37,7 +37,7 @@ sized c =
 
 pub loop-n-init : goal.loop-n-init
 loop-n-init c =
-        let part = c.turns_of-turns.result in
+    let part = c.turns_of-turns.result in
     turning_none _ c.requires.runs.facts part.set part.stride part.count part.first _ (sized c) c.requires.valid
 
 -- what holds where the loop goes on
@@ -751,7 +751,7 @@ part_18 c = c.turns_of-turns.result
 
 pub returns : goal.returns
 returns c =
-        let inv = c.loop-n.invariant in
+    let inv = c.loop-n.invariant in
     picks_answer c.args.which
     (record {
       facts = c.requires.runs.facts;

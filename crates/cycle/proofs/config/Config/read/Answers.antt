@@ -1,5 +1,4 @@
 use mathlib.Core.Path.{refl}
-use borrow.Author.Rules.{rules}
 use Rattle.cycle.proofs.OrderLaws.{read_none, read_some}
 use Rattle.cycle.proofs.config.Config.read.Goals as goal
 

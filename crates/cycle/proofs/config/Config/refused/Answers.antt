@@ -1,4 +1,3 @@
-use borrow.Author.Rules.{rules}
 use Rattle.cycle.proofs.OrderLaws.{refused_is}
 use Rattle.cycle.proofs.config.Config.refused.Goals as goal
 

@@ -1,4 +1,4 @@
-use Prim.Native.Nat.{ℕ, ◌≤◌, ◌-◌}
+use Prim.Native.Nat.{ℕ}
 use borrow.Author.Rules.{rules}
 use Rattle.blocks.specs.Records.{Model, model_of}
 use Rattle.model.specs.Facts.{Facts}
@@ -8,7 +8,7 @@ use Rattle.cycle.specs.View.{Valid, view_of}
 use Rattle.cycle.specs.declared.config.Config.{Config}
 use Rattle.cycle.proofs.Advances.{few_signals, few_drivers, few_processes, Says, says_refused, searchable, TimeDue, time_says}
 use Rattle.cycle.proofs.DeltaDrivers.{Taking, taking_none}
-use Rattle.cycle.proofs.TimeView.{Elapsing, elapsing_none, elapsing_more, next_ahead, each_ahead, time_stepped_lem}
+use Rattle.cycle.proofs.TimeView.{elapsing_none, elapsing_more, next_ahead, each_ahead, time_stepped_lem}
 use Rattle.cycle.proofs.config.Config.time_step.Goals as goal
 
 pub next_due-t-requires : goal.next_due-t-requires

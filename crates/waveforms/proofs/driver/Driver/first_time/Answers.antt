@@ -11,7 +11,7 @@ returns-then-n-eq0 c = search (rules, first_none)
 
 pub overflow_add-result : goal.overflow_add-result
 overflow_add-result c =
-        let small : Fits w32 (get_or c.args.self.times 0 0) = search rules in
+    let small : Fits w32 (get_or c.args.self.times 0 0) = search rules in
     omega (arith, small.fits, c.requires)
 
 pub returns : goal.returns

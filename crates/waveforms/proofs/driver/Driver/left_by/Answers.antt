@@ -1,5 +1,4 @@
 -- `left_by`: by the mechanism. Assumes nothing.
-use borrow.Author.Rules.{rules}
 use Rattle.waveforms.proofs.Schedules.{left_transport, left_inertial}
 use Rattle.waveforms.proofs.driver.Driver.left_by.Goals as goal
 

@@ -1,9 +1,5 @@
-use mathlib.Core.Path.{◌≡◌, refl}
-use Prim.Native.Nat.{ℕ, ◌≤◌, ◌-◌}
+use mathlib.Core.Path.{refl}
 use native.Mathlib.Omega.{arith}
-use lib.ListN.{drop}
-use borrow.Author.Rules.{rules}
-use Rattle.waveforms.specs.Pending.{pending_of}
 use Rattle.waveforms.proofs.Schedules.{count_left, next_left, without_is}
 use Rattle.waveforms.proofs.driver.Driver.without.Goals as goal
 

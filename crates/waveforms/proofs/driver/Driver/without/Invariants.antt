@@ -1,11 +1,8 @@
 -- `without`: one after the other. Assumes nothing.
-use mathlib.Core.Path.{◌≡◌, refl}
+use mathlib.Core.Path.{◌≡◌}
 use Prim.Native.Nat.{ℕ, ◌≤◌, ◌-◌}
-use native.Mathlib.Omega.{arith}
 use lib.ListN.{drop}
-use borrow.Author.Rules.{rules}
 use Rattle.waveforms.specs.Pending.{pending_of}
-use Rattle.waveforms.proofs.Schedules.{count_left, next_left, without_is}
 use Rattle.waveforms.proofs.driver.Driver.without.Given as goal
 
 abbrev pub invariant-loop-i : goal.invariant-loop-i
