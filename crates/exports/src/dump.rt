@@ -9,8 +9,8 @@ ghost use Rattle.exports.specs.Dump.{no_process, driven_word, total_word, driver
 use cycle::config::Config;
 use waveforms::driver::{Driver, NEVER, NULL};
 
-fn total_word(c: Config, j: usize) -> u64
-    ensures { result ≡ total_word (view_of c) j }
+fn total_word(c: &Config, j: usize) -> u64
+    ensures { result ≡ total_word (view_of c.now) j }
 {
     match j {
         0 => c.time,
@@ -22,10 +22,10 @@ fn total_word(c: Config, j: usize) -> u64
     }
 }
 
-fn signal_word(c: Config, s: usize, k: usize) -> u64
+fn signal_word(c: &Config, s: usize, k: usize) -> u64
     requires s_bound { s < 32 }
     requires k_bound { k < 32 }
-    ensures { result ≡ past_of (view_of c).signals s k }
+    ensures { result ≡ past_of (view_of c.now).signals s k }
 {
     let n = c.nsignals;
     if s < n {
@@ -34,9 +34,9 @@ fn signal_word(c: Config, s: usize, k: usize) -> u64
     0
 }
 
-fn earlier_word(c: Config, s: usize) -> u64
+fn earlier_word(c: &Config, s: usize) -> u64
     requires { s < 32 }
-    ensures { result ≡ get_or (view_of c).earlier s 0 }
+    ensures { result ≡ get_or (view_of c.now).earlier s 0 }
 {
     let n = c.nsignals;
     if s < n {
@@ -45,9 +45,9 @@ fn earlier_word(c: Config, s: usize) -> u64
     0
 }
 
-fn variable_word(c: Config, a: usize) -> u64
+fn variable_word(c: &Config, a: usize) -> u64
     requires { a < 64 }
-    ensures { result ≡ get_or (view_of c).variables a 0 }
+    ensures { result ≡ get_or (view_of c.now).variables a 0 }
 {
     let n = c.nvariables;
     if a < n {
@@ -90,11 +90,11 @@ fn waveform_word(d: Driver, current: u32, time: u64, j: usize) -> u64
     0
 }
 
-fn driver_word(c: Config, k: usize, j: usize) -> u64
-    requires time_le_last_time { c.time ≤ last_time }
+fn driver_word(c: &Config, k: usize, j: usize) -> u64
+    requires time_le_last_time { c.now.time ≤ last_time }
     requires k_bound { k < 64 }
     requires j_bound { j < 18 }
-    ensures { result ≡ driver_word (driver_in (view_of c).drivers k) j }
+    ensures { result ≡ driver_word (driver_in (view_of c.now).drivers k) j }
 {
     let n = c.ndrivers;
     if k < n {
@@ -103,9 +103,9 @@ fn driver_word(c: Config, k: usize, j: usize) -> u64
     0
 }
 
-fn process_word(c: Config, p: usize, j: usize) -> u64
+fn process_word(c: &Config, p: usize, j: usize) -> u64
     requires { p < 16 }
-    ensures { result ≡ process_word (get_or (view_of c).processes p no_process) j }
+    ensures { result ≡ process_word (get_or (view_of c.now).processes p no_process) j }
 {
     let n = c.nprocesses;
     if n <= p {
@@ -134,9 +134,9 @@ fn process_word(c: Config, p: usize, j: usize) -> u64
 }
 
 // Word i of the configuration.
-fn word(c: Config, i: usize) -> u64
-    requires { c.time ≤ last_time }
-    ensures { result ≡ word_of (view_of c) i }
+fn word(c: &Config, i: usize) -> u64
+    requires { c.now.time ≤ last_time }
+    ensures { result ≡ word_of (view_of c.now) i }
 {
     if i < 6 {
         return total_word(c, i);
@@ -167,7 +167,7 @@ pub(crate) fn dump(c: Config, words: &mut [u64])
     let n = words.len();
     let mut i = 0;
     while i < n {
-        words[i] = word(c, i);
+        words[i] = word(&c, i);
         i += 1;
     }
 }

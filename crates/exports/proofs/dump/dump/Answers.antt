@@ -1,0 +1,16 @@
+-- One word after the other is written. Assumes nothing.
+use mathlib.Core.Path.{refl, sym, ◌∙◌}
+use native.Mathlib.Nat.{zero-add}
+use native.Mathlib.Omega.{arith}
+use lib.ListN.{length-set}
+use Rattle.base.proofs.Below.{write_none, write_next}
+use Rattle.exports.specs.Dump.{word_of}
+use Rattle.exports.proofs.dump.dump.Goals as goal
+
+pub loop-i-init : goal.loop-i-init
+loop-i-init c = (omega arith, refl, write_none (word_of _) _ 0)
+
+pub loop-i-preserved : goal.loop-i-preserved
+loop-i-preserved c =
+    let head = c.loop-i in
+    (omega arith, length-set head.words head.i c.word.result ∙ head.invariant.1, rw c.word.ensures (write_next (word_of _) _ _ 0 _ _ (sym (zero-add _)) (omega arith) head.invariant.2))

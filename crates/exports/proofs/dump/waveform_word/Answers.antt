@@ -1,0 +1,26 @@
+-- Each test decides a line of the definition. Assumes nothing.
+use mathlib.Core.Path.{◌∙◌}
+use borrow.Author.Rules.{rules}
+use Rattle.waveforms.specs.Pending.{driven_of}
+use Rattle.exports.specs.Dump.{driver_word}
+use Rattle.exports.proofs.Words.{count_word, time_word, time_none, value_word, value_none}
+use Rattle.exports.proofs.dump.waveform_word.Goals as goal
+
+pub returns-then-j-eq0 : goal.returns-then-j-eq0
+unfolding driver_word
+returns-then-j-eq0 c = rw c.if-j-eq0.true c.driven_word.ensures
+
+pub returns-then-j-eq1 : goal.returns-then-j-eq1
+returns-then-j-eq1 c = search (rules, count_word)
+
+pub returns-then-k-n : goal.returns-then-k-n
+returns-then-k-n c = search (rules, time_word)
+
+pub returns-then-j-lt10 : goal.returns-then-j-lt10
+returns-then-j-lt10 c = search (rules, time_none)
+
+pub returns-then-k-n-2 : goal.returns-then-k-n-2
+returns-then-k-n-2 c = c.driven_word-then-k-n-2.ensures ∙ value_word c.args.d (driven_of c.args.current) c.args.time c.args.j (search rules) (search rules) (search rules) (search rules)
+
+pub returns : goal.returns
+returns c = search (rules, value_none)

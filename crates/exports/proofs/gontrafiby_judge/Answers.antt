@@ -1,0 +1,7 @@
+-- A number of a refusal is small. Assumes nothing.
+use native.Mathlib.Omega.{arith}
+use Rattle.model.proofs.Rules.{refusal_most}
+use Rattle.exports.proofs.gontrafiby_judge.Goals as goal
+
+pub overflow_cast-result : goal.overflow_cast-result
+overflow_cast-result c = omega (arith, c.judge.ensures, refusal_most c.args.model.now)
