@@ -10,7 +10,7 @@ use lib.Dec.{ltb, eqb}
 use lib.ListN.{length, get_or, take, drop, drop_of_length-le, get_or-eq_default}
 use Rattle.base.specs.Below.{list_below}
 use Rattle.base.specs.Cases.{◌∣◌, ◌⇒◌}
-use Rattle.base.proofs.Below.{list_length, list_at}
+use Rattle.base.proofs.Below.{list_length, list_at, NoneOf, none_of}
 use Rattle.base.proofs.Cases.{either}
 use Rattle.rules.specs.Configuration.{Transaction, Configuration, driver_in, past_of, last_time}
 use Rattle.rules.specs.declared.driven.Driven.{Driven}
@@ -28,10 +28,10 @@ unfolding view_of
 in_time c v e h = rw (← e) at h
 
 -- the totals
-pub last_total : (C : Configuration) (j : ℕ) → 5 ≤ j → length C.processes ≡ total_word C j
+pub last_total : (C : Configuration) (j : ℕ) → NoneOf j 0 5 → length C.processes ≡ total_word C j
 unfolding total_word
 last_total C j h =
-    let at : (k : ℕ) → k < 5 → j ≡ k → ⊥ = λ k l e. omega arith in
+    let at : (k : ℕ) → k < 5 → j ≡ k → ⊥ = λ k l e. none_of 0 5 j h (omega arith) (omega arith) in
     rw (ne_eqb j 0 (at 0 (omega arith)), ne_eqb j 1 (at 1 (omega arith)), ne_eqb j 2 (at 2 (omega arith)), ne_eqb j 3 (at 3 (omega arith)), ne_eqb j 4 (at 4 (omega arith)))
 
 -- the words of what is not there

@@ -10,7 +10,7 @@ use Rattle.blocks.specs.declared.records.StatementRecord.{StatementRecord}
 use Rattle.grammar.specs.Tokens.{Token, tok, word, signal_code, variable_code, from, NoWord}
 use Rattle.tokens.specs.Answers.{FoundWord}
 use Rattle.grammar.specs.Words.{wait_word, on_word, after_word, semicolon, becomes, drives}
-use Rattle.grammar.specs.Grammar.{Expression, Statement, assign, drive, wait, Says, SaysSignals, SaysUntil, SaysOn, no_on, with_on, one, Spells, spells_assign, spells_drive, spells_wait}
+use Rattle.grammar.specs.Grammar.{Expression, Statement, assign, drive, wait, Says, SaysSignals, SaysUntil, SaysOn, no_on, with_on, one, Spells, spells_null, spells_assign, spells_drive, spells_wait, spells_while, spells_choice}
 use Rattle.grammar.specs.Made.{statement, nodes_in, nodes_of, nodes_in_body, nodes_of_body, statements_in, statements_of, wait_set}
 use Rattle.grammar.proofs.Unique.{one_expression, says_at, spells_at, until_at, one_signals, until_without_comma}
 use Rattle.grammar.proofs.MadeLaws.{length_nodes_of}
@@ -101,8 +101,18 @@ module _ {text : List ℕ} {at s x : ℕ} (w : FoundWord text at drives x) where
         }
 
 -- wait ..
+-- A code is a variable here: so antt needs not tell two long words apart by counting.
+wait_parts_by : {c d : ℕ} {p : Statement} {s r : List Token} → c ≡ wait_word → Spells one d p (word c ∷ s) r
+    → (o : Option (List ℕ)) × (u : Option Expression) × (f : Option Expression) × SaysOn o u f s r
+wait_parts_by e spells_null = absurd (omega arith)
+wait_parts_by e (spells_assign a) = absurd (omega arith)
+wait_parts_by e (spells_drive a b) = absurd (omega arith)
+wait_parts_by e (spells_wait h) = (_, _, _, h)
+wait_parts_by e (spells_while a p) = absurd (omega arith)
+wait_parts_by e (spells_choice a p q) = absurd (omega arith)
+
 wait_parts : {d : ℕ} {p : Statement} {s r : List Token} → Spells one d p (word wait_word ∷ s) r → (o : Option (List ℕ)) × (u : Option Expression) × (f : Option Expression) × SaysOn o u f s r
-wait_parts (spells_wait h) = (_, _, _, h)
+wait_parts = wait_parts_by refl
 
 on_at : {o : Option (List ℕ)} {u f : Option Expression} {s t r : List Token} → s ≡ t → SaysOn o u f s r → SaysOn o u f t r
 on_at e h = rw e at h

@@ -33,8 +33,13 @@ pub not_until : {u f : Option Expression} {c v : ℕ} {s r : List Token} → c �
 not_until a b d (no_until p) = not_for a b p
 not_until a b d (with_until p q) = d refl
 
+-- A code is a variable here: so antt needs not tell two long words apart by counting.
+for_time_by : {c : ℕ} {f : Option Expression} {s r : List Token} → c ≡ for_word → SaysFor f (word c ∷ s) r → (e : Expression) × Says e s (word semicolon ∷ r)
+for_time_by h no_for = absurd (omega arith)
+for_time_by h (with_for p) = (_, p)
+
 for_time : {f : Option Expression} {s r : List Token} → SaysFor f (word for_word ∷ s) r → (e : Expression) × Says e s (word semicolon ∷ r)
-for_time (with_for p) = (_, p)
+for_time = for_time_by refl
 
 module _ {text : List ℕ} {at code value x : ℕ} (t : FirstToken text at code value x) where
   -- ;
@@ -97,9 +102,13 @@ without_until {m} {nodes} n a = record {
 }
 
 -- until e
+until_condition_by : {c : ℕ} {u f : Option Expression} {s r : List Token} → c ≡ until_word → SaysUntil u f (word c ∷ s) r
+    → (e : Expression) × (t : List Token) × Says e s t × SaysFor f t r
+until_condition_by {c = c} h (no_until p) = absurd (not_for {c = c} (λ z. omega (arith, z)) (λ z. omega (arith, z)) p)
+until_condition_by h (with_until p q) = (_, _, p, q)
+
 until_condition : {u f : Option Expression} {s r : List Token} → SaysUntil u f (word until_word ∷ s) r → (e : Expression) × (t : List Token) × Says e s t × SaysFor f t r
-until_condition (no_until p) = absurd (not_for {c = until_word} (λ z. omega (arith, z)) (λ z. omega (arith, z)) p)
-until_condition (with_until p q) = (_, _, p, q)
+until_condition = until_condition_by refl
 
 module _ {text : List ℕ} {at x : ℕ} (w : FoundWord text at until_word x) where
   pub no_condition : NoExpression (from text x) → NoUntil (from text at)

@@ -1,0 +1,3 @@
+pub mod GivenLaws
+pub mod StoreLaws
+pub mod PutLaws

@@ -1,5 +1,5 @@
--- A number of a refusal is small. Assumes nothing.
 use native.Mathlib.Omega.{arith}
+use borrow.Author.Rules.{rules}
 use Rattle.model.proofs.Rules.{refusal_most}
 use Rattle.exports.proofs.gontrafiby_judge.Goals as goal
 

@@ -1,4 +1,3 @@
--- The test decides what it stands for. Assumes nothing.
 use borrow.Author.Tests.{eq-eqb, ne_eqb}
 use Rattle.waveforms.specs.Pending.{driven_of}
 use Rattle.exports.proofs.dump.driven_word.Goals as goal

@@ -1,12 +1,21 @@
--- The words so far, then the rest of the buffer as it was.
-use Rattle.std.proofs.Common.{◌-◌, ◌≡◌, ◌≤◌, ◌++◌, length, take, drop}
+-- The words so far, then the rest of the buffer as it was. Assumes nothing.
+use mathlib.Core.Path.{◌≡◌, refl, sym, ◌∙◌}
+use mathlib.Core.List.{◌++◌}
+use Prim.Native.Nat.{◌+◌, ◌-◌, ◌≤◌}
+use native.Mathlib.Nat.{zero-add}
+use native.Mathlib.Omega.{arith}
+use lib.ListN.{length, length-set, take, drop}
+use borrow.Author.Rules.{rules}
 use Rattle.base.specs.Below.{list_below}
+use Rattle.base.proofs.Below.{write_none, write_next}
 use Rattle.cycle.specs.View.{view_of}
 use Rattle.exports.specs.Dump.{word_of}
+use Rattle.exports.proofs.Words.{all_written}
 use Rattle.exports.proofs.dump.dump.Given as goal
 
 abbrev pub invariant-loop-i : goal.invariant-loop-i
-invariant-loop-i l = (l.i ≤ l.n) × (length l.words ≡ length l.initial.words) × (l.words ≡ (take 0 l.initial.words ++ list_below (word_of (view_of l.c)) l.i) ++ drop l.i l.initial.words)
+invariant-loop-i l =
+    (l.i ≤ l.n) × (length l.words ≡ length l.initial.words) × (l.words ≡ (take 0 l.initial.words ++ list_below (word_of (view_of l.c)) l.i) ++ drop l.i l.initial.words)
 
 abbrev pub decreases-loop-i : goal.decreases-loop-i
 decreases-loop-i l = l.n - l.i

@@ -1,6 +1,5 @@
 -- The arm that was taken names the total. Assumes nothing.
 use mathlib.Core.Path.{sym, ◌∙◌}
-use native.Mathlib.Omega.{arith}
 use Rattle.cycle.specs.View.{view_of}
 use Rattle.cycle.proofs.ViewLaws.{signals_long, variables_long, drivers_long, processes_long}
 use Rattle.exports.specs.Dump.{total_word}
@@ -28,4 +27,4 @@ unfolding total_word
 returns-in-4 c = rw c.in-4.is (sym (drivers_long _))
 
 pub returns-in_default : goal.returns-in_default
-returns-in_default c = sym (processes_long _) ∙ last_total _ _ (omega arith)
+returns-in_default c = sym (processes_long _) ∙ last_total _ _ c.in_default.in_default-own.rest

@@ -1,5 +1,10 @@
 -- Each test decides a line of the definition. Assumes nothing.
 use mathlib.Core.Path.{◌∙◌}
+use Prim.Native.Nat.{◌-◌}
+use native.Mathlib.Omega.{arith}
+use lib.ListN.{get_or}
+use mir.Syntax.{w32}
+use mir.Val.{Fits}
 use borrow.Author.Rules.{rules}
 use Rattle.waveforms.specs.Pending.{driven_of}
 use Rattle.exports.specs.Dump.{driver_word}
@@ -12,6 +17,11 @@ returns-then-j-eq0 c = rw c.if-j-eq0.true c.driven_word.ensures
 
 pub returns-then-j-eq1 : goal.returns-then-j-eq1
 returns-then-j-eq1 c = search (rules, count_word)
+
+pub overflow_add-result : goal.overflow_add-result
+overflow_add-result c =
+        let small : Fits w32 (get_or c.args.d.times (c.args.j - 2) 0) = search rules in
+    omega (arith, small.fits, c.requires.time_le_last_time)
 
 pub returns-then-k-n : goal.returns-then-k-n
 returns-then-k-n c = search (rules, time_word)

@@ -1,10 +1,8 @@
-use Prim.Native.Nat.{◌-◌, ◌≤◌}
 use native.Mathlib.Omega.{arith}
-use lib.ListN.{length}
 use borrow.Author.Rules.{rules}
 use borrow.Author.Tests.{not-true, not-false}
 use Rattle.tokens.proofs.Lexing.{yes_answer, no_answer}
-use Rattle.simple.proofs.SignalLaws.{with_signal, Collects, collects_first, no_signal, signal_read, found_signals}
+use Rattle.simple.proofs.SignalLaws.{with_signal, collects_first, no_signal, signal_read, found_signals}
 use Rattle.simple.proofs.waits.signals.Goals as goal
 
 pub loop-t-init : goal.loop-t-init

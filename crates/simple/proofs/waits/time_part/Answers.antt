@@ -4,7 +4,6 @@ use native.Mathlib.Omega.{arith}
 use borrow.Author.Tests.{not-true, not-false}
 use Rattle.tokens.proofs.Lexing.{yes_answer, no_answer}
 use Rattle.simple.proofs.WaitLaws.{found_semicolon, no_part, no_time_here, found_for}
-use borrow.Author.Rules.{rules}
 use Rattle.simple.proofs.waits.time_part.Goals as goal
 
 pub returns-then-code-eq-SEMICOLON : goal.returns-then-code-eq-SEMICOLON

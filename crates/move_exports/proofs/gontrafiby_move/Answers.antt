@@ -1,0 +1,6 @@
+-- What the function that it calls promises. Assumes nothing.
+use borrow.Author.Rules.{rules}
+use Rattle.move_exports.proofs.gontrafiby_move.Goals as goal
+
+pub returns : goal.returns
+returns c = let moved = c.move_over.ensures.move_is in record { value = moved.number; moved_after = moved.buffer }
