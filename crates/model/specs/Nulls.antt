@@ -1,5 +1,5 @@
 -- Refusal 20: null transactions on plain signals.
-use Rattle.std.specs.Prelude.{ℕ, Bool, true, not, eqb, length}
+use Rattle.std.specs.Prelude.{Bool, true, not, eqb, length}
 use Rattle.base.specs.Below.{all_below}
 use Rattle.base.specs.Cases.{◌∣◌, ◌is◌⇒◌}
 use Rattle.blocks.specs.Records.{plain, Model, signal_at, statement_at}

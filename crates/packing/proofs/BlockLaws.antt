@@ -1,11 +1,11 @@
 -- One block: its bytes as a loop writes them, and its last word. Assumes nothing.
-use mathlib.Core.Path.{◌≡◌, refl, sym, ap, ap₂, ◌∙◌}
-use mathlib.Core.List.{List, [], ◌∷◌, ◌++◌, append-nil}
-use Prim.Native.Nat.{ℕ, zero, suc, ◌+◌, ◌*◌, ◌/◌, ◌%◌, ◌-◌, ◌≤◌, ◌<◌}
+use mathlib.Core.Path.{◌≡◌, refl, ap, ap₂, ◌∙◌}
+use mathlib.Core.List.{List, [], ◌++◌, append-nil}
+use Prim.Native.Nat.{ℕ, zero, suc, ◌+◌, ◌*◌, ◌/◌, ◌%◌, ◌-◌, ◌<◌}
 use native.Mathlib.Nat.{le_of_eq}
 use native.Mathlib.Omega.{arith}
-use lib.ListN.{length, get_or, set, take, drop, length-append, length-drop, length-take, drop_of_length-le, get_or-append}
-use lib.Seq.{sets, sets-eq, take_at}
+use lib.ListN.{length, set, take, drop, length-append, length-drop, drop_of_length-le, get_or-append}
+use lib.Seq.{sets-eq, take_at}
 use Rattle.base.specs.Below.{sum_below, list_below}
 use Rattle.base.specs.Bytes.{byte_at, word_at}
 use Rattle.base.proofs.Below.{list_length, list_at, write_next}

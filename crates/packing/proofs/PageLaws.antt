@@ -5,14 +5,14 @@ use mathlib.Core.Logic.{⊎_elim}
 use Prim.Native.Nat.{ℕ, suc, ◌+◌, ◌*◌, ◌/◌, ◌-◌, ◌≤◌, ◌<◌, min}
 use native.Mathlib.Nat.{add-zero}
 use native.Mathlib.Omega.{arith}
-use lib.ListN.{length, take, drop, length-append, length-take, length-drop}
-use lib.Seq.{sets, sets-eq, length-sets, take_all, take-take}
-use borrow.Rule.Slice.PartMut.{post_of, put_mid, Post-is}
+use lib.ListN.{length, take, drop, length-append, length-drop}
+use lib.Seq.{sets, sets-eq, length-sets, take_all}
+use borrow.Rule.Slice.PartMut.{put_mid, Post-is}
 use Rattle.base.specs.Below.{list_below}
 use Rattle.base.proofs.Below.{split, list_length, list_more}
 use Rattle.writing.specs.Written.{word_bytes}
 use Rattle.writing.proofs.WriteLaws.{sets_append}
-use Rattle.packing.specs.Packed.{Page, block_byte, last_word, block_of, blocks_from, blocks_for, page_of, pages_of, Parts, pages, packed, blocks_in, Room, PackedIn}
+use Rattle.packing.specs.Packed.{Page, block_byte, block_of, blocks_from, blocks_for, page_of, pages_of, Parts, pages, packed, blocks_in, PackedIn}
 
 pub length_block : (b : ℕ) (p : Page) → length (block_of b p) ≡ 512
 unfolding block_of word_bytes

@@ -96,7 +96,7 @@ pub fn pack(
     out: &mut [u8],
 ) -> usize
     requires { Room (record { signals = signals.now; variables = variables.now; processes = processes.now; drivers = drivers.now; nodes = nodes.now; statements = statements.now }) out.old }
-    ensures { PackedIn (record { signals = signals.entry.now; variables = variables.now; processes = processes.now; drivers = drivers.now; nodes = nodes.now; statements = statements.now }) out.old out.new result }
+    ensures { PackedIn (record { signals = signals.now; variables = variables.now; processes = processes.now; drivers = drivers.now; nodes = nodes.now; statements = statements.now }) out.old out.new result }
 {
     let a = put_kind(out, 0, 1, signals);
     let b = put_kind(out, a, 2, variables);

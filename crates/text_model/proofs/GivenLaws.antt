@@ -4,17 +4,14 @@ use mathlib.Core.Path.{◌≡◌, refl, sym, ap₂, ◌∙◌}
 use mathlib.Core.Bool.{Bool, true, false, ◌&&◌}
 use mathlib.Core.List.{List, []}
 use Prim.Native.Nat.{ℕ, ◌≤◌}
-use native.Mathlib.Omega.{arith}
 use borrow.Author.Tests.{leb-true}
-use lib.Dec.{leb}
-use lib.ListN.{length, get_or}
+use lib.ListN.{length}
 use Rattle.base.specs.Bytes.{ByteIs}
 use Rattle.base.specs.Rules.{first_failing}
 use Rattle.base.proofs.Below.{list_length, every_at, and_left, and_right}
 use Rattle.base.proofs.Rules.{none_left, passes, fails, numbered, none_fails}
 use Rattle.blocks.specs.Records.{Model}
 use Rattle.blocks.specs.Totals.{totals_ok, TotalsOf}
-use Rattle.blocks.specs.declared.index.Totals.{Totals}
 use Rattle.grammar.specs.Grammar.{Statement}
 use Rattle.grammar.specs.Made.{made_nodes, made_statements}
 use Rattle.given.specs.Given.{signals_given, variables_given, drivers_given, model_from, whole_ok, given_rules}
@@ -71,7 +68,7 @@ unfolding totals_ok
 totals_within M h =
     (leb-true _ _ (every_at _ 0 h), leb-true _ _ (every_at _ 1 h), leb-true _ _ (every_at _ 4 h), leb-true _ _ (every_at _ 5 h), leb-true _ _ (every_at _ 6 h), leb-true _ _ (every_at _ 7 h))
 
-given_numbered : (text g : List ℕ) (p : Statement) → numbered 27 (given_rules text g p) ≡ true
+pub given_numbered : (text g : List ℕ) (p : Statement) → numbered 27 (given_rules text g p) ≡ true
 unfolding given_rules
 given_numbered text g p = refl
 

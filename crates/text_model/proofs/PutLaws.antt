@@ -1,17 +1,17 @@
 -- The parts that are put into blocks are those of the given records and of the text.
 -- Assumes nothing.
-use mathlib.Core.Path.{◌≡◌, refl, sym, ap, ◌∙◌}
+use mathlib.Core.Path.{◌≡◌, refl, ◌∙◌}
 use mathlib.Core.List.{List}
-use Prim.Native.Nat.{ℕ, ◌+◌, ◌*◌, ◌-◌, ◌/◌, ◌≤◌}
+use Prim.Native.Nat.{ℕ, ◌+◌, ◌*◌, ◌-◌, ◌/◌}
 use native.Mathlib.Omega.{arith}
 use lib.ListN.{length, take, drop, replicate}
 use lib.Seq.{sets}
 use Rattle.base.specs.Bytes.{ByteIs}
 use Rattle.grammar.specs.Grammar.{Statement}
 use Rattle.grammar.specs.Made.{made_nodes, made_statements}
-use Rattle.given.specs.Given.{signals_given, variables_given, drivers_given, parts_from}
+use Rattle.given.specs.Given.{parts_from}
 use Rattle.given.proofs.Parts.{given_length}
-use Rattle.packing.specs.Packed.{Parts, PackedIn}
+use Rattle.packing.specs.Packed.{PackedIn}
 use Rattle.writing.specs.Written.{word_bytes, record_bytes, node_bytes, statement_bytes}
 use Rattle.writing.proofs.WriteLaws.{length_statements}
 use Rattle.text_model.specs.Texts.{GivenFits}

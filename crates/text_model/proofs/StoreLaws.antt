@@ -1,12 +1,12 @@
 -- Bytes stored one after another at the front of a buffer, as far as it reaches.
 -- Assumes nothing.
-use mathlib.Core.Path.{◌≡◌, refl, sym, ap, ◌∙◌}
+use mathlib.Core.Path.{◌≡◌, sym, ◌∙◌}
 use mathlib.Core.List.{List, [], ◌∷◌, ◌++◌}
 use Prim.Native.Nat.{ℕ, ◌+◌, ◌≤◌, ◌<◌}
 use native.Mathlib.Numerals.{add-one}
 use native.Mathlib.Omega.{arith}
 use lib.ListN.{length, get_or, take, set}
-use lib.Seq.{sets, take-suc, length-take-le, length-sets, set_out}
+use lib.Seq.{sets, take-suc, length-take-le, set_out}
 use Rattle.writing.proofs.WriteLaws.{sets_append}
 
 module _ (bytes old : List ℕ) {out : List ℕ} (i : ℕ) (l : i < length bytes) (h : out ≡ sets old 0 (take i bytes)) where

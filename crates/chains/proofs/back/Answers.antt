@@ -1,7 +1,4 @@
-use Prim.Native.Nat.{◌≤◌, ◌-◌}
 use borrow.Author.Rules.{rules}
-use Rattle.sets.specs.Sets.{SetOf}
-use Rattle.chains.specs.Rows.{leads_back}
 use Rattle.chains.proofs.Rounds.{no_edge, one_edge, all_edges}
 use Rattle.chains.proofs.back.Goals as goal
 

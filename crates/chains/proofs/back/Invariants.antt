@@ -1,9 +1,7 @@
 -- `back`: after i turns the set has the processes from which i edges lead to s. Assumes nothing.
 use Prim.Native.Nat.{◌≤◌, ◌-◌}
-use borrow.Author.Rules.{rules}
 use Rattle.sets.specs.Sets.{SetOf}
 use Rattle.chains.specs.Rows.{leads_back}
-use Rattle.chains.proofs.Rounds.{no_edge, one_edge, all_edges}
 use Rattle.chains.proofs.back.Given as goal
 
 abbrev pub invariant-loop-i : goal.invariant-loop-i

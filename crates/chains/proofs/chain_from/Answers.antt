@@ -1,6 +1,4 @@
-use Prim.Native.Nat.{◌+◌, ◌-◌}
-use borrow.Author.Rules.{rules}
-use Rattle.chains.proofs.Rounds.{Made, made_none, made_next, made_all}
+use Rattle.chains.proofs.Rounds.{made_none, made_next, made_all}
 use Rattle.chains.proofs.chain_from.Goals as goal
 
 pub loop-i-init : goal.loop-i-init

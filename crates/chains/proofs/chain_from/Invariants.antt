@@ -1,7 +1,6 @@
 -- `chain_from`: the entries made and the chain from the process reached are the whole chain. Assumes nothing.
 use Prim.Native.Nat.{◌+◌, ◌-◌}
-use borrow.Author.Rules.{rules}
-use Rattle.chains.proofs.Rounds.{Made, made_none, made_next, made_all}
+use Rattle.chains.proofs.Rounds.{Made}
 use Rattle.chains.proofs.chain_from.Given as goal
 
 abbrev pub invariant-loop-i : goal.invariant-loop-i

@@ -1,8 +1,6 @@
-use Prim.Native.Nat.{◌≤◌, ◌-◌}
 use borrow.Author.Rules.{rules}
-use Rattle.chains.specs.Rows.{arrow}
-use Rattle.chains.proofs.Sought.{NoneOf, none_begun, none_next}
-use Rattle.chains.proofs.Rounds.{on_chain, off_chain, round_closes, chain_found, returned, returned_none}
+use Rattle.chains.proofs.Sought.{none_begun, none_next}
+use Rattle.chains.proofs.Rounds.{off_chain, round_closes, chain_found, returned, returned_none}
 use Rattle.chains.proofs.closed_chain.Goals as goal
 
 pub loop-s-init : goal.loop-s-init

@@ -1,8 +1,5 @@
-use mathlib.Core.Bool.{◌&&◌}
-use Prim.Native.Nat.{◌≤◌, ◌-◌}
 use borrow.Author.Rules.{rules}
-use Rattle.sets.specs.Sets.{in_set}
-use Rattle.chains.proofs.Sought.{NoneOf, none_begun, none_next, sought, not_there, joined}
+use Rattle.chains.proofs.Sought.{none_begun, none_next, sought, not_there, joined}
 use Rattle.chains.proofs.lowest.Goals as goal
 
 pub loop-w-init : goal.loop-w-init

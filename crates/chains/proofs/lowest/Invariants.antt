@@ -1,9 +1,8 @@
 -- `lowest`: none of the numbers passed is in both sets. Assumes nothing.
 use mathlib.Core.Bool.{◌&&◌}
 use Prim.Native.Nat.{◌≤◌, ◌-◌}
-use borrow.Author.Rules.{rules}
 use Rattle.sets.specs.Sets.{in_set}
-use Rattle.chains.proofs.Sought.{NoneOf, none_begun, none_next, sought, not_there, joined}
+use Rattle.chains.proofs.Sought.{NoneOf}
 use Rattle.chains.proofs.lowest.Given as goal
 
 abbrev pub invariant-loop-w : goal.invariant-loop-w

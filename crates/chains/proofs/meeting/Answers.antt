@@ -1,7 +1,5 @@
-use Prim.Native.Nat.{◌≤◌, ◌-◌}
 use borrow.Author.Rules.{rules}
-use Rattle.sets.specs.Sets.{SetOf}
-use Rattle.chains.proofs.Rounds.{passed, into, none_passed, one_passed, all_passed}
+use Rattle.chains.proofs.Rounds.{none_passed, one_passed, all_passed}
 use Rattle.chains.proofs.meeting.Goals as goal
 
 pub loop-v-init : goal.loop-v-init

@@ -1,8 +1,7 @@
 -- `meeting`: the set has those of the processes passed whose row has one of the set given. Assumes nothing.
 use Prim.Native.Nat.{◌≤◌, ◌-◌}
-use borrow.Author.Rules.{rules}
 use Rattle.sets.specs.Sets.{SetOf}
-use Rattle.chains.proofs.Rounds.{passed, into, none_passed, one_passed, all_passed}
+use Rattle.chains.proofs.Rounds.{passed, into}
 use Rattle.chains.proofs.meeting.Given as goal
 
 abbrev pub invariant-loop-v : goal.invariant-loop-v

@@ -1,6 +1,5 @@
-use Prim.Native.Nat.{◌-◌}
 use borrow.Author.Rules.{rules}
-use Rattle.chains.proofs.RowsMade.{Rowed, rows_none, rows_next, rows_all}
+use Rattle.chains.proofs.RowsMade.{rows_none, rows_next, rows_all}
 use Rattle.chains.proofs.relation.Goals as goal
 
 pub loop-a-init : goal.loop-a-init

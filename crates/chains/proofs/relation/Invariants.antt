@@ -1,7 +1,6 @@
 -- `relation`: the rows of the processes passed are made. Assumes nothing.
 use Prim.Native.Nat.{◌-◌}
-use borrow.Author.Rules.{rules}
-use Rattle.chains.proofs.RowsMade.{Rowed, rows_none, rows_next, rows_all}
+use Rattle.chains.proofs.RowsMade.{Rowed}
 use Rattle.chains.proofs.relation.Given as goal
 
 abbrev pub invariant-loop-a : goal.invariant-loop-a

@@ -1,9 +1,6 @@
-use Prim.Native.Nat.{◌≤◌, ◌-◌}
 use borrow.Author.Rules.{rules}
-use Rattle.sets.specs.Sets.{SetOf}
-use Rattle.chains.specs.Rows.{arrow, leads_back}
-use Rattle.chains.proofs.Sought.{NoneOf, none_begun, none_next}
-use Rattle.chains.proofs.Rounds.{no_edge, one_edge, closing, closing_is, led_back, round_found, round_none}
+use Rattle.chains.proofs.Sought.{none_begun, none_next}
+use Rattle.chains.proofs.Rounds.{no_edge, one_edge, closing_is, led_back, round_found, round_none}
 use Rattle.chains.proofs.round.Goals as goal
 
 pub loop-l-init : goal.loop-l-init

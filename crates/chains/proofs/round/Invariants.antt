@@ -1,10 +1,9 @@
 -- `round`: none of the numbers of edges passed leads back. Assumes nothing.
 use Prim.Native.Nat.{◌≤◌, ◌-◌}
-use borrow.Author.Rules.{rules}
 use Rattle.sets.specs.Sets.{SetOf}
 use Rattle.chains.specs.Rows.{arrow, leads_back}
-use Rattle.chains.proofs.Sought.{NoneOf, none_begun, none_next}
-use Rattle.chains.proofs.Rounds.{no_edge, one_edge, closing, closing_is, led_back, round_found, round_none}
+use Rattle.chains.proofs.Sought.{NoneOf}
+use Rattle.chains.proofs.Rounds.{closing}
 use Rattle.chains.proofs.round.Given as goal
 
 abbrev pub invariant-loop-l : goal.invariant-loop-l

@@ -1,10 +1,7 @@
-use mathlib.Core.Path.{◌≡◌, ap, ◌∙◌}
-use Prim.Native.Nat.{◌-◌, ◌≤◌, zero-le}
-use borrow.Author.Count.{falls}
+use mathlib.Core.Path.{◌≡◌}
+use Prim.Native.Nat.{◌-◌, ◌≤◌}
 use Rattle.base.specs.Below.{all_below}
-use Rattle.base.proofs.Turns.{turn_next, turn_most, all_begun, all_turn, all_ended}
 use Rattle.blocks.specs.Records.{model_of, driver_at}
-use Rattle.blocks.proofs.Lookup.{drivers_most}
 use Rattle.fields.specs.Fields.{driver_ok}
 use Rattle.fields.proofs.drivers_ok.Given as goal
 

@@ -27,5 +27,5 @@ rows_ok-requires c = record { starts = c.requires.starts; totals_of = c.requires
 
 pub returns : goal.returns
 returns c =
-        fields_form _ c.signals_ok.ensures c.variables_ok.ensures c.processes_ok.ensures c.all_covered.ensures c.drivers_ok.ensures c.nodes_ok.ensures
+    fields_form _ c.signals_ok.ensures c.variables_ok.ensures c.processes_ok.ensures c.all_covered.ensures c.drivers_ok.ensures c.nodes_ok.ensures
     c.statements_ok.ensures c.rows_ok.ensures

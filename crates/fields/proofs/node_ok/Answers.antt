@@ -27,7 +27,7 @@ returns-in-6 c M h = one_operand M _ h c.args.d c.in-6.is
 
 pub returns-in-7-to-9 : goal.returns-in-7-to-9
 returns-in-7-to-9 c M h =
-        let d = c.args.d in
+    let d = c.args.d in
     let r = c.in-7-to-9.in_default-own.rest in
     node_binary M d
     (at_least_seven d.kind c.in-7-to-9.if-kind-lt1-own.false r.0.0.0.0.0.1 r.0.0.0.0.1 r.0.0.0.1 r.0.0.1 r.0.1 (λ e. r.1 (inl e)))

@@ -1,9 +1,8 @@
-use mathlib.Core.Path.{◌≡◌, ap, ◌∙◌}
-use Prim.Native.Nat.{◌-◌, ◌≤◌, zero-le}
+use mathlib.Core.Path.{ap, ◌∙◌}
+use Prim.Native.Nat.{zero-le}
 use borrow.Author.Count.{falls}
-use Rattle.base.specs.Below.{all_below}
 use Rattle.base.proofs.Turns.{turn_next, turn_most, all_begun, all_turn, all_ended}
-use Rattle.blocks.specs.Records.{model_of, node_at}
+use Rattle.blocks.specs.Records.{model_of}
 use Rattle.blocks.proofs.Lookup.{nodes_most}
 use Rattle.fields.specs.Fields.{node_ok}
 use Rattle.fields.proofs.nodes_ok.Goals as goal

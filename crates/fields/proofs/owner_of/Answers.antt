@@ -1,15 +1,12 @@
-use mathlib.Core.Path.{◌≡◌, sym, ◌∙◌}
-use mathlib.Core.Bool.{false}
-use Prim.Native.Nat.{ℕ, ◌-◌, ◌≤◌, ◌<◌, zero-le}
+use mathlib.Core.Path.{sym, ◌∙◌}
+use Prim.Native.Nat.{zero-le}
 use native.Mathlib.Nat.{le_antisymm}
 use borrow.Author.Count.{falls, below_none, below_more}
 use borrow.Author.Tests.{lt-ltb, le-ltb}
-use lib.Dec.{ltb}
 use Rattle.base.proofs.Course.{first_found, first_none}
 use Rattle.base.proofs.Turns.{turn_next, turn_most}
-use Rattle.blocks.specs.Records.{model_of}
 use Rattle.blocks.proofs.Lookup.{processes_most}
-use Rattle.fields.specs.Fields.{end_of, owner_of}
+use Rattle.fields.specs.Fields.{owner_of}
 use Rattle.fields.proofs.owner_of.Goals as goal
 
 pub loop-p-init : goal.loop-p-init
@@ -21,7 +18,7 @@ end_of-requires c = record { starts = c.requires.starts; p_in_bounds = rw c.requ
 pub returns-then-n-end_of : goal.returns-then-n-end_of
 unfolding owner_of
 returns-then-n-end_of c =
-        sym
+    sym
     (first_found _ _ _ (rw c.requires.totals_of.processes at c.loop-p-test.true) c.loop-p.invariant.1
     (rw c.end_of.ensures at (lt-ltb _ _ c.if-n-end_of.true)))
 
@@ -37,5 +34,5 @@ loop-p-preserved c = (turn_most _ _ c.loop-p-test.true, below_more _ _ c.loop-p.
 pub returns : goal.returns
 unfolding owner_of
 returns c =
-        let e = le_antisymm c.loop-p.invariant.0 c.loop-p-test.false ∙ c.requires.totals_of.processes in
+    let e = le_antisymm c.loop-p.invariant.0 c.loop-p-test.false ∙ c.requires.totals_of.processes in
     e ∙ sym (first_none _ _ (rw e at c.loop-p.invariant.1))

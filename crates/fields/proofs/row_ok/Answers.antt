@@ -1,10 +1,7 @@
-use mathlib.Core.Path.{◌≡◌, refl}
-use Prim.Native.Nat.{◌-◌, ◌≤◌, zero-le}
+use mathlib.Core.Path.{refl}
+use Prim.Native.Nat.{zero-le}
 use native.Mathlib.Nat.{le_antisymm}
-use lib.Dec.{leb}
-use lib.ListN.{get_or}
 use borrow.Author.Rules.{rules}
-use Rattle.base.specs.Below.{all_below}
 use Rattle.base.proofs.Turns.{turn_most, all_begun, all_turn}
 use Rattle.fields.specs.Fields.{row_ok}
 use Rattle.fields.proofs.row_ok.Goals as goal

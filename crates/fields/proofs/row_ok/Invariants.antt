@@ -1,12 +1,8 @@
-use mathlib.Core.Path.{◌≡◌, refl}
-use Prim.Native.Nat.{◌-◌, ◌≤◌, zero-le}
-use native.Mathlib.Nat.{le_antisymm}
+use mathlib.Core.Path.{◌≡◌}
+use Prim.Native.Nat.{◌-◌, ◌≤◌}
 use lib.Dec.{leb}
 use lib.ListN.{get_or}
-use borrow.Author.Rules.{rules}
 use Rattle.base.specs.Below.{all_below}
-use Rattle.base.proofs.Turns.{turn_most, all_begun, all_turn}
-use Rattle.fields.specs.Fields.{row_ok}
 use Rattle.fields.proofs.row_ok.Given as goal
 
 abbrev pub invariant-loop-i : goal.invariant-loop-i

@@ -1,4 +1,3 @@
-use borrow.Author.Rules.{rules}
 use Rattle.fields.proofs.FieldLaws.{power}
 use Rattle.fields.proofs.set_ok.Goals as goal
 

@@ -35,5 +35,5 @@ returns-in-6 c = null_set _ c.args.t c.requires.totals_of c.args.n c.args.s c.in
 
 pub returns-in_default : goal.returns-in_default
 returns-in_default c =
-        let r = c.in_default.in_default-own.rest in
+    let r = c.in_default.in_default-own.rest in
     other_form _ c.args.t c.requires.totals_of c.args.n c.args.s r.0.0.0.0.0.0.1 r.0.0.0.0.0.1 r.0.0.0.0.1 r.0.0.0.1 r.0.0.1 r.0.1 r.1

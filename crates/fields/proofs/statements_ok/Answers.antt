@@ -1,9 +1,8 @@
-use mathlib.Core.Path.{◌≡◌, ap, ◌∙◌}
-use Prim.Native.Nat.{◌-◌, ◌≤◌, zero-le}
+use mathlib.Core.Path.{ap, ◌∙◌}
+use Prim.Native.Nat.{zero-le}
 use borrow.Author.Count.{falls}
-use Rattle.base.specs.Below.{all_below}
 use Rattle.base.proofs.Turns.{turn_next, turn_most, all_begun, all_turn, all_ended}
-use Rattle.blocks.specs.Records.{model_of, statement_at}
+use Rattle.blocks.specs.Records.{model_of}
 use Rattle.blocks.proofs.Lookup.{statements_most}
 use Rattle.fields.specs.Fields.{statement_ok}
 use Rattle.fields.proofs.statements_ok.Goals as goal

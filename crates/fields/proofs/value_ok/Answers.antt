@@ -17,5 +17,5 @@ returns-in-2 c = rw c.in-2.is
 pub returns-in_default : goal.returns-in_default
 unfolding value_ok
 returns-in_default c =
-        let x = c.args.ty in
+    let x = c.args.ty in
     rw (ne_eqb x 0 c.in_default.in_default-own.rest.0.0.1, ne_eqb x 1 c.in_default.in_default-own.rest.0.1, ne_eqb x 2 c.in_default.in_default-own.rest.1)

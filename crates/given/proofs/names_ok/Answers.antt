@@ -1,11 +1,6 @@
-use mathlib.Core.Path.{◌≡◌, refl}
-use Prim.Native.Nat.{◌-◌, ◌≤◌}
+use mathlib.Core.Path.{refl}
 use native.Mathlib.Omega.{arith}
-use borrow.Author.Rules.{rules}
-use borrow.Author.Tests.{not-true, not-false}
-use lib.ListN.{length}
-use Rattle.grammar.specs.Tokens.{from}
-use Rattle.given.specs.Names.{names_ok, named}
+use Rattle.given.specs.Names.{named}
 use Rattle.given.proofs.NameLaws.{names_end, names_broken, names_again}
 use Rattle.given.proofs.names_ok.Goals as goal
 
@@ -21,10 +16,10 @@ returns-then-not-name_ok c = names_broken _ _ c.loop-t.invariant.1 c.token-t.ens
 
 pub loop-t-smaller : goal.loop-t-smaller
 loop-t-smaller c =
-        let t = c.token-t.ensures in
+    let t = c.token-t.ensures in
     omega (arith, t.within, (t.goes_on c.if-code-eq-END.false).1)
 
 pub loop-t-preserved : goal.loop-t-preserved
 loop-t-preserved c =
-        let t = c.token-t.ensures in
+    let t = c.token-t.ensures in
     (t.within.1, names_again _ _ c.loop-t.invariant.1 t c.if-code-eq-END.false c.name_ok.ensures (c.if-not-name_ok.false))

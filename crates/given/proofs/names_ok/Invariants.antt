@@ -1,13 +1,9 @@
 -- The loop keeps that the tokens from the place on decide. Assumes nothing.
-use mathlib.Core.Path.{◌≡◌, refl}
+use mathlib.Core.Path.{◌≡◌}
 use Prim.Native.Nat.{◌-◌, ◌≤◌}
-use native.Mathlib.Omega.{arith}
-use borrow.Author.Rules.{rules}
-use borrow.Author.Tests.{not-true, not-false}
 use lib.ListN.{length}
 use Rattle.grammar.specs.Tokens.{from}
 use Rattle.given.specs.Names.{names_ok, named}
-use Rattle.given.proofs.NameLaws.{names_end, names_broken, names_again}
 use Rattle.given.proofs.names_ok.Given as goal
 
 abbrev pub invariant-loop-t : goal.invariant-loop-t

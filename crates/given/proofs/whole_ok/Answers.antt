@@ -1,5 +1,4 @@
 -- The three numbers are bytes, so no sum wraps. Assumes nothing.
-use borrow.Author.Rules.{rules}
 use Rattle.given.specs.Given.{whole_ok}
 use Rattle.given.proofs.whole_ok.Goals as goal
 

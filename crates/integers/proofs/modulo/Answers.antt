@@ -1,5 +1,4 @@
 -- `modulo`: its test is that of the definition. Assumes nothing.
-use borrow.Author.Rules.{rules}
 use Rattle.integers.proofs.Machine.{raised_fits, kept, raised}
 use Rattle.integers.proofs.modulo.Goals as goal
 

@@ -2,7 +2,6 @@
 use mathlib.Core.Path.{ap}
 use mathlib.Core.Bool.{◌&&◌}
 use lib.Dec.{eqb, ltb}
-use borrow.Author.Rules.{rules}
 use Rattle.blocks.specs.declared.records.NodeRecord.{NodeRecord}
 use Rattle.leads.specs.Leads.{constant_above0}
 use Rattle.leads.proofs.constant_above_0.Goals as goal

@@ -1,8 +1,6 @@
-use Prim.Native.Nat.{◌-◌}
 use borrow.Author.Count.{falls}
 use Rattle.base.proofs.Turns.{turn_room, turn_fours, turn_next}
-use Rattle.blocks.specs.Records.{model_of}
-use Rattle.leads.proofs.SetsMade.{SetsMade, none_made, one_made, rows_made}
+use Rattle.leads.proofs.SetsMade.{none_made, one_made, rows_made}
 use Rattle.leads.proofs.rows.Goals as goal
 
 pub loop-p-init : goal.loop-p-init

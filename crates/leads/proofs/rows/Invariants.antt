@@ -1,9 +1,7 @@
 -- `rows`: the sets of the processes passed are made. Assumes nothing.
 use Prim.Native.Nat.{◌-◌}
-use borrow.Author.Count.{falls}
-use Rattle.base.proofs.Turns.{turn_room, turn_fours, turn_next}
 use Rattle.blocks.specs.Records.{model_of}
-use Rattle.leads.proofs.SetsMade.{SetsMade, none_made, one_made, rows_made}
+use Rattle.leads.proofs.SetsMade.{SetsMade}
 use Rattle.leads.proofs.rows.Given as goal
 
 abbrev pub invariant-loop-p : goal.invariant-loop-p

@@ -1,8 +1,5 @@
-use Prim.Native.Nat.{◌-◌}
 use borrow.Author.Count.{falls}
-use borrow.Author.Rules.{rules}
-use Rattle.blocks.specs.Records.{model_of}
-use Rattle.leads.proofs.RelationLaws.{Seen, none_seen, one_seen, all_seen, statement_there, place_fits, turn_fits}
+use Rattle.leads.proofs.RelationLaws.{none_seen, one_seen, all_seen, statement_there, place_fits, turn_fits}
 use Rattle.leads.proofs.sides_of.Goals as goal
 
 pub loop-i-init : goal.loop-i-init

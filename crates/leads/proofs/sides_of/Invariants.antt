@@ -1,9 +1,7 @@
 -- `sides_of`: the sets have what the statements passed assign without delay and wait on. Assumes nothing.
 use Prim.Native.Nat.{◌-◌}
-use borrow.Author.Count.{falls}
-use borrow.Author.Rules.{rules}
 use Rattle.blocks.specs.Records.{model_of}
-use Rattle.leads.proofs.RelationLaws.{Seen, none_seen, one_seen, all_seen, statement_there, place_fits, turn_fits}
+use Rattle.leads.proofs.RelationLaws.{Seen}
 use Rattle.leads.proofs.sides_of.Given as goal
 
 abbrev pub invariant-loop-i : goal.invariant-loop-i

@@ -1,5 +1,4 @@
 -- `wait_later`, of the statement as it was read. Assumes nothing.
-use borrow.Author.Rules.{rules}
 use Rattle.leads.proofs.RelationLaws.{no_wait, no_timeout, timeout_later, timeout_there}
 use Rattle.leads.proofs.wait_later.Goals as goal
 

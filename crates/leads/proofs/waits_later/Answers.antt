@@ -1,10 +1,7 @@
-use mathlib.Core.Path.{◌≡◌}
-use Prim.Native.Nat.{◌-◌, ◌≤◌, zero-le}
+use Prim.Native.Nat.{zero-le}
 use borrow.Author.Count.{falls}
-use Rattle.base.specs.Below.{all_below}
 use Rattle.base.proofs.Turns.{turn_next, turn_most, all_begun, all_turn, all_ended}
-use Rattle.blocks.specs.Records.{model_of, statement_at}
-use Rattle.leads.specs.Leads.{wait_later, waits_later}
+use Rattle.leads.specs.Leads.{waits_later}
 use Rattle.leads.proofs.waits_later.Goals as goal
 
 pub loop-n-init : goal.loop-n-init

@@ -1,11 +1,9 @@
 -- `waits_later`: each statement passed is none or a later wait. Assumes nothing.
 use mathlib.Core.Path.{◌≡◌}
-use Prim.Native.Nat.{◌-◌, ◌≤◌, zero-le}
-use borrow.Author.Count.{falls}
+use Prim.Native.Nat.{◌-◌, ◌≤◌}
 use Rattle.base.specs.Below.{all_below}
-use Rattle.base.proofs.Turns.{turn_next, turn_most, all_begun, all_turn, all_ended}
 use Rattle.blocks.specs.Records.{model_of, statement_at}
-use Rattle.leads.specs.Leads.{wait_later, waits_later}
+use Rattle.leads.specs.Leads.{wait_later}
 use Rattle.leads.proofs.waits_later.Given as goal
 
 abbrev pub invariant-loop-n : goal.invariant-loop-n

@@ -1,5 +1,4 @@
 -- `with_statement`, of the statement as it was read: an assignment names a signal and a node. Assumes nothing.
-use borrow.Author.Rules.{rules}
 use Rattle.leads.proofs.RelationLaws.{assignment_seen, wait_seen, nothing_seen, signal_below, delay_there}
 use Rattle.leads.proofs.with_statement.Goals as goal
 

@@ -1,7 +1,5 @@
-use Prim.Native.Nat.{◌-◌}
 use native.Mathlib.Omega.{arith}
-use borrow.Author.Rules.{rules}
-use Rattle.numerals.proofs.Bits.{Counting, one_place, next_place_lem, all_places}
+use Rattle.numerals.proofs.Bits.{one_place, next_place_lem, all_places}
 use Rattle.numerals.proofs.binary_places.Goals as goal
 
 pub loop-limit-init : goal.loop-limit-init

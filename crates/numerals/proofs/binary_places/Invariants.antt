@@ -1,8 +1,6 @@
 -- The limit is the power of two of the digits counted; all fewer digits are too few. The measure is the digits left. Assumes nothing.
 use Prim.Native.Nat.{◌-◌}
-use native.Mathlib.Omega.{arith}
-use borrow.Author.Rules.{rules}
-use Rattle.numerals.proofs.Bits.{Counting, one_place, next_place_lem, all_places}
+use Rattle.numerals.proofs.Bits.{Counting}
 use Rattle.numerals.proofs.binary_places.Given as goal
 
 abbrev pub invariant-loop-limit : goal.invariant-loop-limit

@@ -1,6 +1,5 @@
 -- The digits are those of the definition. Assumes nothing.
 use mathlib.Core.Path.{◌∙◌}
-use borrow.Author.Rules.{rules}
 use Rattle.numerals.proofs.NumeralLaws.{decimal_is}
 use Rattle.numerals.proofs.decimal.Goals as goal
 

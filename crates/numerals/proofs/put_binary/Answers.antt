@@ -1,7 +1,5 @@
-use borrow.Author.Rules.{rules}
-use lib.ListN.{length}
 use native.Mathlib.Omega.{arith}
-use Rattle.numerals.proofs.Bits.{Digits, no_digits, next_digit, all_digits}
+use Rattle.numerals.proofs.Bits.{no_digits, next_digit, all_digits}
 use Rattle.numerals.proofs.put_binary.Goals as goal
 
 pub loop-i-init : goal.loop-i-init

@@ -1,8 +1,6 @@
 -- The loop writes the digits from the last one on. The measure is the digits left. Assumes nothing.
-use borrow.Author.Rules.{rules}
 use lib.ListN.{length}
-use native.Mathlib.Omega.{arith}
-use Rattle.numerals.proofs.Bits.{Digits, no_digits, next_digit, all_digits}
+use Rattle.numerals.proofs.Bits.{Digits}
 use Rattle.numerals.proofs.put_binary.Given as goal
 
 abbrev pub invariant-loop-i : goal.invariant-loop-i

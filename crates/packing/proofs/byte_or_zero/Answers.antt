@@ -1,7 +1,6 @@
 -- Past the end a byte is 0 by definition. Assumes nothing.
 use mathlib.Core.Path.{sym}
 use native.Mathlib.Omega.{arith}
-use borrow.Author.Rules.{rules}
 use lib.ListN.{get_or-eq_default}
 use Rattle.packing.proofs.byte_or_zero.Goals as goal
 

@@ -1,6 +1,5 @@
 -- The kinds follow each other, a stage for each. Assumes nothing.
 use native.Mathlib.Omega.{arith}
-use borrow.Author.Rules.{rules}
 use Rattle.packing.proofs.PageLaws.{no_stage, next_stage, all_staged}
 use Rattle.packing.proofs.pack.Goals as goal
 
@@ -9,25 +8,25 @@ put_kind-a-requires c = (omega (arith, c.requires.fits), omega (arith, c.require
 
 pub put_kind-b-requires : goal.put_kind-b-requires
 put_kind-b-requires c =
-        let s1 = next_stage 1 c.args.signals.now (no_stage c.args.out.now) (c.put_kind-a.ensures.value, c.put_kind-a.ensures.out_after) in
+    let s1 = next_stage 1 c.args.signals.now (no_stage c.args.out.now) (c.put_kind-a.ensures.value, c.put_kind-a.ensures.out_after) in
     (omega (arith, c.requires.fits, s1.long, c.put_kind-a.ensures.value), omega (arith, c.requires.most, c.put_kind-a.ensures.value), omega arith)
 
 pub put_kind-c-requires : goal.put_kind-c-requires
 put_kind-c-requires c =
-        let s1 = next_stage 1 c.args.signals.now (no_stage c.args.out.now) (c.put_kind-a.ensures.value, c.put_kind-a.ensures.out_after) in
+    let s1 = next_stage 1 c.args.signals.now (no_stage c.args.out.now) (c.put_kind-a.ensures.value, c.put_kind-a.ensures.out_after) in
     let s2 = next_stage 2 c.args.variables.now s1 (c.put_kind-b.ensures.value, c.put_kind-b.ensures.out_after) in
     (omega (arith, c.requires.fits, s2.long, c.put_kind-a.ensures.value, c.put_kind-b.ensures.value), omega (arith, c.requires.most, c.put_kind-a.ensures.value, c.put_kind-b.ensures.value), omega arith)
 
 pub put_kind-d-requires : goal.put_kind-d-requires
 put_kind-d-requires c =
-        let s1 = next_stage 1 c.args.signals.now (no_stage c.args.out.now) (c.put_kind-a.ensures.value, c.put_kind-a.ensures.out_after) in
+    let s1 = next_stage 1 c.args.signals.now (no_stage c.args.out.now) (c.put_kind-a.ensures.value, c.put_kind-a.ensures.out_after) in
     let s2 = next_stage 2 c.args.variables.now s1 (c.put_kind-b.ensures.value, c.put_kind-b.ensures.out_after) in
     let s3 = next_stage 3 c.args.processes.now s2 (c.put_kind-c.ensures.value, c.put_kind-c.ensures.out_after) in
     (omega (arith, c.requires.fits, s3.long, c.put_kind-a.ensures.value, c.put_kind-b.ensures.value, c.put_kind-c.ensures.value), omega (arith, c.requires.most, c.put_kind-a.ensures.value, c.put_kind-b.ensures.value, c.put_kind-c.ensures.value), omega arith)
 
 pub put_kind-e-requires : goal.put_kind-e-requires
 put_kind-e-requires c =
-        let s1 = next_stage 1 c.args.signals.now (no_stage c.args.out.now) (c.put_kind-a.ensures.value, c.put_kind-a.ensures.out_after) in
+    let s1 = next_stage 1 c.args.signals.now (no_stage c.args.out.now) (c.put_kind-a.ensures.value, c.put_kind-a.ensures.out_after) in
     let s2 = next_stage 2 c.args.variables.now s1 (c.put_kind-b.ensures.value, c.put_kind-b.ensures.out_after) in
     let s3 = next_stage 3 c.args.processes.now s2 (c.put_kind-c.ensures.value, c.put_kind-c.ensures.out_after) in
     let s4 = next_stage 4 c.args.drivers.now s3 (c.put_kind-d.ensures.value, c.put_kind-d.ensures.out_after) in
@@ -35,7 +34,7 @@ put_kind-e-requires c =
 
 pub put_kind-requires : goal.put_kind-requires
 put_kind-requires c =
-        let s1 = next_stage 1 c.args.signals.now (no_stage c.args.out.now) (c.put_kind-a.ensures.value, c.put_kind-a.ensures.out_after) in
+    let s1 = next_stage 1 c.args.signals.now (no_stage c.args.out.now) (c.put_kind-a.ensures.value, c.put_kind-a.ensures.out_after) in
     let s2 = next_stage 2 c.args.variables.now s1 (c.put_kind-b.ensures.value, c.put_kind-b.ensures.out_after) in
     let s3 = next_stage 3 c.args.processes.now s2 (c.put_kind-c.ensures.value, c.put_kind-c.ensures.out_after) in
     let s4 = next_stage 4 c.args.drivers.now s3 (c.put_kind-d.ensures.value, c.put_kind-d.ensures.out_after) in
@@ -44,7 +43,7 @@ put_kind-requires c =
 
 pub returns : goal.returns
 returns c =
-        let s1 = next_stage 1 c.args.signals.now (no_stage c.args.out.now) (c.put_kind-a.ensures.value, c.put_kind-a.ensures.out_after) in
+    let s1 = next_stage 1 c.args.signals.now (no_stage c.args.out.now) (c.put_kind-a.ensures.value, c.put_kind-a.ensures.out_after) in
     let s2 = next_stage 2 c.args.variables.now s1 (c.put_kind-b.ensures.value, c.put_kind-b.ensures.out_after) in
     let s3 = next_stage 3 c.args.processes.now s2 (c.put_kind-c.ensures.value, c.put_kind-c.ensures.out_after) in
     let s4 = next_stage 4 c.args.drivers.now s3 (c.put_kind-d.ensures.value, c.put_kind-d.ensures.out_after) in

@@ -1,11 +1,10 @@
-use mathlib.Core.Path.{◌≡◌, refl}
-use Prim.Native.Nat.{◌-◌, ◌≤◌, zero-le}
+use mathlib.Core.Path.{refl}
+use Prim.Native.Nat.{zero-le}
 use native.Mathlib.Nat.{le_antisymm}
 use native.Mathlib.Omega.{arith}
-use lib.ListN.{length, length-set}
+use lib.ListN.{length-set}
 use borrow.Author.Rules.{rules}
-use Rattle.packing.specs.Packed.{block_byte}
-use Rattle.packing.proofs.BlockLaws.{Begun, begun, begun_next, block_put}
+use Rattle.packing.proofs.BlockLaws.{begun, begun_next, block_put}
 use Rattle.packing.proofs.put_block.Goals as goal
 
 pub loop-i-init : goal.loop-i-init
@@ -13,7 +12,7 @@ loop-i-init c = (zero-le, begun _ _, search rules)
 
 pub loop-i-preserved : goal.loop-i-preserved
 loop-i-preserved c =
-        let inv = c.loop-i.invariant in
+    let inv = c.loop-i.invariant in
     (omega (arith, c.loop-i-test.true), rw c.block_byte.ensures.0 (begun_next _ _ _ _ (omega (arith, c.loop-i-test.true, c.requires.out_len, c.requires.b_bound)) inv.1), rw length-set inv.2)
 
 pub returns : goal.returns

@@ -1,12 +1,9 @@
 -- The loop writes the bytes one after the other; the last word follows. Assumes nothing.
-use mathlib.Core.Path.{◌≡◌, refl}
-use Prim.Native.Nat.{◌-◌, ◌≤◌, zero-le}
-use native.Mathlib.Nat.{le_antisymm}
-use native.Mathlib.Omega.{arith}
-use lib.ListN.{length, length-set}
-use borrow.Author.Rules.{rules}
+use mathlib.Core.Path.{◌≡◌}
+use Prim.Native.Nat.{◌-◌, ◌≤◌}
+use lib.ListN.{length}
 use Rattle.packing.specs.Packed.{block_byte}
-use Rattle.packing.proofs.BlockLaws.{Begun, begun, begun_next, block_put}
+use Rattle.packing.proofs.BlockLaws.{Begun}
 use Rattle.packing.proofs.put_block.Given as goal
 
 abbrev pub invariant-loop-i : goal.invariant-loop-i

@@ -1,13 +1,9 @@
-use mathlib.Core.Path.{◌≡◌, refl}
-use Prim.Native.Nat.{◌+◌, ◌*◌, ◌-◌, ◌/◌, ◌≤◌, zero-le}
+use mathlib.Core.Path.{refl}
+use Prim.Native.Nat.{◌*◌, zero-le}
 use native.Mathlib.Nat.{le_antisymm}
 use native.Mathlib.Omega.{arith}
-use lib.ListN.{length}
-use lib.Seq.{sets}
-use borrow.Author.Rules.{rules}
-use Rattle.base.specs.Below.{list_below}
-use Rattle.packing.specs.Packed.{blocks_from, blocks_for, page_of, pages_of}
-use Rattle.packing.proofs.PageLaws.{page_part, Put, put_none, put_next}
+use Rattle.packing.specs.Packed.{pages_of}
+use Rattle.packing.proofs.PageLaws.{page_part, put_none, put_next}
 use Rattle.packing.proofs.put_kind.Goals as goal
 
 pub loop-j-init : goal.loop-j-init
@@ -18,7 +14,7 @@ loop-j-smaller c = omega (arith, c.loop-j-test.true)
 
 pub loop-j-preserved : goal.loop-j-preserved
 loop-j-preserved c =
-        let inv = c.loop-j.invariant in
+    let inv = c.loop-j.invariant in
     let n = c.loop-j-test.true in
     let next = put_next _ _ _ _ _ _ _ _ inv.1 inv.2 (omega (arith, n, c.requires)) (page_part c.args.r.now (504 * c.loop-j.j) c.lower-end.result c.lower-end.ensures (omega (arith, n))) c.put_block.ensures in
     (omega (arith, n), next.0, next.1)

@@ -3,7 +3,6 @@
 use native.Mathlib.Omega.{arith}
 use borrow.Author.Tests.{not-true, not-false}
 use Rattle.phrases.proofs.Operands.{is_nothing, is_leaf, no_delay_number, no_delay_range, no_delay_bracket, delay_leaf, closing_word}
-use borrow.Author.Rules.{rules}
 use Rattle.phrases.proofs.delay.Goals as goal
 
 pub returns-then-k-ne-NUMBER : goal.returns-then-k-ne-NUMBER

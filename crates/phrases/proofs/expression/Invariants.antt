@@ -1,14 +1,9 @@
 -- The loop keeps what is read so far (proofs/GroupLaws): where an operand is awaited, and where one has been read.
 -- Assumes nothing.
-use Rattle.phrases.proofs.Operands.{closing_word}
-use mathlib.Core.Path.{◌≡◌, refl}
+use mathlib.Core.Path.{◌≡◌}
 use Prim.Native.Nat.{◌-◌, ◌≤◌}
-use native.Mathlib.Omega.{arith}
 use lib.ListN.{length}
-use borrow.Author.Rules.{rules}
-use borrow.Author.Tests.{not-true, not-false}
-use Rattle.phrases.proofs.GroupLaws.{Reads, wanting_first, leaf_read, group_opened, operator_read, group_closed, no_operand, no_operator, no_bracket, whole, top_small, reads_wanting, reads_having, reads_still, reads_on, other_form, group_small}
-use Rattle.tokens.proofs.Lexing.{yes_answer, no_answer}
+use Rattle.phrases.proofs.GroupLaws.{Reads}
 use Rattle.phrases.proofs.expression.Given as goal
 
 abbrev pub invariant-loop-wanted : goal.invariant-loop-wanted

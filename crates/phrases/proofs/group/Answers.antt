@@ -2,7 +2,6 @@
 -- Assumes nothing.
 use native.Mathlib.Omega.{arith}
 use Rattle.phrases.proofs.Operands.{is_group, not_group, negate_group, left_other, left_signal, after_signal, delaying_word}
-use borrow.Author.Rules.{rules}
 use Rattle.phrases.proofs.group.Goals as goal
 
 pub returns-then-code-eq-NOT : goal.returns-then-code-eq-NOT

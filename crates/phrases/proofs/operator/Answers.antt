@@ -2,7 +2,6 @@
 -- Assumes nothing.
 use mathlib.Core.Path.{refl}
 use Rattle.phrases.proofs.Operands.{operator_answer}
-use borrow.Author.Rules.{rules}
 use Rattle.phrases.proofs.operator.Goals as goal
 
 pub returns : goal.returns

@@ -3,7 +3,6 @@
 use native.Mathlib.Omega.{arith}
 use Rattle.tokens.proofs.Lexing.{no_answer}
 use Rattle.phrases.proofs.PhraseLaws.{phrase_answer, no_phrase_here}
-use borrow.Author.Rules.{rules}
 use Rattle.phrases.proofs.phrase.Goals as goal
 
 pub word-w-requires : goal.word-w-requires

@@ -1,7 +1,6 @@
 -- By the group's kind.
 -- Assumes nothing.
 use Rattle.phrases.proofs.Operands.{put_prefix, put_infix}
-use borrow.Author.Rules.{rules}
 use Rattle.phrases.proofs.put_closed.Goals as goal
 
 pub returns-then-kind : goal.returns-then-kind

@@ -1,5 +1,4 @@
 -- `with`: a bit more, or none. Assumes nothing.
-use borrow.Author.Rules.{rules}
 use Rattle.sets.proofs.Bits.{with_one, with_none}
 use Rattle.sets.proofs.with.Goals as goal
 

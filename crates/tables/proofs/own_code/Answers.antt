@@ -1,6 +1,5 @@
 use mathlib.Core.Path.{ap, ◌∙◌}
 use lib.ListN.{get_or}
-use borrow.Author.Rules.{rules}
 use Rattle.blocks.specs.declared.records.RowRecord.{RowRecord}
 use Rattle.tables.proofs.own_code.Goals as goal
 

@@ -1,16 +1,11 @@
-use mathlib.Core.Path.{◌≡◌, sym}
-use Prim.Native.Nat.{◌-◌, ◌≤◌, zero-le}
-use native.Mathlib.Nat.{le_antisymm}
+use mathlib.Core.Path.{◌≡◌}
+use Prim.Native.Nat.{◌-◌, ◌≤◌}
 use lib.ListN.{length}
-use borrow.Author.Rules.{rules}
 use Rattle.base.specs.Below.{list_below}
-use Rattle.base.proofs.Below.{list_none}
-use Rattle.values.specs.Resolve.{entry_of, table_by}
+use Rattle.values.specs.Resolve.{entry_of}
 use Rattle.blocks.specs.Records.{model_of}
 use Rattle.blocks.specs.Index.{index_size, table_at, placed, Starts}
-use Rattle.blocks.proofs.Entries.{past, starts_set}
-use Rattle.blocks.proofs.Places.{placed_none, placed_next}
-use Rattle.tables.specs.Tables.{rows_of, table_of}
+use Rattle.tables.specs.Tables.{rows_of}
 use Rattle.tables.proofs.put_table.Given as goal
 
 abbrev pub invariant-loop-n : goal.invariant-loop-n

@@ -1,6 +1,5 @@
 use mathlib.Core.Path.{sym, ◌∙◌}
 use native.Mathlib.Omega.{arith}
-use borrow.Author.Rules.{rules}
 use Rattle.tables.proofs.Entries.{rows_nine, entry_standard, entry_own}
 use Rattle.tables.proofs.table_entry.Goals as goal
 
@@ -14,5 +13,5 @@ returns-then-t-eq0 c = c.standard.ensures ∙ entry_standard _ _ (sym c.requires
 
 pub returns-else-t-eq0 : goal.returns-else-t-eq0
 returns-else-t-eq0 c =
-        let e = rows_nine _ c.requires.starts.totals (λ z. c.if-t-eq0.false (c.requires.totals_of.rows ∙ z)) in
+    let e = rows_nine _ c.requires.starts.totals (λ z. c.if-t-eq0.false (c.requires.totals_of.rows ∙ z)) in
     c.own_code.ensures ∙ entry_own _ _ (λ z. c.if-t-eq0.false (c.requires.totals_of.rows ∙ z)) (rw e (omega arith))

@@ -1,8 +1,6 @@
 use mathlib.Core.Path.{◌≡◌, sym, ◌∙◌}
 use mathlib.Core.Bool.{true}
 use lib.ListN.{length, take, drop}
-use borrow.Author.Rules.{rules}
-use borrow.Author.Tests.{not-true, not-false}
 use Rattle.values.specs.Resolve.{entries, symmetric}
 use Rattle.blocks.specs.Index.{table_at}
 use Rattle.blocks.specs.Records.{model_of}

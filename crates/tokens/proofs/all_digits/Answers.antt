@@ -1,10 +1,6 @@
-use mathlib.Core.Path.{◌≡◌, refl, sym, ◌∙◌}
-use Prim.Native.Nat.{◌-◌, ◌≤◌}
+use mathlib.Core.Path.{refl, sym, ◌∙◌}
 use native.Mathlib.Omega.{arith}
-use borrow.Author.Rules.{rules}
-use borrow.Author.Tests.{not-true, not-false}
-use lib.ListN.{length, drop}
-use Rattle.grammar.specs.Tokens.{is_digit, all_digits}
+use Rattle.grammar.specs.Tokens.{is_digit}
 use Rattle.tokens.proofs.Runs.{tested, digits_again, digits_end, digits_over}
 use Rattle.tokens.proofs.all_digits.Goals as goal
 

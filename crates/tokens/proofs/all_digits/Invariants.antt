@@ -1,12 +1,8 @@
 -- The loop keeps that all bytes are digits exactly if those that follow are. Assumes nothing.
-use mathlib.Core.Path.{◌≡◌, refl, sym, ◌∙◌}
+use mathlib.Core.Path.{◌≡◌}
 use Prim.Native.Nat.{◌-◌, ◌≤◌}
-use native.Mathlib.Omega.{arith}
-use borrow.Author.Rules.{rules}
-use borrow.Author.Tests.{not-true, not-false}
 use lib.ListN.{length, drop}
-use Rattle.grammar.specs.Tokens.{is_digit, all_digits}
-use Rattle.tokens.proofs.Runs.{tested, digits_again, digits_end, digits_over}
+use Rattle.grammar.specs.Tokens.{all_digits}
 use Rattle.tokens.proofs.all_digits.Given as goal
 
 abbrev pub invariant-loop-i : goal.invariant-loop-i

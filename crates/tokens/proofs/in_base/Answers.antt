@@ -1,9 +1,5 @@
-use mathlib.Core.Path.{◌≡◌, refl}
-use Prim.Native.Nat.{◌-◌, ◌≤◌}
+use mathlib.Core.Path.{refl}
 use native.Mathlib.Omega.{arith}
-use borrow.Author.Rules.{rules}
-use lib.ListN.{length, drop}
-use Rattle.grammar.specs.Tokens.{in_base}
 use Rattle.tokens.proofs.Runs.{base_again, base_exceeds, base_over, shifted_fits}
 use Rattle.tokens.proofs.in_base.Goals as goal
 

@@ -1,11 +1,8 @@
 -- The loop keeps that the bytes say what `v` and those that follow say, and that `v` is at most `most`. Assumes nothing.
-use mathlib.Core.Path.{◌≡◌, refl}
+use mathlib.Core.Path.{◌≡◌}
 use Prim.Native.Nat.{◌-◌, ◌≤◌}
-use native.Mathlib.Omega.{arith}
-use borrow.Author.Rules.{rules}
 use lib.ListN.{length, drop}
 use Rattle.grammar.specs.Tokens.{in_base}
-use Rattle.tokens.proofs.Runs.{base_again, base_exceeds, base_over, shifted_fits}
 use Rattle.tokens.proofs.in_base.Given as goal
 
 abbrev pub invariant-loop-i : goal.invariant-loop-i

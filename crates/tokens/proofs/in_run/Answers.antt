@@ -1,5 +1,4 @@
 -- By the two tests. Assumes nothing.
-use borrow.Author.Rules.{rules}
 use Rattle.grammar.specs.Tokens.{in_run, is_small}
 use Rattle.tokens.proofs.in_run.Goals as goal
 

@@ -1,5 +1,4 @@
 -- The tests, one by one; a text without bytes has no digit. Assumes nothing.
-use borrow.Author.Rules.{rules}
 use Rattle.tokens.proofs.Runs.{no_numeral, numeral_by}
 use Rattle.tokens.proofs.is_numeral.Goals as goal
 

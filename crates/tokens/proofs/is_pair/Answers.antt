@@ -1,6 +1,5 @@
 -- A text of less than two bytes has no byte 1. Assumes nothing.
 use mathlib.Core.Path.{sym}
-use borrow.Author.Rules.{rules}
 use Rattle.tokens.proofs.Lexing.{short_pair, pair_by}
 use Rattle.tokens.proofs.is_pair.Goals as goal
 

@@ -1,6 +1,5 @@
 -- A text of less than three bytes has no byte 2. Assumes nothing.
 use mathlib.Core.Path.{sym}
-use borrow.Author.Rules.{rules}
 use Rattle.tokens.proofs.Lexing.{short_quoted, quoted_by}
 use Rattle.tokens.proofs.is_quoted.Goals as goal
 

@@ -42,5 +42,5 @@ returns-in-45 c = rw c.in-45.is
 pub returns-in_default : goal.returns-in_default
 unfolding logic_of
 returns-in_default c =
-        let r = c.in_default.in_default-own.rest in
+    let r = c.in_default.in_default-own.rest in
     rw (ne_eqb _ 85 r.0.0.0.0.0.0.0.0.1, ne_eqb _ 88 r.0.0.0.0.0.0.0.1, ne_eqb _ 48 r.0.0.0.0.0.0.1, ne_eqb _ 49 r.0.0.0.0.0.1, ne_eqb _ 90 r.0.0.0.0.1, ne_eqb _ 87 r.0.0.0.1, ne_eqb _ 76 r.0.0.1, ne_eqb _ 72 r.0.1, ne_eqb _ 45 r.1)

@@ -1,5 +1,4 @@
 -- A numeral that was kept is told, and no other. Assumes nothing.
-use borrow.Author.Rules.{rules}
 use Rattle.tokens.proofs.Runs.{no_number, number_told, number_large}
 use Rattle.tokens.proofs.numbered_by.Goals as goal
 

@@ -1,10 +1,5 @@
-use mathlib.Core.Path.{◌≡◌, refl}
-use Prim.Native.Nat.{◌-◌, ◌≤◌}
+use mathlib.Core.Path.{refl}
 use native.Mathlib.Omega.{arith}
-use borrow.Author.Rules.{rules}
-use borrow.Author.Tests.{not-true, not-false}
-use lib.ListN.{length}
-use Rattle.grammar.specs.Tokens.{from}
 use Rattle.tokens.proofs.Lexing.{space_again, space_found, spaces_over}
 use Rattle.tokens.proofs.past_spaces.Goals as goal
 
@@ -16,7 +11,7 @@ byte-requires c = omega arith
 
 pub returns-then-not-is_space : goal.returns-then-not-is_space
 returns-then-not-is_space c =
-        let inv = c.loop-i.invariant in
+    let inv = c.loop-i.invariant in
     space_found _ _ _ _ inv.0 c.loop-i-test.true inv.2 c.byte.ensures c.is_space.ensures (c.if-not-is_space.true)
 
 pub overflow_add-i : goal.overflow_add-i
@@ -27,10 +22,10 @@ loop-i-smaller c = omega arith
 
 pub loop-i-preserved : goal.loop-i-preserved
 loop-i-preserved c =
-        let inv = c.loop-i.invariant in
+    let inv = c.loop-i.invariant in
     space_again _ _ _ _ inv.0 c.loop-i-test.true inv.2 c.byte.ensures c.is_space.ensures (c.if-not-is_space.false)
 
 pub returns : goal.returns
 returns c =
-        let inv = c.loop-i.invariant in
+    let inv = c.loop-i.invariant in
     spaces_over _ _ _ inv.0 inv.1 c.loop-i-test.false inv.2

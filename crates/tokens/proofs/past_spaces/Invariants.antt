@@ -1,12 +1,8 @@
 -- The loop keeps that the tokens from `at` on are those from `i` on. Assumes nothing.
-use mathlib.Core.Path.{◌≡◌, refl}
+use mathlib.Core.Path.{◌≡◌}
 use Prim.Native.Nat.{◌-◌, ◌≤◌}
-use native.Mathlib.Omega.{arith}
-use borrow.Author.Rules.{rules}
-use borrow.Author.Tests.{not-true, not-false}
 use lib.ListN.{length}
 use Rattle.grammar.specs.Tokens.{from}
-use Rattle.tokens.proofs.Lexing.{space_again, space_found, spaces_over}
 use Rattle.tokens.proofs.past_spaces.Given as goal
 
 abbrev pub invariant-loop-i : goal.invariant-loop-i

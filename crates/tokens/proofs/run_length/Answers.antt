@@ -1,10 +1,5 @@
-use mathlib.Core.Path.{◌≡◌}
-use Prim.Native.Nat.{◌+◌, ◌-◌, ◌≤◌}
 use native.Mathlib.Omega.{arith}
-use borrow.Author.Rules.{rules}
-use borrow.Author.Tests.{not-true, not-false}
-use lib.ListN.{length, drop}
-use Rattle.grammar.specs.Tokens.{in_run, run_length}
+use Rattle.grammar.specs.Tokens.{in_run}
 use Rattle.tokens.proofs.Runs.{tested, run_again, run_ends, run_over}
 use Rattle.tokens.proofs.run_length.Goals as goal
 

@@ -1,12 +1,8 @@
 -- The loop keeps that the letters and digits passed and those that follow are all that stand at the front. Assumes nothing.
 use mathlib.Core.Path.{◌≡◌}
 use Prim.Native.Nat.{◌+◌, ◌-◌, ◌≤◌}
-use native.Mathlib.Omega.{arith}
-use borrow.Author.Rules.{rules}
-use borrow.Author.Tests.{not-true, not-false}
 use lib.ListN.{length, drop}
-use Rattle.grammar.specs.Tokens.{in_run, run_length}
-use Rattle.tokens.proofs.Runs.{tested, run_again, run_ends, run_over}
+use Rattle.grammar.specs.Tokens.{run_length}
 use Rattle.tokens.proofs.run_length.Given as goal
 
 abbrev pub invariant-loop-i : goal.invariant-loop-i

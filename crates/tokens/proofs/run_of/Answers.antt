@@ -1,5 +1,4 @@
 -- The first byte says what the run is. Assumes nothing.
-use borrow.Author.Rules.{rules}
 use Rattle.tokens.proofs.Runs.{number_run, signal_run, variable_run, word_run}
 use Rattle.tokens.proofs.run_of.Goals as goal
 

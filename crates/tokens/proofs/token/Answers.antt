@@ -1,5 +1,4 @@
 -- The token at the first byte that is no space, or the end. Assumes nothing.
-use borrow.Author.Rules.{rules}
 use Rattle.tokens.proofs.Lexing.{first_token, first_end}
 use Rattle.tokens.proofs.token.Goals as goal
 

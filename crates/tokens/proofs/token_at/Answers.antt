@@ -1,7 +1,6 @@
 -- The tests say which token stands at the front. Assumes nothing.
 use mathlib.Core.Path.{sym, ◌∙◌}
 use native.Mathlib.Omega.{arith}
-use borrow.Author.Rules.{rules}
 use lib.Seq.{length-take-le}
 use Rattle.grammar.specs.Tokens.{in_run}
 use Rattle.tokens.proofs.Runs.{tested}

@@ -1,6 +1,5 @@
 -- The code of the first token decides. Assumes nothing.
 use mathlib.Core.Path.{refl}
-use borrow.Author.Rules.{rules}
 use Rattle.tokens.proofs.Lexing.{word_answer}
 use Rattle.tokens.proofs.word.Goals as goal
 

@@ -1,5 +1,4 @@
 -- A word that was kept is told, and no other. Assumes nothing.
-use borrow.Author.Rules.{rules}
 use Rattle.tokens.proofs.Runs.{word_told, word_long}
 use Rattle.tokens.proofs.word_of.Goals as goal
 

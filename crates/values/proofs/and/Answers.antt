@@ -1,4 +1,3 @@
-use borrow.Author.Rules.{rules}
 use Rattle.values.proofs.Formulas.{and_by_classes}
 use Rattle.values.proofs.and.Goals as goal
 

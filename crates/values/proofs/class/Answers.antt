@@ -1,4 +1,3 @@
-use borrow.Author.Rules.{rules}
 use Rattle.values.specs.Nine.{is_u, low, high}
 use Rattle.values.proofs.class.Goals as goal
 

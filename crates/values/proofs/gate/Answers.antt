@@ -1,4 +1,3 @@
-use borrow.Author.Rules.{rules}
 use Rattle.values.proofs.gate.Goals as goal
 
 pub returns : goal.returns

@@ -1,4 +1,3 @@
-use borrow.Author.Rules.{rules}
 use Rattle.values.proofs.joined.Goals as goal
 
 pub returns-then-some : goal.returns-then-some

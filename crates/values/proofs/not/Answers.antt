@@ -1,4 +1,3 @@
-use borrow.Author.Rules.{rules}
 use Rattle.values.proofs.Formulas.{not_by_class}
 use Rattle.values.proofs.not.Goals as goal
 

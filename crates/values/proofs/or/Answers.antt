@@ -1,4 +1,3 @@
-use borrow.Author.Rules.{rules}
 use Rattle.values.proofs.Formulas.{or_by_classes}
 use Rattle.values.proofs.or.Goals as goal
 

@@ -1,4 +1,3 @@
-use borrow.Author.Rules.{rules}
 use Rattle.values.specs.Resolve.{pair_in}
 use Rattle.values.proofs.Resolution.{table_laws}
 use Rattle.values.proofs.pair.Goals as goal

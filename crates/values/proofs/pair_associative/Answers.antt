@@ -1,11 +1,10 @@
-use mathlib.Core.Path.{◌≡◌, ap, ◌∙◌}
-use Prim.Native.Nat.{◌-◌, ◌≤◌, zero-le}
+use mathlib.Core.Path.{ap, ◌∙◌}
+use Prim.Native.Nat.{zero-le}
 use native.Mathlib.Nat.{le_antisymm}
-use lib.Dec.{eqb}
 use borrow.Author.Rules.{rules}
 use Rattle.base.specs.Below.{all_below}
 use Rattle.base.proofs.Turns.{turn_most, all_begun, all_turn}
-use Rattle.values.specs.Resolve.{pair_in, pair_associative}
+use Rattle.values.specs.Resolve.{pair_associative}
 use Rattle.values.proofs.pair_associative.Goals as goal
 
 pub loop-z-init : goal.loop-z-init

@@ -1,4 +1,3 @@
-use borrow.Author.Rules.{rules}
 use Rattle.values.specs.Resolve.{pair_of, resolution_of}
 use Rattle.values.proofs.Resolution.{standard_resolution}
 use Rattle.values.proofs.resolve.Goals as goal

@@ -1,8 +1,4 @@
-use mathlib.Core.Path.{◌≡◌}
-use Prim.Native.Nat.{◌≤◌, ◌-◌}
-use lib.ListN.{length, take}
 use borrow.Author.Rules.{rules}
-use Rattle.values.specs.Resolve.{pair_in, resolution_by}
 use Rattle.values.proofs.Resolution.{resolved_none, resolved_next, resolved_all}
 use Rattle.values.proofs.resolve_by.Goals as goal
 

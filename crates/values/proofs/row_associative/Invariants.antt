@@ -1,10 +1,7 @@
-use mathlib.Core.Path.{◌≡◌, ap, ◌∙◌}
-use Prim.Native.Nat.{◌-◌, ◌≤◌, zero-le}
-use native.Mathlib.Nat.{le_antisymm}
-use borrow.Author.Rules.{rules}
+use mathlib.Core.Path.{◌≡◌}
+use Prim.Native.Nat.{◌-◌, ◌≤◌}
 use Rattle.base.specs.Below.{all_below}
-use Rattle.base.proofs.Turns.{turn_most, all_begun, all_turn}
-use Rattle.values.specs.Resolve.{pair_associative, row_associative}
+use Rattle.values.specs.Resolve.{pair_associative}
 use Rattle.values.proofs.row_associative.Given as goal
 
 abbrev pub invariant-loop-y : goal.invariant-loop-y

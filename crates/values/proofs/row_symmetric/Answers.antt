@@ -1,11 +1,10 @@
-use mathlib.Core.Path.{◌≡◌, ap, ◌∙◌}
-use Prim.Native.Nat.{◌-◌, ◌≤◌, zero-le}
+use mathlib.Core.Path.{ap, ◌∙◌}
+use Prim.Native.Nat.{zero-le}
 use native.Mathlib.Nat.{le_antisymm}
-use lib.Dec.{eqb}
 use borrow.Author.Rules.{rules}
 use Rattle.base.specs.Below.{all_below}
 use Rattle.base.proofs.Turns.{turn_most, all_begun, all_turn}
-use Rattle.values.specs.Resolve.{pair_in, row_symmetric}
+use Rattle.values.specs.Resolve.{row_symmetric}
 use Rattle.values.proofs.row_symmetric.Goals as goal
 
 pub loop-y-init : goal.loop-y-init

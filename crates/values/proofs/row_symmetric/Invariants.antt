@@ -1,11 +1,8 @@
-use mathlib.Core.Path.{◌≡◌, ap, ◌∙◌}
-use Prim.Native.Nat.{◌-◌, ◌≤◌, zero-le}
-use native.Mathlib.Nat.{le_antisymm}
+use mathlib.Core.Path.{◌≡◌}
+use Prim.Native.Nat.{◌-◌, ◌≤◌}
 use lib.Dec.{eqb}
-use borrow.Author.Rules.{rules}
 use Rattle.base.specs.Below.{all_below}
-use Rattle.base.proofs.Turns.{turn_most, all_begun, all_turn}
-use Rattle.values.specs.Resolve.{pair_in, row_symmetric}
+use Rattle.values.specs.Resolve.{pair_in}
 use Rattle.values.proofs.row_symmetric.Given as goal
 
 abbrev pub invariant-loop-y : goal.invariant-loop-y

@@ -1,5 +1,4 @@
 -- The table as the code holds it is the paper's.
-use borrow.Author.Rules.{rules}
 use Rattle.values.specs.Resolve.{standard_rows}
 use Rattle.values.proofs.standard.Goals as goal
 

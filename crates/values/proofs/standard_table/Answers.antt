@@ -1,8 +1,8 @@
-use Prim.Native.Nat.{◌-◌, ◌≤◌, zero-le}
+use Prim.Native.Nat.{zero-le}
 use borrow.Author.Rules.{rules}
 use Rattle.base.proofs.Turns.{turn_most}
-use Rattle.values.specs.Resolve.{standard_rows, standard}
-use Rattle.values.proofs.Tables.{Written, written_none, written_next, written_all}
+use Rattle.values.specs.Resolve.{standard}
+use Rattle.values.proofs.Tables.{written_none, written_next, written_all}
 use Rattle.values.proofs.standard_table.Goals as goal
 
 pub loop-n-init : goal.loop-n-init

@@ -1,8 +1,6 @@
-use Prim.Native.Nat.{◌-◌, ◌≤◌, zero-le}
-use borrow.Author.Rules.{rules}
-use Rattle.base.proofs.Turns.{turn_most}
-use Rattle.values.specs.Resolve.{standard_rows, standard}
-use Rattle.values.proofs.Tables.{Written, written_none, written_next, written_all}
+use Prim.Native.Nat.{◌-◌, ◌≤◌}
+use Rattle.values.specs.Resolve.{standard_rows}
+use Rattle.values.proofs.Tables.{Written}
 use Rattle.values.proofs.standard_table.Given as goal
 
 abbrev pub invariant-loop-n : goal.invariant-loop-n

@@ -1,8 +1,7 @@
-use borrow.Author.Rules.{rules}
 use Rattle.values.proofs.Formulas.{xor_by_classes}
 use Rattle.values.proofs.xor.Goals as goal
 
 pub returns : goal.returns
 returns c =
-        rw (c.choose32-3.ensures, c.choose32-2.ensures, c.choose32.ensures)
+    rw (c.choose32-3.ensures, c.choose32-2.ensures, c.choose32.ensures)
     (rw (c.class-a.ensures, c.class-b.ensures) (xor_by_classes _ _))

@@ -1,7 +1,6 @@
 -- Six words, one behind the other.
 -- Assumes nothing.
 use Rattle.writing.proofs.WriteLaws.{six_words}
-use borrow.Author.Rules.{rules}
 use Rattle.writing.proofs.put_record.Goals as goal
 
 pub returns : goal.returns

@@ -1,7 +1,6 @@
 -- Two bytes, one behind the other.
 -- Assumes nothing.
 use Rattle.writing.proofs.WriteLaws.{word_stored}
-use borrow.Author.Rules.{rules}
 use Rattle.writing.proofs.put_word.Goals as goal
 
 pub returns : goal.returns

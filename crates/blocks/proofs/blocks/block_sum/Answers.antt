@@ -1,10 +1,8 @@
-use mathlib.Core.Path.{◌≡◌, sym}
-use Prim.Native.Nat.{◌+◌, ◌*◌, ◌-◌, ◌≤◌, zero-le}
+use mathlib.Core.Path.{sym}
+use Prim.Native.Nat.{zero-le}
 use native.Mathlib.Nat.{le_antisymm}
 use borrow.Author.Count.{falls}
 use borrow.Author.Rules.{rules}
-use Rattle.base.specs.Below.{sum_below}
-use Rattle.base.specs.Bytes.{word_at}
 use Rattle.base.proofs.Below.{sum_none}
 use Rattle.base.proofs.Turns.{turn_most, sum_turn}
 use Rattle.blocks.specs.Blocks.{block_sum}

@@ -1,13 +1,7 @@
-use mathlib.Core.Path.{◌≡◌, sym}
-use Prim.Native.Nat.{◌+◌, ◌*◌, ◌-◌, ◌≤◌, zero-le}
-use native.Mathlib.Nat.{le_antisymm}
-use borrow.Author.Count.{falls}
-use borrow.Author.Rules.{rules}
+use mathlib.Core.Path.{◌≡◌}
+use Prim.Native.Nat.{◌+◌, ◌*◌, ◌-◌, ◌≤◌}
 use Rattle.base.specs.Below.{sum_below}
 use Rattle.base.specs.Bytes.{word_at}
-use Rattle.base.proofs.Below.{sum_none}
-use Rattle.base.proofs.Turns.{turn_most, sum_turn}
-use Rattle.blocks.specs.Blocks.{block_sum}
 use Rattle.blocks.proofs.blocks.block_sum.Given as goal
 
 abbrev pub invariant-loop-i : goal.invariant-loop-i

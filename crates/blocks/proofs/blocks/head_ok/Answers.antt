@@ -1,4 +1,3 @@
-use borrow.Author.Rules.{rules}
 use Rattle.blocks.proofs.BlockForms.{head_form}
 use Rattle.blocks.proofs.blocks.head_ok.Goals as goal
 

@@ -1,11 +1,10 @@
-use mathlib.Core.Path.{◌≡◌, ap, ◌∙◌}
-use Prim.Native.Nat.{◌-◌, ◌≤◌, zero-le}
+use mathlib.Core.Path.{ap, ◌∙◌}
+use Prim.Native.Nat.{zero-le}
 use native.Mathlib.Nat.{le_antisymm}
 use borrow.Author.Count.{falls}
-use borrow.Author.Rules.{rules}
 use Rattle.base.specs.Below.{all_below}
 use Rattle.base.proofs.Turns.{turn_most, all_begun, all_turn}
-use Rattle.blocks.specs.Blocks.{head_ok, heads_ok}
+use Rattle.blocks.specs.Blocks.{heads_ok}
 use Rattle.blocks.proofs.blocks.heads_ok.Goals as goal
 
 pub loop-b-init : goal.loop-b-init

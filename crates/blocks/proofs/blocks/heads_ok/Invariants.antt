@@ -1,11 +1,7 @@
-use mathlib.Core.Path.{◌≡◌, ap, ◌∙◌}
-use Prim.Native.Nat.{◌-◌, ◌≤◌, zero-le}
-use native.Mathlib.Nat.{le_antisymm}
-use borrow.Author.Count.{falls}
-use borrow.Author.Rules.{rules}
+use mathlib.Core.Path.{◌≡◌}
+use Prim.Native.Nat.{◌-◌, ◌≤◌}
 use Rattle.base.specs.Below.{all_below}
-use Rattle.base.proofs.Turns.{turn_most, all_begun, all_turn}
-use Rattle.blocks.specs.Blocks.{head_ok, heads_ok}
+use Rattle.blocks.specs.Blocks.{head_ok}
 use Rattle.blocks.proofs.blocks.heads_ok.Given as goal
 
 abbrev pub invariant-loop-b : goal.invariant-loop-b

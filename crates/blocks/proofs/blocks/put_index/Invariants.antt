@@ -1,12 +1,7 @@
-use mathlib.Core.Path.{◌≡◌, refl, ap, ◌∙◌}
+use mathlib.Core.Path.{◌≡◌}
 use Prim.Native.Nat.{◌-◌, ◌≤◌}
-use native.Mathlib.Omega.{arith}
 use lib.ListN.{length}
-use borrow.Author.Rules.{rules}
-use Rattle.blocks.specs.Blocks.{starts_of}
-use Rattle.blocks.specs.Index.{placed}
-use Rattle.blocks.proofs.Starts.{length_most}
-use Rattle.blocks.proofs.Sections.{Filled, section_room, filled_none, filled_next, filled_all}
+use Rattle.blocks.proofs.Sections.{Filled}
 use Rattle.blocks.proofs.blocks.put_index.Given as goal
 
 abbrev pub invariant-loop-kind : goal.invariant-loop-kind

@@ -1,13 +1,11 @@
-use mathlib.Core.Path.{◌≡◌, refl, ◌∙◌}
-use Prim.Native.Nat.{◌+◌, ◌-◌, ◌/◌, ◌≤◌, ◌<◌}
+use mathlib.Core.Path.{refl, ◌∙◌}
+use Prim.Native.Nat.{◌+◌, ◌/◌, ◌≤◌, ◌<◌}
 use native.Mathlib.Nat.{le_antisymm}
 use native.Mathlib.Omega.{arith}
 use lib.ListN.{length}
 use borrow.Author.Rules.{rules}
-use Rattle.base.specs.Below.{sum_below, join_below}
 use Rattle.base.proofs.Below.{sum_none, sum_more, join_none}
-use Rattle.blocks.specs.Blocks.{count_in, starts_in, starts_of}
-use Rattle.blocks.specs.Index.{placed}
+use Rattle.blocks.specs.Blocks.{starts_of}
 use Rattle.blocks.proofs.Starts.{total_upto, placed_block}
 use Rattle.blocks.proofs.Places.{placed_none}
 use Rattle.blocks.proofs.blocks.put_kind.Goals as goal

@@ -1,15 +1,9 @@
-use mathlib.Core.Path.{◌≡◌, refl, ◌∙◌}
-use Prim.Native.Nat.{◌+◌, ◌-◌, ◌/◌, ◌≤◌, ◌<◌}
-use native.Mathlib.Nat.{le_antisymm}
-use native.Mathlib.Omega.{arith}
+use mathlib.Core.Path.{◌≡◌}
+use Prim.Native.Nat.{◌+◌, ◌-◌, ◌≤◌}
 use lib.ListN.{length}
-use borrow.Author.Rules.{rules}
 use Rattle.base.specs.Below.{sum_below, join_below}
-use Rattle.base.proofs.Below.{sum_none, sum_more, join_none}
-use Rattle.blocks.specs.Blocks.{count_in, starts_in, starts_of}
+use Rattle.blocks.specs.Blocks.{count_in, starts_in}
 use Rattle.blocks.specs.Index.{placed}
-use Rattle.blocks.proofs.Starts.{total_upto, placed_block}
-use Rattle.blocks.proofs.Places.{placed_none}
 use Rattle.blocks.proofs.blocks.put_kind.Given as goal
 
 abbrev pub invariant-loop-b : goal.invariant-loop-b

@@ -1,13 +1,10 @@
-use mathlib.Core.Path.{◌≡◌, refl}
-use Prim.Native.Nat.{◌-◌, ◌≤◌}
+use mathlib.Core.Path.{refl}
 use native.Mathlib.Nat.{le_antisymm}
 use native.Mathlib.Omega.{arith}
-use lib.ListN.{length, length-set}
+use lib.ListN.{length-set}
 use borrow.Author.Rules.{rules}
-use Rattle.base.specs.Below.{list_below}
 use Rattle.base.proofs.Below.{list_none}
 use Rattle.blocks.specs.Blocks.{start_at}
-use Rattle.blocks.specs.Index.{placed}
 use Rattle.blocks.proofs.Places.{placed_none, placed_next}
 use Rattle.blocks.proofs.blocks.put_starts.Goals as goal
 

@@ -1,14 +1,9 @@
-use mathlib.Core.Path.{◌≡◌, refl}
+use mathlib.Core.Path.{◌≡◌}
 use Prim.Native.Nat.{◌-◌, ◌≤◌}
-use native.Mathlib.Nat.{le_antisymm}
-use native.Mathlib.Omega.{arith}
-use lib.ListN.{length, length-set}
-use borrow.Author.Rules.{rules}
+use lib.ListN.{length}
 use Rattle.base.specs.Below.{list_below}
-use Rattle.base.proofs.Below.{list_none}
 use Rattle.blocks.specs.Blocks.{start_at}
 use Rattle.blocks.specs.Index.{placed}
-use Rattle.blocks.proofs.Places.{placed_none, placed_next}
 use Rattle.blocks.proofs.blocks.put_starts.Given as goal
 
 abbrev pub invariant-loop-j : goal.invariant-loop-j

@@ -1,12 +1,12 @@
-use mathlib.Core.Path.{◌≡◌, sym, ap, ◌∙◌}
-use Prim.Native.Nat.{◌*◌, ◌-◌, ◌≤◌, zero-le}
+use mathlib.Core.Path.{sym, ap, ◌∙◌}
+use Prim.Native.Nat.{zero-le}
 use native.Mathlib.Nat.{le_antisymm}
 use borrow.Author.Count.{falls}
 use borrow.Author.Rules.{rules}
 use Rattle.base.specs.Below.{sum_below}
 use Rattle.base.proofs.Below.{sum_none}
 use Rattle.base.proofs.Turns.{turn_most, sum_turn}
-use Rattle.blocks.specs.Blocks.{count_in, total_of}
+use Rattle.blocks.specs.Blocks.{total_of}
 use Rattle.blocks.proofs.blocks.total.Goals as goal
 
 pub loop-b-init : goal.loop-b-init

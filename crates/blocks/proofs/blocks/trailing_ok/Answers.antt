@@ -1,11 +1,8 @@
-use mathlib.Core.Path.{◌≡◌}
-use Prim.Native.Nat.{◌-◌, ◌≤◌, zero-le}
+use Prim.Native.Nat.{zero-le}
 use native.Mathlib.Nat.{le_antisymm}
 use borrow.Author.Count.{falls}
-use borrow.Author.Rules.{rules}
-use Rattle.base.specs.Below.{all_below}
 use Rattle.base.proofs.Turns.{turn_most, all_begun, all_turn}
-use Rattle.blocks.specs.Blocks.{trailing_at, trailing_ok}
+use Rattle.blocks.specs.Blocks.{trailing_ok}
 use Rattle.blocks.proofs.BlockForms.{trailing_form}
 use Rattle.blocks.proofs.blocks.trailing_ok.Goals as goal
 

@@ -1,12 +1,7 @@
 use mathlib.Core.Path.{◌≡◌}
-use Prim.Native.Nat.{◌-◌, ◌≤◌, zero-le}
-use native.Mathlib.Nat.{le_antisymm}
-use borrow.Author.Count.{falls}
-use borrow.Author.Rules.{rules}
+use Prim.Native.Nat.{◌-◌, ◌≤◌}
 use Rattle.base.specs.Below.{all_below}
-use Rattle.base.proofs.Turns.{turn_most, all_begun, all_turn}
-use Rattle.blocks.specs.Blocks.{trailing_at, trailing_ok}
-use Rattle.blocks.proofs.BlockForms.{trailing_form}
+use Rattle.blocks.specs.Blocks.{trailing_at}
 use Rattle.blocks.proofs.blocks.trailing_ok.Given as goal
 
 abbrev pub invariant-loop-i : goal.invariant-loop-i

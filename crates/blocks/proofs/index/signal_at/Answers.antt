@@ -2,7 +2,6 @@ use mathlib.Core.Path.{◌∙◌}
 use Prim.Native.Nat.{◌+◌, ◌≤◌}
 use native.Mathlib.Omega.{arith}
 use lib.ListN.{length}
-use borrow.Author.Rules.{rules}
 use Rattle.blocks.specs.Records.{model_of, signal_of}
 use Rattle.blocks.specs.Index.{section_of}
 use Rattle.blocks.proofs.Lookup.{signals_length, signals_most, inside, recorded}

@@ -2,7 +2,6 @@ use mathlib.Core.Path.{refl, ◌∙◌}
 use Prim.Native.Nat.{◌+◌, ◌≤◌}
 use native.Mathlib.Omega.{arith}
 use lib.ListN.{length}
-use borrow.Author.Rules.{rules}
 use Rattle.blocks.specs.Records.{model_of, statement_of}
 use Rattle.blocks.specs.Index.{section_of}
 use Rattle.blocks.proofs.Entries.{entry_place, entry_fits, entry_scaled}

@@ -1,4 +1,3 @@
-use borrow.Author.Rules.{rules}
 use Rattle.base.specs.Below.{list_below}
 use Rattle.blocks.specs.Records.{row_of}
 use Rattle.blocks.proofs.records.read_row.Goals as goal

@@ -1,5 +1,4 @@
 use mathlib.Core.Path.{◌≡◌, refl, sym, ◌∙◌}
-use borrow.Author.Rules.{rules}
 use Rattle.base.specs.Rules.{first_failing}
 use Rattle.blocks.specs.Totals.{block_rules}
 use Rattle.model.proofs.Rules.{blocks_refused, blocks_passed, length_holds, heads_hold, totals_hold}
@@ -21,7 +20,7 @@ passed_2 c = sym c.blocks_refusal-refusal.ensures ∙ c.if-refusal-eq0.true
 
 pub returns-then-refusal-eq0 : goal.returns-then-refusal-eq0
 returns-then-refusal-eq0 c =
-        record {
+    record {
       refusal = c.model_refusal-refusal.ensures.refusal ∙ blocks_passed _ (passed_2 c);
       totals = λ z. c.totals-t.ensures;
       usable = c.model_refusal-refusal.ensures.usable;
@@ -29,7 +28,7 @@ returns-then-refusal-eq0 c =
 
 pub returns-else-refusal-eq0 : goal.returns-else-refusal-eq0
 returns-else-refusal-eq0 c =
-        let e = c.blocks_refusal-refusal.ensures in
+    let e = c.blocks_refusal-refusal.ensures in
     record {
       refusal = e ∙ blocks_refused _ (λ z. c.if-refusal-eq0.false (e ∙ z));
       totals = λ z. c.totals-t.ensures;

@@ -1,6 +1,5 @@
 use mathlib.Core.Path.{◌≡◌, sym, ◌∙◌}
 use mathlib.Core.Bool.{true}
-use borrow.Author.Tests.{not-true, not-false}
 use Rattle.blocks.specs.Records.{model_of}
 use Rattle.fields.specs.Fields.{fields_ok}
 use Rattle.trees.specs.Trees.{trees_ok, types_ok}

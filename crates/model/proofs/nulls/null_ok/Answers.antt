@@ -1,6 +1,5 @@
 use mathlib.Core.Path.{ap}
 use mathlib.Core.Logic.{inr}
-use borrow.Author.Rules.{rules}
 use Rattle.blocks.specs.Records.{model_of}
 use Rattle.blocks.specs.declared.records.SignalRecord.{SignalRecord}
 use Rattle.fields.proofs.StatementFields.{statement_ok_lem, names_signal}

@@ -1,11 +1,8 @@
-use mathlib.Core.Path.{◌≡◌}
-use Prim.Native.Nat.{◌-◌, ◌≤◌, zero-le}
+use Prim.Native.Nat.{zero-le}
 use borrow.Author.Count.{falls}
-use Rattle.base.specs.Below.{all_below}
 use Rattle.base.proofs.Turns.{turn_next, turn_most, all_begun, all_turn, all_ended}
-use Rattle.blocks.specs.Records.{model_of, statement_at}
 use Rattle.blocks.proofs.Lookup.{statements_most}
-use Rattle.model.specs.Nulls.{null_ok, nulls_ok}
+use Rattle.model.specs.Nulls.{nulls_ok}
 use Rattle.model.proofs.nulls.nulls_ok.Goals as goal
 
 pub loop-n-init : goal.loop-n-init

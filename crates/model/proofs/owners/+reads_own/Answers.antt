@@ -1,9 +1,7 @@
 -- `model::owners::reads_own` meets its contract: the node number falls at each call. Assumes nothing.
 use mathlib.Core.Path.{sym, ◌∙◌}
-use Prim.Native.Nat.{ℕ, ◌<◌}
 use Rattle.blocks.specs.Records.{model_of}
 use Rattle.fields.proofs.NodeFields.{node_ok_lem, names_variable}
-use Rattle.trees.specs.Trees.{Measurable}
 use Rattle.trees.proofs.Operands.{measurable}
 use Rattle.trees.proofs.TreeLaws.{lower_one, lower_first, lower_second}
 use Rattle.model.proofs.owners.+reads_own.Goals as goal

@@ -1,14 +1,11 @@
-use mathlib.Core.Path.{◌≡◌, sym, ◌∙◌}
-use mathlib.Core.Bool.{false}
-use Prim.Native.Nat.{ℕ, ◌-◌, ◌≤◌, ◌<◌, zero-le}
+use mathlib.Core.Path.{sym, ◌∙◌}
+use Prim.Native.Nat.{zero-le}
 use native.Mathlib.Nat.{le_antisymm}
 use borrow.Author.Count.{falls, below_none, below_more}
 use Rattle.base.proofs.Course.{first_found, first_none}
 use Rattle.base.proofs.Turns.{turn_next, turn_most}
-use Rattle.blocks.specs.Records.{model_of}
 use Rattle.blocks.proofs.Lookup.{drivers_most}
 use Rattle.model.specs.Owners.{driver_for}
-use Rattle.model.proofs.Drivers.{is_for}
 use Rattle.model.proofs.owners.driver_for.Goals as goal
 
 pub loop-i-init : goal.loop-i-init
@@ -20,7 +17,7 @@ driver_at-d-requires c = record { starts = c.requires.starts; n_in_bounds = rw c
 pub returns-then-d-p : goal.returns-then-d-p
 unfolding driver_for
 returns-then-d-p c =
-        sym
+    sym
     (first_found _ _ _ (rw c.requires.totals_of.drivers at c.loop-i-test.true) c.loop-i.invariant.1
     (rw c.driver_at-d.ensures at c.if-d-p.true))
 
@@ -36,5 +33,5 @@ loop-i-preserved c = (turn_most _ _ c.loop-i-test.true, below_more _ _ c.loop-i.
 pub returns : goal.returns
 unfolding driver_for
 returns c =
-        let e = le_antisymm c.loop-i.invariant.0 c.loop-i-test.false ∙ c.requires.totals_of.drivers in
+    let e = le_antisymm c.loop-i.invariant.0 c.loop-i-test.false ∙ c.requires.totals_of.drivers in
     e ∙ sym (first_none _ _ (rw e at c.loop-i.invariant.1))

@@ -1,12 +1,10 @@
-use mathlib.Core.Path.{◌≡◌, sym, ap, ◌∙◌}
-use Prim.Native.Nat.{◌-◌, ◌≤◌, zero-le}
+use mathlib.Core.Path.{sym, ap, ◌∙◌}
+use Prim.Native.Nat.{zero-le}
 use borrow.Author.Count.{falls}
 use lib.Dec.{eqb}
-use Rattle.base.specs.Below.{sum_below}
 use Rattle.base.specs.Cases.{◌∣◌, ◌⇒◌}
 use Rattle.base.proofs.Below.{sum_none}
 use Rattle.base.proofs.Turns.{turn_next, turn_most, sum_turn, sum_ended, count_fits, count_most}
-use Rattle.blocks.specs.Records.{model_of, driver_at}
 use Rattle.blocks.proofs.Lookup.{drivers_most}
 use Rattle.model.specs.Owners.{drivers_of}
 use Rattle.model.proofs.owners.drivers_of.Goals as goal
@@ -27,12 +25,11 @@ pub loop-i-smaller : goal.loop-i-smaller
 loop-i-smaller c = falls _ _ c.loop-i-test.true
 
 pub loop-i-preserved : goal.loop-i-preserved
-loop-i-preserved c =
-        (
-      turn_most _ _ c.loop-i-test.true,
-      count_most _ _ _ _ c.requires.totals_of.drivers c.loop-i-test.true c.loop-i.invariant.1 (eqb c.driver_at-d.result.signal c.args.s) _ c.choose-n.ensures,
-      sum_turn _ _ _ _ c.loop-i.invariant.2 (c.choose-n.ensures ∙ ap (λ e. eqb e.signal c.args.s ⇒ 1 ∣ 0) c.driver_at-d.ensures),
-    )
+loop-i-preserved c = (
+  turn_most _ _ c.loop-i-test.true,
+  count_most _ _ _ _ c.requires.totals_of.drivers c.loop-i-test.true c.loop-i.invariant.1 (eqb c.driver_at-d.result.signal c.args.s) _ c.choose-n.ensures,
+  sum_turn _ _ _ _ c.loop-i.invariant.2 (c.choose-n.ensures ∙ ap (λ e. eqb e.signal c.args.s ⇒ 1 ∣ 0) c.driver_at-d.ensures),
+)
 
 pub returns : goal.returns
 unfolding drivers_of

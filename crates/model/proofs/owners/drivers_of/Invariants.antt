@@ -1,14 +1,9 @@
-use mathlib.Core.Path.{◌≡◌, sym, ap, ◌∙◌}
-use Prim.Native.Nat.{◌-◌, ◌≤◌, zero-le}
-use borrow.Author.Count.{falls}
+use mathlib.Core.Path.{◌≡◌}
+use Prim.Native.Nat.{◌-◌, ◌≤◌}
 use lib.Dec.{eqb}
 use Rattle.base.specs.Below.{sum_below}
 use Rattle.base.specs.Cases.{◌∣◌, ◌⇒◌}
-use Rattle.base.proofs.Below.{sum_none}
-use Rattle.base.proofs.Turns.{turn_next, turn_most, sum_turn, sum_ended, count_fits, count_most}
 use Rattle.blocks.specs.Records.{model_of, driver_at}
-use Rattle.blocks.proofs.Lookup.{drivers_most}
-use Rattle.model.specs.Owners.{drivers_of}
 use Rattle.model.proofs.owners.drivers_of.Given as goal
 
 abbrev pub invariant-loop-i : goal.invariant-loop-i

@@ -1,11 +1,8 @@
-use mathlib.Core.Path.{◌≡◌, ap, ◌∙◌}
-use Prim.Native.Nat.{◌+◌, ◌-◌, ◌≤◌, zero-le}
-use borrow.Author.Count.{falls}
+use mathlib.Core.Path.{◌≡◌}
+use Prim.Native.Nat.{◌+◌, ◌-◌, ◌≤◌}
 use Rattle.base.specs.Below.{all_below}
-use Rattle.base.proofs.Turns.{first_below, pair_most, pair_fits, pair_ended, all_begun, all_turn}
 use Rattle.blocks.specs.Records.{model_of, driver_at}
-use Rattle.blocks.proofs.Lookup.{drivers_most}
-use Rattle.model.specs.Owners.{pair_below, drivers_rise}
+use Rattle.model.specs.Owners.{pair_below}
 use Rattle.model.proofs.owners.drivers_rise.Given as goal
 
 abbrev pub invariant-loop-i : goal.invariant-loop-i

@@ -1,5 +1,5 @@
 use mathlib.Core.Path.{◌∙◌}
-use Prim.Native.Nat.{◌+◌, ◌-◌, ◌≤◌, ◌<◌, zero-le}
+use Prim.Native.Nat.{◌+◌, ◌≤◌, ◌<◌, zero-le}
 use native.Mathlib.Nat.{le_antisymm}
 use borrow.Author.Count.{falls, below_none}
 use lib.ListN.{length, length-set}
@@ -8,9 +8,7 @@ use Rattle.blocks.specs.Index.{assignments_at}
 use Rattle.blocks.specs.Records.{model_of}
 use Rattle.blocks.proofs.Lookup.{nodes_most, statements_most}
 use Rattle.blocks.proofs.Entries.{entry_place, entry_fits, entry_scaled, value_fits, past, starts_set}
-use Rattle.trees.specs.Types.{TypesIn}
 use Rattle.trees.proofs.TypeEntries.{types_before, types_kept}
-use Rattle.model.specs.Index.{DriversBelow}
 use Rattle.model.proofs.Entries.{drivers_next}
 use Rattle.model.proofs.owners.fill_drivers.Goals as goal
 
@@ -58,7 +56,7 @@ loop-n-smaller c = falls _ _ c.loop-n-test.true
 
 pub loop-n-preserved : goal.loop-n-preserved
 loop-n-preserved c =
-        let i = assignments_at + c.loop-n.n in
+    let i = assignments_at + c.loop-n.n in
     let k = c.statement_driver-k.result in
     let types = c.loop-n.invariant.1 in
     let place = entry_place assignments_at 200 tt _ _ (there_3 c) (most_2 c) in (
@@ -73,5 +71,5 @@ loop-n-preserved c =
 
 pub returns : goal.returns
 returns c =
-        let e = le_antisymm c.loop-n.invariant.0 c.loop-n-test.false ∙ c.requires.totals_of.statements in
+    let e = le_antisymm c.loop-n.invariant.0 c.loop-n-test.false ∙ c.requires.totals_of.statements in
     record { types = c.loop-n.invariant.1; driver = rw e at c.loop-n.invariant.2 }

@@ -1,10 +1,7 @@
 use mathlib.Core.Path.{◌≡◌}
-use Prim.Native.Nat.{◌-◌, ◌≤◌, zero-le}
-use borrow.Author.Count.{falls}
+use Prim.Native.Nat.{◌-◌, ◌≤◌}
 use Rattle.base.specs.Below.{all_below}
-use Rattle.base.proofs.Turns.{turn_next, turn_most, all_begun, all_turn, all_ended}
 use Rattle.blocks.specs.Records.{model_of}
-use Rattle.blocks.proofs.Lookup.{signals_most}
 use Rattle.model.specs.Owners.{single_ok}
 use Rattle.model.proofs.owners.singles_ok.Given as goal
 

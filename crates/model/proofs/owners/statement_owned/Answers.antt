@@ -113,7 +113,7 @@ returns-in-1 c = variable_owned _ _ _ c.statement_at-s.ensures _ _ c.owner_of-p.
 
 pub returns-in-2 : goal.returns-in-2
 returns-in-2 c =
-        signal_owned _ _ _ c.statement_at-s.ensures _ _ c.owner_of-p.ensures c.in-2.is _ _ _ _ c.assignment_driver.ensures c.requires.totals_of.drivers c.reads_own-in-2.ensures
+    signal_owned _ _ _ c.statement_at-s.ensures _ _ c.owner_of-p.ensures c.in-2.is _ _ _ _ c.assignment_driver.ensures c.requires.totals_of.drivers c.reads_own-in-2.ensures
     c.reads_own-in-2-2.ensures
 
 pub returns-in-3 : goal.returns-in-3
@@ -127,5 +127,5 @@ returns-in-6 c = null_owned _ _ _ c.statement_at-s.ensures _ _ c.owner_of-p.ensu
 
 pub returns-in_default : goal.returns-in_default
 returns-in_default c =
-        let r = c.in_default.in_default-own.rest in
+    let r = c.in_default.in_default-own.rest in
     other_owned _ _ _ c.statement_at-s.ensures _ r.0.0.0.0.1 r.0.0.0.1 r.0.0.1 r.0.1 r.1

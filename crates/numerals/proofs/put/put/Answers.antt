@@ -2,14 +2,12 @@
 use mathlib.Core.Path.{refl}
 use Prim.Native.Nat.{◌+◌}
 use lib.ListN.{length}
-use borrow.Author.Rules.{rules}
-use Rattle.base.proofs.Below.{copied}
-use Rattle.numerals.proofs.PutLaws.{held, counted, part_length}
+use Rattle.numerals.proofs.PutLaws.{held, counted}
 use Rattle.numerals.proofs.put.put.Goals as goal
 
 pub returns-then-end-out : goal.returns-then-end-out
 returns-then-end-out c =
-        let text = c.args.text.now in
+    let text = c.args.text.now in
     let old = c.args.out.now in
     let at = c.args.at in
     let fits = c.if-end-out.true in

@@ -4,7 +4,6 @@ use mathlib.Core.List.{List}
 use Prim.Native.Nat.{ℕ, ◌+◌}
 use native.Mathlib.Omega.{arith}
 use lib.ListN.{length}
-use borrow.Author.Rules.{rules}
 use Rattle.io.specs.Digits.{last_digits}
 use Rattle.numerals.specs.Numerals.{numeral, binary_of}
 use Rattle.numerals.proofs.NumeralLaws.{binary_length, binary_short}
@@ -27,7 +26,7 @@ written x n e h = h ∙ rw (e, binary_length x)
 
 pub returns-then-end-out : goal.returns-then-end-out
 returns-then-end-out c =
-        let x = c.args.x in
+    let x = c.args.x in
     let old = c.args.out.now in
     let at = c.args.at in
     let fits = c.if-end-out.true in

@@ -1,7 +1,6 @@
 -- Where there is room for the byte it is written. Assumes nothing.
 use mathlib.Core.Path.{refl}
 use native.Mathlib.Omega.{arith}
-use borrow.Author.Rules.{rules}
 use Rattle.numerals.proofs.PutLaws.{one_held, counted}
 use Rattle.numerals.proofs.put.put_byte.Goals as goal
 

@@ -1,5 +1,4 @@
 -- The digits of the number are put. Assumes nothing.
-use borrow.Author.Rules.{rules}
 use Rattle.numerals.proofs.PutLaws.{said}
 use Rattle.numerals.proofs.put.put_decimal.Goals as goal
 

@@ -14,5 +14,5 @@ returns-in-1 c = let e = sym c.operands_of.ensures ∙ c.in-1.is in rw e
 pub returns-in_default : goal.returns-in_default
 unfolding lower_ok
 returns-in_default c =
-        let r = c.in_default.in_default-own.rest in
+    let r = c.in_default.in_default-own.rest in
     rw (ne_eqb _ 0 (λ e. r.0.1 (c.operands_of.ensures ∙ e)), ne_eqb _ 1 (λ e. r.1 (c.operands_of.ensures ∙ e)))

@@ -13,11 +13,11 @@ tree_size-requires c =
 pub returns-then-lower_ok : goal.returns-then-lower_ok
 unfolding tree_ok
 returns-then-lower_ok c =
-        let e = sym c.node_at.ensures in
+    let e = sym c.node_at.ensures in
     rw (e, sym c.lower_ok.ensures, c.if-lower_ok.true, sym c.tree_size.ensures)
 
 pub returns-else-lower_ok : goal.returns-else-lower_ok
 unfolding tree_ok
 returns-else-lower_ok c =
-        let e = sym c.node_at.ensures in
+    let e = sym c.node_at.ensures in
     rw (e, sym c.lower_ok.ensures, c.if-lower_ok.false)

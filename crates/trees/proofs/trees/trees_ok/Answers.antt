@@ -1,15 +1,11 @@
-use mathlib.Core.Path.{◌≡◌, sym, ◌∙◌}
-use mathlib.Core.Bool.{true}
-use Prim.Native.Nat.{◌-◌, ◌≤◌, zero-le}
+use mathlib.Core.Path.{sym, ◌∙◌}
+use Prim.Native.Nat.{zero-le}
 use native.Mathlib.Nat.{le_antisymm}
 use borrow.Author.Count.{falls}
-use borrow.Author.Tests.{not-true, not-false}
-use Rattle.base.specs.Below.{all_below}
 use Rattle.base.proofs.Below.{all_none, all_at, all_more, all_fails}
 use Rattle.base.proofs.Turns.{turn_next, turn_most}
-use Rattle.blocks.specs.Records.{model_of}
 use Rattle.blocks.proofs.Lookup.{nodes_most}
-use Rattle.trees.specs.Trees.{tree_ok, trees_ok}
+use Rattle.trees.specs.Trees.{trees_ok}
 use Rattle.trees.proofs.trees.trees_ok.Goals as goal
 
 pub loop-n-init : goal.loop-n-init
@@ -34,5 +30,5 @@ loop-n-preserved c = (turn_most _ _ c.loop-n-test.true, all_more _ _ c.loop-n.in
 pub returns : goal.returns
 unfolding trees_ok
 returns c =
-        let e = le_antisymm c.loop-n.invariant.0 c.loop-n-test.false ∙ c.requires.totals_of.nodes in
+    let e = le_antisymm c.loop-n.invariant.0 c.loop-n-test.false ∙ c.requires.totals_of.nodes in
     sym (rw e at c.loop-n.invariant.1)

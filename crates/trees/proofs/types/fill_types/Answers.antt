@@ -1,17 +1,15 @@
-use mathlib.Core.Path.{◌≡◌, ap, ◌∙◌}
-use Prim.Native.Nat.{◌+◌, ◌-◌, ◌≤◌, ◌<◌, zero-le}
+use mathlib.Core.Path.{ap, ◌∙◌}
+use Prim.Native.Nat.{◌+◌, ◌≤◌, ◌<◌, zero-le}
 use native.Mathlib.Nat.{le_antisymm}
 use borrow.Author.Count.{falls, below_none}
 use lib.Dec.{leb}
 use lib.ListN.{length, length-set}
 use Rattle.base.specs.Below.{all_below}
 use Rattle.base.proofs.Turns.{turn_next, turn_most, all_begun, all_turn}
-use Rattle.blocks.specs.Index.{types_at, index_size, Starts}
+use Rattle.blocks.specs.Index.{types_at}
 use Rattle.blocks.specs.Records.{model_of}
 use Rattle.blocks.proofs.Lookup.{nodes_most}
 use Rattle.blocks.proofs.Entries.{entry_place, entry_fits, entry_scaled, value_fits, past, starts_set}
-use Rattle.trees.specs.Trees.{type_of}
-use Rattle.trees.specs.Types.{TypesBelow}
 use Rattle.trees.proofs.TypeEntries.{types_next}
 use Rattle.trees.proofs.types.fill_types.Goals as goal
 
@@ -59,7 +57,7 @@ loop-n-smaller c = falls _ _ c.loop-n-test.true
 
 pub loop-n-preserved : goal.loop-n-preserved
 loop-n-preserved c =
-        let e = c.next_type-ty.ensures.value in
+    let e = c.next_type-ty.ensures.value in
     let place = entry_place types_at 400 tt _ _ (there_3 c) (most_2 c) in (
       turn_most _ _ c.loop-n-test.true,
       simp length-set c.loop-n.invariant.1,

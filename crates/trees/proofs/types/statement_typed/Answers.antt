@@ -100,5 +100,5 @@ returns-in-6 c = null_typed _ _ _ c.statement_at-s.ensures c.in-6.is _ c.type_at
 
 pub returns-in_default : goal.returns-in_default
 returns-in_default c =
-        let r = c.in_default.in_default-own.rest in
+    let r = c.in_default.in_default-own.rest in
     other_typed _ _ _ c.statement_at-s.ensures r.0.0.0.0.1 r.0.0.0.1 r.0.0.1 r.0.1 r.1

@@ -1,8 +1,7 @@
 -- `model::types::type_by` meets its contract: each arm is a case of `type_by`. Assumes nothing.
 use mathlib.Core.Path.{◌≡◌, refl, ◌∙◌}
 use mathlib.Core.Bool.{Bool, true, false, ◌&&◌}
-use mathlib.Core.Logic.{⊎_elim}
-use Prim.Native.Nat.{ℕ, ◌≤◌}
+use Prim.Native.Nat.{ℕ}
 use native.Mathlib.Omega.{arith}
 use Rattle.base.proofs.Below.{among}
 use Rattle.blocks.specs.Records.{model_of}
@@ -56,7 +55,7 @@ returns-in-14 c = rw c.in-14.is c.choose-in-14.ensures
 pub returns-in-7-to-9 : goal.returns-in-7-to-9
 unfolding type_by
 returns-in-7-to-9 c =
-        let a = c.args in
+    let a = c.args in
     let r = c.in-7-to-9.in_default-own.rest.0.0 in
     among (λ (k : ℕ). a.d.kind ≡ k → c.choose-in-7-to-9.result ≡ type_by (model_of a.m.now) a.d a.p a.q) 7 3 a.d.kind
     ((λ e. rw e c.choose-in-7-to-9.ensures), ((λ e. rw e c.choose-in-7-to-9.ensures), ((λ e. rw e c.choose-in-7-to-9.ensures), tt)))
@@ -69,14 +68,14 @@ and-true false = refl
 pub returns-in-10-to-12 : goal.returns-in-10-to-12
 unfolding type_by
 returns-in-10-to-12 c =
-        let a = c.args in
+    let a = c.args in
     among (λ (k : ℕ). a.d.kind ≡ k → c.choose-in-10-to-12.result ≡ type_by (model_of a.m.now) a.d a.p a.q) 10 3 a.d.kind
     ((λ e. rw e (rw (e, and-true) at c.choose-in-10-to-12.ensures)), ((λ e. rw e (rw e at c.choose-in-10-to-12.ensures)), ((λ e. rw e (rw e at c.choose-in-10-to-12.ensures)), tt)))
     c.in-10-to-12.if-kind-lt10-own.false c.in-10-to-12.if-kind-lt13-own.true refl
 
 pub returns-in-15-to-18 : goal.returns-in-15-to-18
 returns-in-15-to-18 c =
-        let a = c.args in
+    let a = c.args in
     c.choose-in-15-to-18.ensures ∙ arithmetic_high _ a.d a.p a.q c.in-15-to-18.if-kind-lt13-own.false c.in-15-to-18.in_default-own.rest.0.1 c.in-15-to-18.in_default-own.rest.1
 
 -- no kind is left: 0, and any past 18
