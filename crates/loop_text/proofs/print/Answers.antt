@@ -1,6 +1,5 @@
 -- The text of each of the three kinds. Assumes nothing.
 use mathlib.Core.Path.{◌∙◌}
-use borrow.Author.Rules.{rules}
 use Rattle.io.proofs.Counting.{prefix_len_of_le}
 use Rattle.loop_text.proofs.TextLaws.{refused_text, none_text, chain_text, model_room_suffices}
 use Rattle.loop_text.proofs.print.Goals as goal

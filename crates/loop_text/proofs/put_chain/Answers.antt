@@ -1,7 +1,6 @@
 -- Three texts, one behind the other, and room for them. Assumes nothing.
 use mathlib.Core.Path.{refl}
 use native.Mathlib.Omega.{arith}
-use borrow.Author.Rules.{rules}
 use Rattle.numerals.proofs.PutLaws.{behind}
 use Rattle.loop_text.proofs.TextLaws.{line_room}
 use Rattle.loop_text.proofs.put_chain.Goals as goal

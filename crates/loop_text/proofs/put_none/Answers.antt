@@ -1,6 +1,5 @@
 -- The line has room. Assumes nothing.
 use native.Mathlib.Omega.{arith}
-use borrow.Author.Rules.{rules}
 use Rattle.loop_text.proofs.put_none.Goals as goal
 
 pub returns : goal.returns

@@ -1,12 +1,7 @@
-use Prim.Native.Nat.{◌-◌}
-use mathlib.Core.List.{◌∷◌}
 use mathlib.Core.Path.{◌∙◌}
 use native.Mathlib.Omega.{arith}
-use borrow.Author.Rules.{rules}
 use lib.ListN.{get_or}
-use Rattle.numerals.specs.Numerals.{decimal_of, space}
-use Rattle.numerals.proofs.PutLaws.{Putting, putting_none, putting_next, putting_all, behind}
-use Rattle.loop_text.specs.LoopText.{process_most}
+use Rattle.numerals.proofs.PutLaws.{putting_none, putting_next, putting_all, behind}
 use Rattle.loop_text.proofs.TextLaws.{process_short}
 use Rattle.loop_text.proofs.put_processes.Goals as goal
 

@@ -1,14 +1,10 @@
 -- The loop puts a space and a number for each process. Assumes nothing.
 use Prim.Native.Nat.{◌-◌}
 use mathlib.Core.List.{◌∷◌}
-use mathlib.Core.Path.{◌∙◌}
-use native.Mathlib.Omega.{arith}
-use borrow.Author.Rules.{rules}
 use lib.ListN.{get_or}
 use Rattle.numerals.specs.Numerals.{decimal_of, space}
-use Rattle.numerals.proofs.PutLaws.{Putting, putting_none, putting_next, putting_all, behind}
+use Rattle.numerals.proofs.PutLaws.{Putting}
 use Rattle.loop_text.specs.LoopText.{process_most}
-use Rattle.loop_text.proofs.TextLaws.{process_short}
 use Rattle.loop_text.proofs.put_processes.Given as goal
 
 abbrev pub invariant-loop-i : goal.invariant-loop-i
