@@ -1,7 +1,6 @@
 -- The dump's contract, and its length stored. Assumes nothing.
 use mathlib.Core.Path.{ap}
 use lib.ListN.{set}
-use borrow.Author.Rules.{rules}
 use Rattle.dump_exports.proofs.gontrafiby_dump.Goals as goal
 
 pub returns : goal.returns

@@ -6,8 +6,6 @@ use Prim.Native.Nat.{ℕ, ◌*◌, ◌≤◌}
 use native.Mathlib.Nat.{zero-add}
 use native.Mathlib.Omega.{arith}
 use lib.ListN.{length}
-use borrow.Author.Rules.{rules}
-use borrow.Author.Tests.{not-true, not-false}
 use Rattle.blocks.specs.Records.{model_of}
 use Rattle.blocks.specs.Totals.{TotalsOf}
 use Rattle.model.specs.Index.{LoadedIs}

@@ -1,7 +1,6 @@
 -- The number is not 21, since the room holds every dump. Assumes nothing.
 use mathlib.Core.Path.{◌∙◌}
 use native.Mathlib.Omega.{arith}
-use borrow.Author.Rules.{rules}
 use Rattle.io.proofs.Counting.{prefix_len_of_le}
 use Rattle.dumps.proofs.PrintLaws.{prints_number, prints_dump, prints_within, rooms_suffice}
 use Rattle.dumps.proofs.print.Goals as goal

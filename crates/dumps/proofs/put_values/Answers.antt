@@ -1,9 +1,7 @@
 use mathlib.Core.Path.{refl}
-use Prim.Native.Nat.{◌-◌, ◌≤◌}
 use native.Mathlib.Omega.{arith}
 use borrow.Author.Rules.{rules}
-use Rattle.cycle.proofs.Arrays.{Filled, filled_none, filled_more, filled_all}
-use Rattle.dumps.specs.Run.{current_at}
+use Rattle.cycle.proofs.Arrays.{filled_none, filled_more, filled_all}
 use Rattle.dumps.proofs.put_values.Goals as goal
 
 pub loop-s-init : goal.loop-s-init

@@ -1,9 +1,6 @@
 -- The loop fills the row from the front. Assumes nothing.
-use mathlib.Core.Path.{refl}
 use Prim.Native.Nat.{◌-◌, ◌≤◌}
-use native.Mathlib.Omega.{arith}
-use borrow.Author.Rules.{rules}
-use Rattle.cycle.proofs.Arrays.{Filled, filled_none, filled_more, filled_all}
+use Rattle.cycle.proofs.Arrays.{Filled}
 use Rattle.dumps.specs.Run.{current_at}
 use Rattle.dumps.proofs.put_values.Given as goal
 

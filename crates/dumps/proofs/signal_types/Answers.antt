@@ -1,11 +1,9 @@
 use mathlib.Core.Path.{ap}
-use Prim.Native.Nat.{◌-◌, ◌≤◌, ◌<◌}
+use Prim.Native.Nat.{◌<◌}
 use native.Mathlib.Omega.{arith}
 use borrow.Author.Rules.{rules}
-use Rattle.blocks.specs.Records.{model_of}
 use Rattle.blocks.specs.declared.records.SignalRecord.{SignalRecord}
-use Rattle.cycle.proofs.Arrays.{Filled, filled_none, filled_more, filled_all}
-use Rattle.dumps.specs.Run.{signal_type}
+use Rattle.cycle.proofs.Arrays.{filled_none, filled_more, filled_all}
 use Rattle.dumps.proofs.signal_types.Goals as goal
 
 pub loop-i-init : goal.loop-i-init

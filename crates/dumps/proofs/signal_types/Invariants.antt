@@ -1,11 +1,7 @@
 -- The loop fills the types from the front. Assumes nothing.
-use mathlib.Core.Path.{ap}
-use Prim.Native.Nat.{◌-◌, ◌≤◌, ◌<◌}
-use native.Mathlib.Omega.{arith}
-use borrow.Author.Rules.{rules}
+use Prim.Native.Nat.{◌-◌, ◌≤◌}
 use Rattle.blocks.specs.Records.{model_of}
-use Rattle.blocks.specs.declared.records.SignalRecord.{SignalRecord}
-use Rattle.cycle.proofs.Arrays.{Filled, filled_none, filled_more, filled_all}
+use Rattle.cycle.proofs.Arrays.{Filled}
 use Rattle.dumps.specs.Run.{signal_type}
 use Rattle.dumps.proofs.signal_types.Given as goal
 

@@ -1,9 +1,7 @@
 use mathlib.Core.Path.{refl, ◌∙◌}
-use mathlib.Core.Logic.{⊎_elim}
 use mathlib.Core.List.{List}
-use Prim.Native.Nat.{ℕ, ◌-◌, ◌<◌}
+use Prim.Native.Nat.{ℕ, ◌<◌}
 use native.Mathlib.Omega.{arith}
-use borrow.Author.Rules.{rules}
 use Rattle.blocks.specs.Records.{model_of}
 use Rattle.cycle.specs.View.{view_of}
 use Rattle.cycle.specs.declared.config.Config.{Config}
@@ -36,11 +34,11 @@ overflow_add-k c = omega (arith, row_room_2 c c.loop-i.invariant)
 
 pub loop-i-preserved : goal.loop-i-preserved
 loop-i-preserved c =
-        let inv = c.loop-i.invariant in
+    let inv = c.loop-i.invariant in
     elim c.if-at-time.branch [
-      then-at-time w ↦ rw (w.times-is, w.values-is, w.k-is)
-        (tracing_leaves c.requires.runs.facts c.requires.orders_len_bound c.requires.valid.reachable inv c.loop-i-test.true c.play-at.ensures.played_to c.play-at.ensures.valid_2 w.if-at-time.true
-        refl (w.put_row.auto.times ∙ inv.times_long) (w.put_row.auto.values ∙ inv.values_long) w.put_row.ensures)
+      | then-at-time w ↦ rw (w.times-is, w.values-is, w.k-is)
+          (tracing_leaves c.requires.runs.facts c.requires.orders_len_bound c.requires.valid.reachable inv c.loop-i-test.true c.play-at.ensures.played_to c.play-at.ensures.valid_2 w.if-at-time.true
+          refl (w.put_row.auto.times ∙ inv.times_long) (w.put_row.auto.values ∙ inv.values_long) w.put_row.ensures)
       | else-at-time w ↦ rw (w.times-is, w.values-is, w.k-is) (tracing_stays c.requires.runs.facts c.requires.orders_len_bound c.requires.valid.reachable inv c.loop-i-test.true c.play-at.ensures.played_to c.play-at.ensures.valid_2 w.if-at-time.false)
     ]
 

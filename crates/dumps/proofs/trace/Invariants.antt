@@ -1,15 +1,8 @@
 -- The loop keeps `Tracing`: the rows of the times that are left. The measure is the orders left. Assumes nothing.
-use mathlib.Core.Path.{refl, ◌∙◌}
-use mathlib.Core.Logic.{⊎_elim}
-use mathlib.Core.List.{List}
-use Prim.Native.Nat.{ℕ, ◌-◌, ◌<◌}
-use native.Mathlib.Omega.{arith}
-use borrow.Author.Rules.{rules}
+use Prim.Native.Nat.{◌-◌}
 use Rattle.blocks.specs.Records.{model_of}
 use Rattle.cycle.specs.View.{view_of}
-use Rattle.cycle.specs.declared.config.Config.{Config}
-use Rattle.cycle.proofs.Advances.{few_signals}
-use Rattle.dumps.proofs.TraceLaws.{four_bytes, Tracing, tracing_none, room, tracing_stays, tracing_leaves, traced}
+use Rattle.dumps.proofs.TraceLaws.{Tracing}
 use Rattle.dumps.proofs.trace.Given as goal
 
 abbrev pub invariant-loop-i : goal.invariant-loop-i

@@ -1,5 +1,4 @@
 use native.Mathlib.Omega.{arith}
-use borrow.Author.Rules.{rules}
 use Rattle.model.proofs.Rules.{refusal_most}
 use Rattle.exports.proofs.gontrafiby_judge.Goals as goal
 

@@ -1,5 +1,4 @@
 -- The session's contract, and its end configuration written out. Assumes nothing.
-use borrow.Author.Rules.{rules}
 use Rattle.session.proofs.InTime.{ended_in_time}
 use Rattle.exports.proofs.Words.{in_time}
 use Rattle.exports.proofs.gontrafiby_session.Goals as goal

@@ -13,12 +13,12 @@ put_byte-a-requires c = let inv = c.loop-i.invariant in omega (arith, inv.few, i
 
 pub put_decimal-end-requires : goal.put_decimal-end-requires
 put_decimal-end-requires c =
-        let inv = c.loop-i.invariant in
+    let inv = c.loop-i.invariant in
     omega (arith, inv.few, inv.short, c.put_byte-a.ensures.place)
 
 pub loop-i-preserved : goal.loop-i-preserved
 loop-i-preserved c =
-        let p = c.put_byte-a.ensures in
+    let p = c.put_byte-a.ensures in
     let q = c.put_decimal-end.ensures in
     let k = c.put_byte-a.auto.out in
     putting_next c.loop-i.invariant c.loop-i-test.true (c.put_decimal-end.auto.out ∙ k)

@@ -1,5 +1,4 @@
 -- What the function that it calls promises. Assumes nothing.
-use borrow.Author.Rules.{rules}
 use Rattle.move_exports.proofs.gontrafiby_move.Goals as goal
 
 pub returns : goal.returns

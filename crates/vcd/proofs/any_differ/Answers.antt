@@ -1,6 +1,4 @@
-use Prim.Native.Nat.{◌-◌}
-use borrow.Author.Rules.{rules}
-use Rattle.vcd.proofs.WalkLaws.{Finding, find_none, find_next, find_all}
+use Rattle.vcd.proofs.WalkLaws.{find_none, find_next, find_all}
 use Rattle.vcd.proofs.any_differ.Goals as goal
 
 pub loop-s-init : goal.loop-s-init

@@ -1,7 +1,6 @@
 -- The loop keeps whether one below s differs. Assumes nothing.
 use Prim.Native.Nat.{◌-◌}
-use borrow.Author.Rules.{rules}
-use Rattle.vcd.proofs.WalkLaws.{Finding, find_none, find_next, find_all}
+use Rattle.vcd.proofs.WalkLaws.{Finding}
 use Rattle.vcd.proofs.any_differ.Given as goal
 
 abbrev pub invariant-loop-s : goal.invariant-loop-s

@@ -1,7 +1,6 @@
 -- By the type. Assumes nothing.
 use mathlib.Core.Bool.{not}
 use mathlib.Core.Path.{ap}
-use borrow.Author.Rules.{rules}
 use Rattle.vcd.proofs.ValueLaws.{integers_alike, logics_alike}
 use Rattle.vcd.proofs.differ.Goals as goal
 

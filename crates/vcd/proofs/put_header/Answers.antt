@@ -1,7 +1,6 @@
 -- What opens the header, the signals' lines and what closes it, one behind the other. Assumes nothing.
 use mathlib.Core.Path.{◌∙◌}
 use native.Mathlib.Omega.{arith}
-use borrow.Author.Rules.{rules}
 use Rattle.vcd.specs.Lines.{text_of}
 use Rattle.vcd.specs.Vcd.{opening, closing}
 use Rattle.numerals.specs.Puts.{Puts}

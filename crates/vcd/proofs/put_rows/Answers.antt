@@ -1,10 +1,7 @@
 use mathlib.Core.Path.{refl}
-use Prim.Native.Nat.{◌-◌}
-use borrow.Author.Rules.{rules}
 use Rattle.vcd.specs.Vcd.{row_lines}
-use Rattle.vcd.specs.Writing.{row_most, front_of, rows_of}
-use Rattle.numerals.proofs.PutLaws.{Putting, putting_none, putting_next, putting_all, said}
-use Rattle.vcd.specs.Lines.{text_of}
+use Rattle.vcd.specs.Writing.{front_of, rows_of}
+use Rattle.numerals.proofs.PutLaws.{putting_none, putting_next, putting_all, said}
 use Rattle.vcd.proofs.WalkLaws.{text_joined, row_put}
 use Rattle.vcd.proofs.put_rows.Goals as goal
 
@@ -13,7 +10,7 @@ loop-k-init c = putting_none _ _ _ _ _
 
 pub loop-k-preserved : goal.loop-k-preserved
 loop-k-preserved c =
-        putting_next c.loop-k.invariant c.loop-k-test.true c.put_row-end.auto.out c.put_row-end.ensures.upper_bound
+    putting_next c.loop-k.invariant c.loop-k-test.true c.put_row-end.auto.out c.put_row-end.ensures.upper_bound
     (row_put c.args.types.now c.args.n c.requires.n_bound c.args.times.now c.args.values.now c.args.count c.loop-k.k c.loop-k-test.true
     refl c.before-last.ensures refl c.put_row-end.ensures.puts)
 

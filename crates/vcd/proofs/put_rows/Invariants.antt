@@ -1,12 +1,9 @@
 -- The loop puts the lines of each row. Assumes nothing.
-use mathlib.Core.Path.{refl}
 use Prim.Native.Nat.{◌-◌}
-use borrow.Author.Rules.{rules}
 use Rattle.vcd.specs.Vcd.{row_lines}
 use Rattle.vcd.specs.Writing.{row_most, front_of, rows_of}
-use Rattle.numerals.proofs.PutLaws.{Putting, putting_none, putting_next, putting_all, said}
+use Rattle.numerals.proofs.PutLaws.{Putting}
 use Rattle.vcd.specs.Lines.{text_of}
-use Rattle.vcd.proofs.WalkLaws.{text_joined, row_put}
 use Rattle.vcd.proofs.put_rows.Given as goal
 
 abbrev pub invariant-loop-k : goal.invariant-loop-k

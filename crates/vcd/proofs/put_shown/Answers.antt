@@ -1,12 +1,7 @@
 use mathlib.Core.Path.{refl}
-use mathlib.Core.Logic.{⊎_elim}
-use Prim.Native.Nat.{◌-◌}
 use native.Mathlib.Omega.{arith}
-use borrow.Author.Rules.{rules}
-use Rattle.vcd.specs.Writing.{value_most}
-use Rattle.numerals.proofs.PutLaws.{Putting, putting_none, putting_next, putting_all, said}
-use Rattle.vcd.specs.Lines.{text_of}
-use Rattle.vcd.proofs.WalkLaws.{shown_at, shown_put, hidden_put, all_shown}
+use Rattle.numerals.proofs.PutLaws.{putting_none, putting_next, putting_all, said}
+use Rattle.vcd.proofs.WalkLaws.{shown_put, hidden_put, all_shown}
 use Rattle.vcd.proofs.put_shown.Goals as goal
 use Rattle.vcd.proofs.put_shown.Goals.{then-all-differ, else-all-differ}
 
@@ -18,14 +13,14 @@ put_value-end-requires c = let inv = c.loop-s.invariant in record { n_bound = om
 
 pub loop-s-preserved : goal.loop-s-preserved
 loop-s-preserved c =
-        let tell = c.differ.ensures in
+    let tell = c.differ.ensures in
     elim c.if-all-differ.branch [
-      then-all-differ w ↦ rw (w.out-is, w.end-is)
-        (putting_next c.loop-s.invariant c.loop-s-test.true w.put_value-end.auto.out w.put_value-end.ensures.upper_bound
-        (shown_put c.args.all c.args.types.now c.args.n c.args.before.now c.args.row.now _ c.loop-s-test.true tell w.if-all-differ.true w.put_value-end.ensures.puts))
+      | then-all-differ w ↦ rw (w.out-is, w.end-is)
+          (putting_next c.loop-s.invariant c.loop-s-test.true w.put_value-end.auto.out w.put_value-end.ensures.upper_bound
+          (shown_put c.args.all c.args.types.now c.args.n c.args.before.now c.args.row.now _ c.loop-s-test.true tell w.if-all-differ.true w.put_value-end.ensures.puts))
       | else-all-differ w ↦ rw (w.out-is, w.end-is)
-        (putting_next c.loop-s.invariant c.loop-s-test.true refl (omega arith)
-        (hidden_put c.args.all c.args.types.now c.args.n c.args.before.now c.args.row.now _ c.loop-s-test.true tell w.if-all-differ.false _ _))
+          (putting_next c.loop-s.invariant c.loop-s-test.true refl (omega arith)
+          (hidden_put c.args.all c.args.types.now c.args.n c.args.before.now c.args.row.now _ c.loop-s-test.true tell w.if-all-differ.false _ _))
     ]
 
 pub returns : goal.returns

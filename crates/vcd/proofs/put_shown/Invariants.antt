@@ -1,13 +1,9 @@
 -- The loop puts a line for each signal that is shown. Assumes nothing.
-use mathlib.Core.Path.{refl}
-use mathlib.Core.Logic.{⊎_elim}
 use Prim.Native.Nat.{◌-◌}
-use native.Mathlib.Omega.{arith}
-use borrow.Author.Rules.{rules}
 use Rattle.vcd.specs.Writing.{value_most}
-use Rattle.numerals.proofs.PutLaws.{Putting, putting_none, putting_next, putting_all, said}
+use Rattle.numerals.proofs.PutLaws.{Putting}
 use Rattle.vcd.specs.Lines.{text_of}
-use Rattle.vcd.proofs.WalkLaws.{shown_at, shown_put, hidden_put, all_shown}
+use Rattle.vcd.proofs.WalkLaws.{shown_at}
 use Rattle.vcd.proofs.put_shown.Given as goal
 
 abbrev pub invariant-loop-s : goal.invariant-loop-s

@@ -1,7 +1,6 @@
 -- Three texts, one behind the other. Assumes nothing.
 use mathlib.Core.Path.{◌∙◌}
 use native.Mathlib.Omega.{arith}
-use borrow.Author.Rules.{rules}
 use Rattle.numerals.proofs.NumeralLaws.{decimal_short}
 use Rattle.numerals.proofs.PutLaws.{behind, said}
 use Rattle.vcd.proofs.ValueLaws.{time_line_lem}

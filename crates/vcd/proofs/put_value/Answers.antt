@@ -1,7 +1,6 @@
 -- The line of a logic value is one text; that of an integer is three, one behind the other. Assumes nothing.
 use mathlib.Core.Path.{◌∙◌}
 use native.Mathlib.Omega.{arith}
-use borrow.Author.Rules.{rules}
 use Rattle.numerals.proofs.NumeralLaws.{binary_short}
 use Rattle.numerals.proofs.PutLaws.{behind, said}
 use Rattle.vcd.proofs.ValueLaws.{integer_line, logic_line}

@@ -3,7 +3,6 @@ use mathlib.Core.Path.{◌∙◌}
 use Prim.Native.Nat.{◌+◌, ◌≤◌}
 use native.Mathlib.Omega.{arith}
 use lib.ListN.{length}
-use borrow.Author.Rules.{rules}
 use Rattle.numerals.specs.Numerals.{decimal_of}
 use Rattle.numerals.proofs.NumeralLaws.{decimal_most}
 use Rattle.numerals.proofs.PutLaws.{behind, said}
@@ -30,7 +29,7 @@ upto_3 c = omega (arith, c.put_decimal-b.ensures.place, c.put-a.ensures.place, w
 
 pub put-requires : goal.put-requires
 put-requires c =
-        let few : length (decimal_of c.args.n) ≤ 2 = decimal_most c.args.n 1 (omega (arith, c.requires.n_bound)) in
+    let few : length (decimal_of c.args.n) ≤ 2 = decimal_most c.args.n 1 (omega (arith, c.requires.n_bound)) in
     omega (arith, c.put_decimal-d.ensures.place, c.put-c.ensures.place, upto_3 c, few, c.requires.var_most_bound)
 
 -- up to the width

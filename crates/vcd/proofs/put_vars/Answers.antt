@@ -1,10 +1,7 @@
-use Prim.Native.Nat.{◌-◌}
 use native.Mathlib.Omega.{arith}
-use borrow.Author.Rules.{rules}
 use Rattle.vcd.specs.Vcd.{var_line}
-use Rattle.vcd.specs.Writing.{var_most, front_of}
-use Rattle.numerals.proofs.PutLaws.{Putting, putting_none, putting_next, putting_all, said}
-use Rattle.vcd.specs.Lines.{spaced}
+use Rattle.vcd.specs.Writing.{front_of}
+use Rattle.numerals.proofs.PutLaws.{putting_none, putting_next, putting_all, said}
 use Rattle.vcd.proofs.WalkLaws.{text_listed, var_line_at}
 use Rattle.vcd.proofs.put_vars.Goals as goal
 
@@ -16,7 +13,7 @@ put_var-end-requires c = let inv = c.loop-s.invariant in record { n_bound = omeg
 
 pub loop-s-preserved : goal.loop-s-preserved
 loop-s-preserved c =
-        putting_next c.loop-s.invariant c.loop-s-test.true c.put_var-end.auto.out c.put_var-end.ensures.upper_bound
+    putting_next c.loop-s.invariant c.loop-s-test.true c.put_var-end.auto.out c.put_var-end.ensures.upper_bound
     (said (var_line_at c.args.types.now c.args.n _ c.loop-s-test.true) c.put_var-end.ensures.puts)
 
 pub returns : goal.returns

@@ -1,12 +1,9 @@
 -- The loop puts a line for each signal. Assumes nothing.
 use Prim.Native.Nat.{◌-◌}
-use native.Mathlib.Omega.{arith}
-use borrow.Author.Rules.{rules}
 use Rattle.vcd.specs.Vcd.{var_line}
 use Rattle.vcd.specs.Writing.{var_most, front_of}
-use Rattle.numerals.proofs.PutLaws.{Putting, putting_none, putting_next, putting_all, said}
+use Rattle.numerals.proofs.PutLaws.{Putting}
 use Rattle.vcd.specs.Lines.{spaced}
-use Rattle.vcd.proofs.WalkLaws.{text_listed, var_line_at}
 use Rattle.vcd.proofs.put_vars.Given as goal
 
 abbrev pub invariant-loop-s : goal.invariant-loop-s

@@ -1,13 +1,8 @@
-use mathlib.Core.Path.{◌≡◌, refl, sym, ◌∙◌}
-use mathlib.Core.List.{◌++◌}
-use Prim.Native.Nat.{◌+◌, ◌-◌, ◌≤◌}
+use mathlib.Core.Path.{refl, sym, ◌∙◌}
 use native.Mathlib.Nat.{zero-add}
 use native.Mathlib.Omega.{arith}
-use lib.ListN.{length, length-set, take, drop}
-use borrow.Author.Rules.{rules}
-use Rattle.base.specs.Below.{list_below}
+use lib.ListN.{length-set}
 use Rattle.base.proofs.Below.{write_none, write_next}
-use Rattle.cycle.specs.View.{view_of}
 use Rattle.exports.specs.Dump.{word_of}
 use Rattle.exports.proofs.Words.{all_written}
 use Rattle.exports.proofs.dump.dump.Goals as goal
@@ -20,5 +15,5 @@ loop-i-preserved c = (omega arith, length-set c.loop-i.words c.loop-i.i c.word.r
 
 pub returns : goal.returns
 returns c =
-        let inv = c.loop-i.invariant in
+    let inv = c.loop-i.invariant in
     all_written (word_of _) _ _ _ inv.0 c.loop-i-test.false inv.2

@@ -1,16 +1,11 @@
 -- The words so far, then the rest of the buffer as it was. Assumes nothing.
-use mathlib.Core.Path.{◌≡◌, refl, sym, ◌∙◌}
+use mathlib.Core.Path.{◌≡◌}
 use mathlib.Core.List.{◌++◌}
-use Prim.Native.Nat.{◌+◌, ◌-◌, ◌≤◌}
-use native.Mathlib.Nat.{zero-add}
-use native.Mathlib.Omega.{arith}
-use lib.ListN.{length, length-set, take, drop}
-use borrow.Author.Rules.{rules}
+use Prim.Native.Nat.{◌-◌, ◌≤◌}
+use lib.ListN.{length, take, drop}
 use Rattle.base.specs.Below.{list_below}
-use Rattle.base.proofs.Below.{write_none, write_next}
 use Rattle.cycle.specs.View.{view_of}
 use Rattle.exports.specs.Dump.{word_of}
-use Rattle.exports.proofs.Words.{all_written}
 use Rattle.exports.proofs.dump.dump.Given as goal
 
 abbrev pub invariant-loop-i : goal.invariant-loop-i

@@ -20,7 +20,7 @@ returns-then-j-eq1 c = search (rules, count_word)
 
 pub overflow_add-result : goal.overflow_add-result
 overflow_add-result c =
-        let small : Fits w32 (get_or c.args.d.times (c.args.j - 2) 0) = search rules in
+    let small : Fits w32 (get_or c.args.d.times (c.args.j - 2) 0) = search rules in
     omega (arith, small.fits, c.requires.time_le_last_time)
 
 pub returns-then-k-n : goal.returns-then-k-n
