@@ -1,6 +1,5 @@
 -- The words are those of the check. Assumes nothing.
 use mathlib.Core.Path.{◌∙◌}
-use borrow.Author.Rules.{rules}
 use Rattle.loop_exports.proofs.WordLaws.{check_words}
 use Rattle.loop_exports.proofs.gontrafiby_loop.Goals as goal
 

@@ -1,7 +1,5 @@
-use Prim.Native.Nat.{◌-◌}
 use native.Mathlib.Omega.{arith}
-use borrow.Author.Rules.{rules}
-use Rattle.loop_exports.proofs.WordLaws.{Written, none_written, one_written, written_length, room_left, same_room, all_written}
+use Rattle.loop_exports.proofs.WordLaws.{none_written, one_written, written_length, room_left, all_written}
 use Rattle.loop_exports.proofs.put_words.Goals as goal
 
 pub loop-i-init : goal.loop-i-init

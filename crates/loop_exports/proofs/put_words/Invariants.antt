@@ -1,8 +1,6 @@
 -- The loop writes the chain's words, and behind them come two. Assumes nothing.
 use Prim.Native.Nat.{◌-◌}
-use native.Mathlib.Omega.{arith}
-use borrow.Author.Rules.{rules}
-use Rattle.loop_exports.proofs.WordLaws.{Written, none_written, one_written, written_length, room_left, same_room, all_written}
+use Rattle.loop_exports.proofs.WordLaws.{Written}
 use Rattle.loop_exports.proofs.put_words.Given as goal
 
 abbrev pub invariant-loop-i : goal.invariant-loop-i
