@@ -1,14 +1,13 @@
 -- The laws of the index: record n of a kind is the one that its start names. Assumes nothing.
-use mathlib.Core.Path.{◌≡◌, ◌∙◌}
+use mathlib.Core.Path.{◌≡◌, sym, ap, ◌∙◌}
 use mathlib.Core.Bool.{true}
 use mathlib.Core.Logic.{⊎_elim, ◌⊎◌, inl, inr}
 use mathlib.Core.List.{List}
-use Prim.Native.Nat.{ℕ, ◌+◌, ◌-◌, ◌≤◌, ◌<◌}
-use native.Mathlib.Nat.{add-sub_cancel_left}
+use Prim.Native.Nat.{ℕ, ◌+◌, ◌≤◌, ◌<◌}
 use native.Mathlib.Omega.{arith}
 use lib.Dec.{eqb}
 use borrow.Author.Tests.{leb-true, eqb-true}
-use lib.ListN.{length, get_or, take, drop, length-map}
+use lib.ListN.{length, get_or, length-map, length-take, length-drop}
 use Rattle.base.proofs.Below.{or_cases, every_at, map_at}
 use Rattle.blocks.specs.Blocks.{starts_of, total_of, part_at}
 use Rattle.blocks.specs.Records.{Model, model_of, records_of, signal_of, variable_of, process_of, driver_of, node_of, statement_of, row_of}
@@ -104,5 +103,14 @@ module _ (k : ℕ) (m index : List ℕ) (n place : ℕ) (e : place ≡ section_o
   pub inside : get_or index place 0 + 12 ≤ length m
   inside = rw (e, s.start k n h) (starts_in_lem m k n s.heads h)
 
-  pub recorded : {A : Type 0} (read : List ℕ → A) (d : A) → read (take (get_or index place 0 + 12 - get_or index place 0) (drop (get_or index place 0) m)) ≡ get_or (records_of read k m) n d
-  recorded read d = rw (add-sub_cancel_left, e, s.start k n h, record_at read k m d n h)
+-- record n of kind k is there, and is what its 12 bytes say
+module _ {A : Type 0} (read : List ℕ → A) (k : ℕ) (m : List ℕ) (n : ℕ) (h : n < length (records_of read k m)) where
+  pub there : n < total_of k m
+  there = rw records_length at h
+
+  pub said_by : (d r : A) (part : List ℕ) → r ≡ read part → part ≡ part_at m (get_or (starts_of k m) n 0) → r ≡ get_or (records_of read k m) n d
+  said_by d r part e f = e ∙ ap read f ∙ sym (record_at read k m d n there)
+
+-- and its 12 bytes are as many
+pub part_length : (m : List ℕ) (start : ℕ) → start + 12 ≤ length m → length (part_at m start) ≡ 12
+part_length m start h = rw (length-take, length-drop) (omega arith)

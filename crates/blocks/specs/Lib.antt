@@ -1,4 +1,5 @@
 pub mod Blocks
 pub mod Index
+pub mod Lent
 pub mod Records
 pub mod Totals

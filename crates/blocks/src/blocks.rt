@@ -1,6 +1,7 @@
 // Model blocks: rules 1 to 4, the totals, and where the records of each kind begin.
 ghost use Rattle.std.specs.Prelude.{◌≡◌, true, ◌+◌, ◌*◌, ◌-◌, ◌<◌, ◌≤◌, length};
 ghost use Rattle.base.specs.Below.{list_below};
+ghost use Rattle.base.specs.Refusals.{told};
 ghost use Rattle.base.specs.Rules.{first_failing};
 ghost use Rattle.blocks.specs.Blocks.{length_ok, block_sum, sums_ok, trailing_ok, head_ok, heads_ok, CountIs, start_at, starts_of, total_of};
 ghost use Rattle.blocks.specs.Records.{Model, model_of};
@@ -10,9 +11,11 @@ ghost use Rattle.blocks.specs.Index.{index_size, section_of, placed, Starts};
 use crate::index::{
     DRIVERS_AT, NODES_AT, PROCESSES_AT, ROWS_AT, SIGNALS_AT, STATEMENTS_AT, Totals, VARIABLES_AT,
 };
+use base::refusal::Refusal;
 use base::{byte, word};
 
 // 1. Whether the length is a multiple of 512 from 512 to 32,768.
+#[tactic(auto, unfolding(crate::specs::Blocks::length_ok, base::specs::Below::every))]
 fn length_ok(m: &[u8]) -> bool
     ensures { result ≡ length_ok m.now }
 {
@@ -26,10 +29,8 @@ fn block_sum(m: &[u8], b: usize) -> usize
     ensures { result ≡ block_sum m.now b }
 {
     let mut sum = 0;
-    let mut i = 0;
-    while i < 256 {
+    for i in 0..256 {
         sum += word(m, 512 * b + 2 * i);
-        i += 1;
     }
     sum
 }
@@ -38,14 +39,7 @@ fn block_sum(m: &[u8], b: usize) -> usize
 fn sums_ok(m: &[u8]) -> bool
     ensures { result ≡ sums_ok m.now }
 {
-    let blocks = m.len() / 512;
-    let mut ok = true;
-    let mut b = 0;
-    while b < blocks {
-        ok = ok & (block_sum(m, b) % 65536 == 1);
-        b += 1;
-    }
-    ok
+    (0..m.len() / 512).all(|b| block_sum(m, b) % 65536 == 1)
 }
 
 // Whether the bytes of block b behind its records are zero up to byte 509.
@@ -54,23 +48,11 @@ fn trailing_ok(m: &[u8], b: usize) -> bool
     ensures { result ≡ trailing_ok m.now b }
 {
     let end = 4 + 12 * byte(m, 512 * b + 3);
-    let mut ok = true;
-    let mut i = 0;
-    while i < 510 {
-        ok = ok & ((i < end) | (byte(m, 512 * b + i) == 0));
-        i += 1;
-    }
-    ok
-}
-
-// One less, and 0 for 0.
-fn before(b: usize) -> usize
-    ensures { result ≡ b - 1 }
-{
-    if b == 0 { 0 } else { b - 1 }
+    (0..510).all(|i| (i < end) | (byte(m, 512 * b + i) == 0))
 }
 
 // Whether block b has its number, a kind, a count, no lower kind than the block before, and zeros behind its records.
+#[tactic(auto, using(crate::proofs::BlockForms::head_form))]
 fn head_ok(m: &[u8], b: usize) -> bool
     requires { 512 * b + 512 ≤ length m.now }
     ensures { result ≡ head_ok m.now b }
@@ -81,7 +63,7 @@ fn head_ok(m: &[u8], b: usize) -> bool
         & (1 <= kind)
         & (kind <= 7)
         & (byte(m, at + 3) <= 42)
-        & (byte(m, 512 * before(b) + 2) <= kind)
+        & (byte(m, 512 * b.saturating_sub(1) + 2) <= kind)
         & trailing_ok(m, b)
 }
 
@@ -89,17 +71,11 @@ fn head_ok(m: &[u8], b: usize) -> bool
 fn heads_ok(m: &[u8]) -> bool
     ensures { result ≡ heads_ok m.now }
 {
-    let blocks = m.len() / 512;
-    let mut ok = true;
-    let mut b = 0;
-    while b < blocks {
-        ok = ok & head_ok(m, b);
-        b += 1;
-    }
-    ok
+    (0..m.len() / 512).all(|b| head_ok(m, b))
 }
 
 // How many records of a kind block b has.
+#[tactic(auto, unfolding(crate::specs::Blocks::count_in))]
 fn count_in(m: &[u8], kind: usize, b: usize) -> usize
     requires { 512 * b + 512 ≤ length m.now }
     ensures { CountIs kind m.now b result }
@@ -115,12 +91,9 @@ fn count_in(m: &[u8], kind: usize, b: usize) -> usize
 fn total(m: &[u8], kind: usize) -> usize
     ensures { result ≡ total_of kind m.now }
 {
-    let blocks = m.len() / 512;
     let mut n = 0;
-    let mut b = 0;
-    while b < blocks {
+    for b in 0..m.len() / 512 {
         n += count_in(m, kind, b);
-        b += 1;
     }
     n
 }
@@ -141,6 +114,7 @@ pub fn totals(m: &[u8]) -> Totals
 }
 
 // 4. Whether the totals are within their limits.
+#[tactic(auto, using(crate::proofs::BlockForms::totals_form))]
 pub fn totals_ok(t: Totals) -> bool
     ensures { (M : Model) → TotalsOf M t → result ≡ totals_ok M }
 {
@@ -155,24 +129,25 @@ pub fn totals_ok(t: Totals) -> bool
         & ((t.rows == 0) | (t.rows == 9))
 }
 
-// The first of the rules 1 to 4 that fails, or 0: t has the model's totals.
-pub fn blocks_refusal(m: &[u8], t: Totals) -> usize
+// The first of the rules 1 to 4 that fails: t has the model's totals.
+#[tactic(auto, unfolding(crate::specs::Totals::block_rules, base::specs::Rules::first_failing))]
+pub fn check_blocks(m: &[u8], t: Totals) -> Result<(), Refusal>
     requires { TotalsOf (model_of m.now) t }
-    ensures { result ≡ first_failing (block_rules m.now) }
+    ensures { told result ≡ first_failing (block_rules m.now) }
 {
     if !length_ok(m) {
-        return 1;
+        return Err(Refusal::ModelLength);
     }
     if !sums_ok(m) {
-        return 2;
+        return Err(Refusal::BlockSum);
     }
     if !heads_ok(m) {
-        return 3;
+        return Err(Refusal::BlockHead);
     }
     if !totals_ok(t) {
-        return 4;
+        return Err(Refusal::Counts);
     }
-    0
+    Ok(())
 }
 
 // Writes where the first `count` records of block b begin, from place `at` on.
@@ -180,10 +155,8 @@ fn put_starts(b: usize, count: usize, at: usize, out: &mut [u16])
     requires { (b < 64) × (count < 256) × (at + count ≤ length out.old) }
     ensures { out.new ≡ placed out.old at (list_below (start_at b) count) }
 {
-    let mut j = 0;
-    while j < count {
+    for j in 0..count {
         out[at + j] = (512 * b + 4 + 12 * j) as u16;
-        j += 1;
     }
 }
 
@@ -192,18 +165,16 @@ fn put_kind(m: &[u8], kind: usize, at: usize, out: &mut [u16])
     requires { (length m.now ≤ 32768) × (at + total_of kind m.now ≤ length out.old) }
     ensures { out.new ≡ placed out.old at (starts_of kind m.now) }
 {
-    let blocks = m.len() / 512;
     let mut n = at;
-    let mut b = 0;
-    while b < blocks {
+    for b in 0..m.len() / 512 {
         let count = count_in(m, kind, b);
         put_starts(b, count, n, out);
         n += count;
-        b += 1;
     }
 }
 
 // The place where the index keeps the starts of a kind.
+#[tactic(auto, unfolding(crate::specs::Index::section_of))]
 fn section(kind: usize) -> usize
     ensures { result ≡ section_of kind }
 {
@@ -226,10 +197,8 @@ pub fn put_index(m: &[u8], out: &mut [u16])
     requires out_len { length out.old ≡ index_size }
     ensures { Starts m.now out.new }
 {
-    let mut kind = 1;
-    while kind < 8 {
+    for kind in 1..8 {
         let at = section(kind);
         put_kind(m, kind, at, out);
-        kind += 1;
     }
 }

@@ -3,4 +3,5 @@
 
 pub mod blocks;
 pub mod index;
+pub mod lent;
 pub mod records;

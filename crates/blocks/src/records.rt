@@ -6,6 +6,7 @@ ghost use Rattle.blocks.specs.Records.{zeros_at, signal_of, variable_of, process
 use base::{byte, long32, word};
 
 // Kinds of a signal.
+// Stays: kinds and types are numbers, since the records are read before rule 5 judges them, and `signal_of` to `row_of` name the bytes.
 pub const PLAIN: usize = 0;
 
 pub const BUS: usize = 1;
@@ -73,16 +74,11 @@ fn zeros(r: &[u8], i: usize, n: usize) -> bool
     requires { i + n ≤ length r.now }
     ensures { result ≡ zeros_at r.now i n }
 {
-    let mut ok = true;
-    let mut j = 0;
-    while j < n {
-        ok = ok & (byte(r, i + j) == 0);
-        j += 1;
-    }
-    ok
+    (0..n).all(|j| byte(r, i + j) == 0)
 }
 
 // A signal's record from its 12 bytes.
+#[tactic(auto, unfolding(crate::specs::Records::signal_of))]
 pub(crate) fn read_signal(r: &[u8]) -> SignalRecord
     requires { length r.now ≡ 12 }
     ensures { result ≡ signal_of r.now }
@@ -95,6 +91,7 @@ pub(crate) fn read_signal(r: &[u8]) -> SignalRecord
     }
 }
 
+#[tactic(auto, unfolding(crate::specs::Records::variable_of))]
 pub(crate) fn read_variable(r: &[u8]) -> VariableRecord
     requires { length r.now ≡ 12 }
     ensures { result ≡ variable_of r.now }
@@ -107,6 +104,7 @@ pub(crate) fn read_variable(r: &[u8]) -> VariableRecord
     }
 }
 
+#[tactic(auto, unfolding(crate::specs::Records::process_of))]
 pub(crate) fn read_process(r: &[u8]) -> ProcessRecord
     requires { length r.now ≡ 12 }
     ensures { result ≡ process_of r.now }
@@ -118,6 +116,7 @@ pub(crate) fn read_process(r: &[u8]) -> ProcessRecord
     }
 }
 
+#[tactic(auto, unfolding(crate::specs::Records::driver_of))]
 pub(crate) fn read_driver(r: &[u8]) -> DriverRecord
     requires { length r.now ≡ 12 }
     ensures { result ≡ driver_of r.now }
@@ -129,6 +128,7 @@ pub(crate) fn read_driver(r: &[u8]) -> DriverRecord
     }
 }
 
+#[tactic(auto, unfolding(crate::specs::Records::node_of))]
 pub(crate) fn read_node(r: &[u8]) -> NodeRecord
     requires { length r.now ≡ 12 }
     ensures { result ≡ node_of r.now }
@@ -142,6 +142,7 @@ pub(crate) fn read_node(r: &[u8]) -> NodeRecord
     }
 }
 
+#[tactic(auto, unfolding(crate::specs::Records::statement_of))]
 pub(crate) fn read_statement(r: &[u8]) -> StatementRecord
     requires { length r.now ≡ 12 }
     ensures { result ≡ statement_of r.now }

@@ -9,7 +9,7 @@ use Rattle.base.specs.Cases.{◌∣◌, ◌is◌⇒◌}
 use Rattle.base.proofs.Cases.{by_test}
 use Rattle.blocks.specs.Records.{Model}
 use Rattle.trees.specs.Trees.{type_by}
-use Rattle.rules.specs.declared.value.Value.{Value}
+use Rattle.rules.specs.Values.{Value}
 use Rattle.rules.specs.Evaluation.{Environment, value_by}
 use Rattle.grammar.specs.Words.{operator_of}
 use Rattle.grammar.specs.Made.{node}

@@ -9,13 +9,13 @@ use lib.IntN.{pos, nat_abs}
 use lib.ListN.{set}
 use lib.Seq.{set-get_or}
 use lib.Signed.{lt_z}
+use Rattle.std.specs.Prelude.{Ok, Err}
 use Rattle.base.specs.Cases.{◌∣◌, ◌⇒◌}
 use Rattle.blocks.specs.Records.{Model, statement_at}
 use Rattle.blocks.specs.declared.records.StatementRecord.{StatementRecord}
 use Rattle.rules.specs.declared.driven.Driven.TheVariants.{To}
 use Rattle.rules.specs.declared.mechanism.Mechanism.TheVariants.{Transport}
-use Rattle.rules.specs.declared.value.Value.{Value}
-use Rattle.rules.specs.declared.value.Value.TheVariants.{Of, Fault}
+use Rattle.rules.specs.Values.{Value}
 use Rattle.rules.specs.declared.effect.Effect.{Effect}
 use Rattle.rules.specs.declared.effect.Effect.TheVariants.{Skip, Store, Schedule, Jump, Wait, WaitFor, Stop}
 use Rattle.rules.specs.Configuration.{Transaction, DriverState, ProcessState, driver_in}
@@ -75,8 +75,8 @@ module _ (M : Model) (i : ℕ) (s : State) where
   -- a value and a delay go on alike, or fail alike
   pub value_is : (v : Value) (f : ℕ → Effect) (g : ℕ → TextEffect State ProcessState) → ((x : ℕ) → after i j s (f x) ≡ shown (g x))
       → after i j s (with_value v f) ≡ shown (given i v g)
-  value_is (Fault e) f g h = refl
-  value_is (Of x) f g h = h x
+  value_is (Err e) f g h = refl
+  value_is (Ok x) f g h = h x
 
   negative_is : (b : Bool) (f : Effect) (g : TextEffect State ProcessState) → after i j s f ≡ shown g
       → after i j s (b ⇒ Stop (failure no_node 2) ∣ f) ≡ shown (b ⇒ TextEffect.fault (stopped_at i (failure no_node 2)) ∣ g)
@@ -103,8 +103,8 @@ module _ (M : Model) (i : ℕ) (s : State) where
 
   -- "unless b go to statement a"
   pub unless_is : (v : Value) (a : ℕ) → after i j s (with_value v (λ x. eqb x 0 ⇒ Jump a ∣ Skip)) ≡ by_verdict s (verdict i v) (goes (ready_at j) s) (goes (ready_at a) s)
-  unless_is (Fault e) a = refl
-  unless_is (Of x) a = zero_is (eqb x 0) a
+  unless_is (Err e) a = refl
+  unless_is (Ok x) a = zero_is (eqb x 0) a
 
 -- past a wait of statement i the process is ready at the next place
 module _ (M : Model) (i : ℕ) where
@@ -114,8 +114,8 @@ module _ (M : Model) (i : ℕ) where
   Passes (TextEffect.fault w) = Unit {0}
 
   pub passes_value : (v : Value) (g : ℕ → TextEffect State ProcessState) → ((x : ℕ) → Passes (g x)) → Passes (given i v g)
-  passes_value (Fault e) g h = tt
-  passes_value (Of x) g h = h x
+  passes_value (Err e) g h = tt
+  passes_value (Ok x) g h = h x
 
   passes_either : (b : Bool) (f g : TextEffect State ProcessState) → Passes f → Passes g → Passes (b ⇒ f ∣ g)
   passes_either true f g h k = h

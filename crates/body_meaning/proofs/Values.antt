@@ -5,13 +5,13 @@ use mathlib.Core.List.{List, [], ◌∷◌, ◌++◌}
 use Prim.Native.Nat.{ℕ, ◌+◌, ◌-◌, ◌≤◌, ◌<◌}
 use native.Mathlib.Omega.{arith}
 use lib.ListN.{get_or}
+use Rattle.std.specs.Prelude.{Ok}
 use Rattle.base.specs.Course.{up_to, course}
 use Rattle.base.proofs.Course.{earlier}
 use Rattle.blocks.specs.Records.{Model, node_at}
 use Rattle.blocks.specs.declared.records.NodeRecord.{NodeRecord}
 use Rattle.trees.specs.Trees.{mistyped, type_by, next_type, type_of}
-use Rattle.rules.specs.declared.value.Value.{Value}
-use Rattle.rules.specs.declared.value.Value.TheVariants.{Of}
+use Rattle.rules.specs.Values.{Value}
 use Rattle.rules.specs.Evaluation.{Environment, value_by, next_value, eval_of}
 use Rattle.grammar.specs.Tokens.{Token}
 use Rattle.grammar.specs.Words.{operator_of}
@@ -28,7 +28,7 @@ module _ (M : Model) where
   type_below n a = get_or (up_to (next_type M) n) a mistyped
 
   abbrev value_below : Environment → ℕ → ℕ → Value
-  value_below env n a = get_or (up_to (next_value M env) n) a (Of 0)
+  value_below env n a = get_or (up_to (next_value M env) n) a (Ok 0)
 
   type_at : (n : ℕ) (d : NodeRecord) → node_at M n ≡ d → type_of M n ≡ type_by M d (type_below n d.a) (type_below n d.b)
   unfolding type_of course next_type
@@ -50,7 +50,7 @@ module _ (M : Model) where
 
   below_value : {m a n : ℕ} {e : Expression} → Same m e a → a < n → (env : Environment) → value_below env n a ≡ value_in M env m e
   unfolding eval_of
-  below_value {a} {n} s l env = earlier (next_value M env) (Of 0) n a l ∙ s.value env
+  below_value {a} {n} s l env = earlier (next_value M env) (Ok 0) n a l ∙ s.value env
 
   abbrev pub no_node : NodeRecord
   no_node = record { kind = 0; a = 0; b = 0; k = 0; zeros = false }
@@ -71,7 +71,7 @@ module _ (M : Model) where
   leaf m n e d here type value = record { type = type_at n d here ∙ type _ _; value = λ env. value_at_lem env n d here ∙ value env _ _ _ }
 
   unary_same : (m kind : ℕ) (e : Expression) → ((a p q : ℕ) → type_by M (node kind a 0 0) p q ≡ type_by M (operator kind) p mistyped)
-      → ((env : Environment) (n ty a : ℕ) (p q : Value) → value_by env n (node kind a 0 0) ty p q ≡ value_by env n (operator kind) ty p (Of 0))
+      → ((env : Environment) (n ty a : ℕ) (p q : Value) → value_by env n (node kind a 0 0) ty p q ≡ value_by env n (operator kind) ty p (Ok 0))
       → Same m e (root_of m e) → StandNodes m (nodes_of m (unary kind e)) → Same m (unary kind e) (root_of m (unary kind e))
   unfolding nodes_of nodes_in type_in value_in
   unary_same m kind e type value s st =

@@ -1,6 +1,6 @@
 -- The meaning of a body's statements: source document 000, rules 8 and 9 and the wait, with the faults of documents 01 and 02. The rules 10 to 15
 -- are those of `meaning`. Of the model M they read the given records alone: signals, variables and drivers.
-use Rattle.std.specs.Prelude.{List, ℕ, ◌+◌, eqb, pos, nat_abs, set}
+use Rattle.std.specs.Prelude.{List, ℕ, ◌+◌, eqb, pos, nat_abs, set, Ok, Err}
 use Rattle.std.proofs.Math.Option.{Option, none, some}
 use Rattle.std.specs.Int.Signed.{lt_z}
 use Rattle.base.specs.Cases.{◌∣◌, ◌⇒◌}
@@ -8,8 +8,7 @@ use Rattle.blocks.specs.Records.{Model}
 use Rattle.model.specs.Owners.{driver_for}
 use Rattle.rules.specs.declared.driven.Driven.TheVariants.{To}
 use Rattle.rules.specs.declared.value.Failure.{Failure}
-use Rattle.rules.specs.declared.value.Value.{Value}
-use Rattle.rules.specs.declared.value.Value.TheVariants.{Of, Fault}
+use Rattle.rules.specs.Values.{Value}
 use Rattle.rules.specs.Configuration.{Transaction, DriverState, ProcessState, driver_in, ready, waiting, stopped}
 use Rattle.rules.specs.Evaluation.{Environment, environment_of, failure, no_node, int}
 use Rattle.rules.specs.Statements.{added, overflows, with_pending}
@@ -65,8 +64,8 @@ environment s = environment_of s.variables s.signals s.earlier
 
 -- what follows a value in statement i, or the fault that it is
 abbrev pub given : ℕ → Value → (ℕ → Effect State ProcessState) → Effect State ProcessState
-given i (Fault f) go = Effect.fault (stopped_at i f)
-given i (Of x) go = go x
+given i (Err f) go = Effect.fault (stopped_at i f)
+given i (Ok x) go = go x
 
 -- what follows a delay; fault 2: "c negative", which no node has
 unfoldable pub given_delay : ℕ → Value → (ℕ → Effect State ProcessState) → Effect State ProcessState
@@ -118,8 +117,8 @@ effect M (wait_statement i m o u f) s = wait_for M i (m + nodes_in_part u) f s
 
 -- a boolean is 1 or 0; or the fault
 abbrev pub verdict : ℕ → Value → Verdict ProcessState
-verdict i (Fault f) = Verdict.fault (stopped_at i f)
-verdict i (Of x) = eqb x 0 ⇒ fails ∣ holds
+verdict i (Err f) = Verdict.fault (stopped_at i f)
+verdict i (Ok x) = eqb x 0 ⇒ fails ∣ holds
 
 unfoldable pub test : Model → Condition → State → Verdict ProcessState
 test M (condition i m e) s = verdict i (value_in M (environment s) m e)

@@ -9,6 +9,7 @@ use native.Mathlib.Omega.{arith}
 use lib.Dec.{eqb}
 use lib.ListN.{length}
 use borrow.Author.Tests.{eqb-true, eqb-false, eq-eqb}
+use Rattle.std.specs.Prelude.{Ok, Err}
 use Rattle.base.specs.Below.{any_below}
 use Rattle.base.proofs.Below.{and_left, and_right, map_at, list_at}
 use Rattle.base.proofs.Cases.{by_test, either_way}
@@ -17,8 +18,7 @@ use Rattle.sets.specs.Sets.{in_set}
 use Rattle.blocks.specs.Records.{Model, driver_at, statement_at}
 use Rattle.fields.specs.Fields.{absent}
 use Rattle.leads.specs.Leads.{waits_on}
-use Rattle.rules.specs.declared.value.Value.{Value}
-use Rattle.rules.specs.declared.value.Value.TheVariants.{Of, Fault}
+use Rattle.rules.specs.Values.{Value}
 use Rattle.rules.specs.Configuration.{ProcessState, Configuration, driver_in, process_in, current_of, ready, waiting}
 use Rattle.rules.specs.Evaluation.{environment_of, eval_of}
 use Rattle.rules.specs.Steps.{transaction_due, taken, deadline_at, deadline_due, active, signal_after, signals_after, earlier_after, changed_in, woken_by, woken_if, woken_at, process_after_delta, delta_step}
@@ -101,8 +101,8 @@ module _ (M : Model) (c : Configuration) (r : Reachable M c) (x : Deltas M c) wh
     Past z = deadline_at c.time z.deadline ≡ false
 
     past_by : (v : Value) → Past state → Past (woken_by M q state v)
-    past_by (Fault f) h = h
-    past_by (Of z) h = by_test Past (eqb z 1) _ _ (λ t. refl) (λ t. h)
+    past_by (Err f) h = h
+    past_by (Ok z) h = by_test Past (eqb z 1) _ _ (λ t. refl) (λ t. h)
 
     -- a process that does not wait is ready or stopped, and neither is there
     waits : state.standing ≡ waiting

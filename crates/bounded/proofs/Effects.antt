@@ -9,6 +9,7 @@ use lib.Dec.{eqb}
 use lib.IntN.{pos, nat_abs}
 use lib.Signed.{lt_z}
 use borrow.Author.Tests.{eqb-true, eqb-false, ltb-true}
+use Rattle.std.specs.Prelude.{Ok, Err}
 use Rattle.base.specs.Course.{course}
 use Rattle.base.proofs.Below.{◌and◌, among, and_left, and_right}
 use Rattle.base.proofs.Cases.{by_test}
@@ -21,8 +22,7 @@ use Rattle.rules.specs.declared.driven.Driven.TheVariants.{To}
 use Rattle.rules.specs.declared.mechanism.Mechanism.{Mechanism}
 use Rattle.rules.specs.declared.mechanism.Mechanism.TheVariants.{Transport, Inertial}
 use Rattle.rules.specs.declared.value.Failure.{Failure}
-use Rattle.rules.specs.declared.value.Value.{Value}
-use Rattle.rules.specs.declared.value.Value.TheVariants.{Of, Fault}
+use Rattle.rules.specs.Values.{Value}
 use Rattle.rules.specs.declared.effect.Effect.{Effect}
 use Rattle.rules.specs.declared.effect.Effect.TheVariants.{Skip, Store, Schedule, Jump, Wait, WaitFor, Stop}
 use Rattle.rules.specs.Evaluation.{Environment, failure, no_node, int, value_by, next_value, eval_of}
@@ -30,14 +30,14 @@ use Rattle.rules.specs.Statements.{with_value, with_delay, effect_by}
 use Rattle.rules.proofs.Signed.{not_negative}
 
 -- a constant node's value is its constant
-constant_value : (M : Model) (e : Environment) (n : ℕ) → (node_at M n).kind ≡ 1 → eval_of M e n ≡ Of (node_at M n).k
+constant_value : (M : Model) (e : Environment) (n : ℕ) → (node_at M n).kind ≡ 1 → eval_of M e n ≡ Ok (node_at M n).k
 unfolding eval_of course next_value value_by
 constant_value M e n k = rw k
 
 -- what holds of every stop, and after any value, holds after a value
-value_then : (P : Effect → Type 0) (v : Value) (next : ℕ → Effect) → ((f : Failure) → P (Stop f)) → ((x : ℕ) → v ≡ Of x → P (next x)) → P (with_value v next)
-value_then P (Of x) next s g = g x refl
-value_then P (Fault f) next s g = s f
+value_then : (P : Effect → Type 0) (v : Value) (next : ℕ → Effect) → ((f : Failure) → P (Stop f)) → ((x : ℕ) → v ≡ Ok x → P (next x)) → P (with_value v next)
+value_then P (Ok x) next s g = g x refl
+value_then P (Err f) next s g = s f
 
 -- what an effect of a statement of process p says of the statement, of that kind and with that a and c
 module _ (M : Model) (p kind a c : ℕ) where

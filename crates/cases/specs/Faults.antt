@@ -1,5 +1,5 @@
 -- The rows of the proved table for the node that failed (document 02, item 3), and the laws of faults, used once.
-use Rattle.std.specs.Prelude.{◌≡◌, List, [], ◌∷◌, map, ◌++◌, ℕ, ◌<◌, length}
+use Rattle.std.specs.Prelude.{◌≡◌, List, [], ◌∷◌, map, ◌++◌, ℕ, ◌<◌, length, Err}
 use Rattle.base.specs.Below.{All}
 use Rattle.base.specs.Bytes.{byte_at, long_at}
 use Rattle.base.specs.Rules.{first_failing}
@@ -9,7 +9,6 @@ use Rattle.fields.specs.Fields.{absent}
 use Rattle.trees.specs.Trees.{integer, boolean}
 use Rattle.model.specs.Rules.{record_rules, Accepted}
 use Rattle.rules.specs.Configuration.{process_in, first, stopped}
-use Rattle.rules.specs.declared.value.Value.TheVariants.{Fault}
 use Rattle.rules.specs.Evaluation.{Environment, environment_of, failure, no_node, eval_of}
 use Rattle.rules.specs.Failing.{evaluation_order, HasValue, AtFault}
 use Rattle.rules.specs.Invariant.{Stopping}
@@ -147,10 +146,10 @@ pub record FaultsUsed : Type 0 where
   pub laws : FaultLaws
   pub accepted : Accepted inner_sum
   pub there : 3 < length inner_sum.nodes
-  pub fails : eval_of inner_sum reading 3 ≡ Fault (failure 2 1)
+  pub fails : eval_of inner_sum reading 3 ≡ Err (failure 2 1)
   pub at_fault : AtFault inner_sum reading 3 (failure 2 1) by rw fails at (laws.named inner_sum accepted reading 3 there)
   pub order : evaluation_order inner_sum reading 3 ≡ at_fault.before ++ (2 ∷ at_fault.after) by at_fault.order
-  pub itself : eval_of inner_sum reading 2 ≡ Fault (failure 2 1) by at_fault.fails
+  pub itself : eval_of inner_sum reading 2 ≡ Err (failure 2 1) by at_fault.fails
   pub before : All (HasValue inner_sum reading) at_fault.before by at_fault.valued
   -- the order is that of the expression (0 + 1) + 1: node 1 twice
   pub evaluated : evaluation_order inner_sum reading 3 ≡ 0 ∷ 1 ∷ 2 ∷ 1 ∷ 3 ∷ []

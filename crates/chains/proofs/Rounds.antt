@@ -20,7 +20,10 @@ use Rattle.loops.specs.Search.{walks, next_on, chain_from, round_of, lowest_on, 
 use Rattle.loops.proofs.Search.{next_there, next_walks}
 use Rattle.loops.proofs.Asked.{asked, unique}
 use Rattle.sets.specs.Sets.{in_set, SetOf}
-use Rattle.chains.specs.Rows.{arrow, meets_row, leads_back, Closes, Holds, Returned}
+use Rattle.std.proofs.Common.{Some, None, subst}
+use Rattle.loops.specs.Chains.{Asked}
+use Rattle.chains.specs.Rows.{arrow, meets_row, leads_back, NamesBelow, Closes, IsChain, Returned}
+use Rattle.chains.specs.declared.Chain.{Chain}
 use Rattle.sets.proofs.Bits.{in_none}
 use Rattle.chains.proofs.Sought.{NoneOf, sought, not_there}
 
@@ -29,10 +32,6 @@ zeros : (n i : ℕ) → get_or {A = ℕ} (replicate n 0) i 0 ≡ 0
 zeros zero i = refl
 zeros (suc n) zero = refl
 zeros (suc n) (suc i) = zeros n i
-
--- no process
-pub holds_none : Holds [] (replicate 16 0) 0
-holds_none = record { long = refl; few = omega arith; list = refl; rest = λ i l. zeros 16 i }
 
 -- below 1 more: below, or equal
 below_more : (x v : ℕ) (f : ℕ → Bool) → (ltb x (v + 1) && f x) ≡ ((ltb x v && f x) || (eqb v x && f v))
@@ -110,13 +109,13 @@ module _ (leads : ℕ → ℕ → Bool) (P s : ℕ) where
   pub closing_is : (l : ℕ) (b t : Bool) → b ≡ walks leads P s (l + 1) s → b ≡ t → closing l ≡ t
   closing_is l b t e h = rw (← add-one l) (sym e ∙ h)
 
-  pub round_found : (l : ℕ) → l < P → NoneOf closing l → closing l ≡ true → l ≡ round_of leads P s
+  pub round_found : (l : ℕ) → l < P → NoneOf closing l → closing l ≡ true → NamesBelow P (round_of leads P s) (Some l)
   unfolding round_of
-  round_found l h none e = sought closing P l h none e
+  round_found l h none e = let q : l ≡ first_with closing P = sought closing P l h none e in (q, rw (← q) h)
 
-  pub round_none : (l : ℕ) → l ≤ P → P ≤ l → NoneOf closing l → P ≡ round_of leads P s
+  pub round_none : (l : ℕ) → l ≤ P → P ≤ l → NoneOf closing l → NamesBelow P (round_of leads P s) None
   unfolding round_of
-  round_none l h g none = not_there closing P l h g none
+  round_none l h g none = let q : P ≡ first_with closing P = not_there closing P l h g none in omega arith
 
   pub round_closes : (l : ℕ) → l ≡ round_of leads P s → l < P → closing l ≡ true
   unfolding round_of
@@ -145,20 +144,15 @@ module _ (leads : ℕ → ℕ → Bool) (P : ℕ) where
       let low : P ≡ first_with on_chain P = not_there on_chain P s h g none in
       rw (← low, le-ltb P P (omega arith))
 
-  pub returned : (at : List ℕ) (len : ℕ) (xs : List ℕ) → xs ≡ chain_of leads P → Holds xs at len → Returned leads P at len
-  returned at len xs e h =
-      let same : take len at ≡ chain_of leads P = h.list ∙ e in
-      record {
-        long = h.long;
-        few = h.few;
-        chain = rw same (asked leads P);
-        only = λ ys a. unique leads P ys (take len at) a (rw same (asked leads P));
-        rest = h.rest;
-      }
+  pub returned : (c : Chain) (xs : List ℕ) → xs ≡ chain_of leads P → IsChain xs c → Returned leads P (Some c)
+  returned c xs e h =
+      let a : Asked leads P xs = subst (Asked leads P) (sym e) (asked leads P) in
+      record { processes = xs; holds = h; chain = a; only = λ ys b. unique leads P ys xs b a }
 
-  pub returned_none : (s : ℕ) → s ≤ P → P ≤ s → NoneOf on_chain s → Returned leads P (replicate 16 0) 0
+  pub returned_none : (s : ℕ) → s ≤ P → P ≤ s → NoneOf on_chain s → Returned leads P None
   returned_none s h g none =
-      returned (replicate 16 0) 0 [] (chain_none s h g none) holds_none
+      let a : Asked leads P [] = subst (Asked leads P) (sym (chain_none s h g none)) (asked leads P) in
+      record { processes = []; holds = refl; chain = a; only = λ ys b. unique leads P ys [] b a }
 
 -- the chain, made entry by entry
 pub record Made (rows : List ℕ) (P s l : ℕ) (at : List ℕ) (v i : ℕ) : Type 0 where
@@ -204,8 +198,16 @@ module _ (rows : List ℕ) (P s l : ℕ) (h : Closes rows P s l) where
         size = length-set at i v ∙ m.size;
       }
 
-  pub made_all : (at : List ℕ) (v i : ℕ) → l < i → Made rows P s l at v i → Holds (chain_from (arrow rows) P s (suc l) s) at i
+  pub made_all : (at : List ℕ) (v i : ℕ) → l + 1 ≤ i → Made rows P s l at v i → IsChain (chain_from (arrow rows) P s (suc l) s) (record { at = at; len = l + 1 })
   unfolding chain_from
   made_all at v i g m =
+      let n : i ≡ l + 1 = omega (arith, m.most) in
       let a : suc l - i ≡ 0 = omega arith in
-      record { long = m.size; few = omega (arith, m.most, h.few, h.within); list = sym (append-nil (take i at)) ∙ (rw a at m.made); rest = m.rest }
+      let made : take i at ≡ chain_from (arrow rows) P s (suc l) s = sym (append-nil (take i at)) ∙ (rw a at m.made) in
+      record {
+        long = m.size;
+        some = omega arith;
+        few = omega (arith, h.few, h.within);
+        list = subst (λ k. take k at ≡ chain_from (arrow rows) P s (suc l) s) n made;
+        rest = λ j k. m.rest j (omega arith);
+      }

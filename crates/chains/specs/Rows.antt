@@ -1,9 +1,10 @@
 -- A relation between processes as a row of bits for each, and what the search for a closed chain over it promises.
-use Rattle.std.specs.Prelude.{◌≡◌, Bool, true, ◌&&◌, List, ℕ, suc, ◌≤◌, ◌<◌, ltb, length, get_or, take}
+use Rattle.std.specs.Prelude.{◌≡◌, Bool, true, ◌&&◌, List, [], ℕ, suc, ◌≤◌, ◌<◌, ltb, length, get_or, take, Option, MatchOption}
 use Rattle.base.specs.Below.{any_below}
 use Rattle.sets.specs.Sets.{in_set}
 use Rattle.loops.specs.Chains.{Asked}
 use Rattle.loops.specs.Search.{walks}
+use Rattle.chains.specs.declared.Chain.{Chain}
 
 -- a leads to b: bit b of row a
 abbrev pub arrow : List ℕ → ℕ → ℕ → Bool
@@ -28,17 +29,25 @@ pub record Closes (rows : List ℕ) (P s l : ℕ) : Type 0 where
   pub within : l < P
   pub round : walks (arrow rows) P s (suc l) s ≡ true
 
--- the first len entries of `at` are the list xs, the others 0
-pub record Holds (xs : List ℕ) (at : List ℕ) (len : ℕ) : Type 0 where
-  pub long : length at ≡ 16
-  pub few : len ≤ 16
-  pub list : take len at ≡ xs
-  pub rest : (i : ℕ) → len ≤ i → get_or at i 0 ≡ 0
+-- r names k, where k is below n
+abbrev pub NamesBelow : ℕ → ℕ → Option ℕ → Type 0
+NamesBelow n k r = MatchOption r (n ≤ k) (λ l. (l ≡ k) × (k < n))
 
--- the first len entries of `at` are the chain asked for, which is one list alone; the others are 0
-pub record Returned (leads : ℕ → ℕ → Bool) (P : ℕ) (at : List ℕ) (len : ℕ) : Type 0 where
-  pub long : length at ≡ 16
-  pub few : len ≤ 16
-  pub chain : Asked leads P (take len at)
-  pub only : (ys : List ℕ) → Asked leads P ys → ys ≡ take len at
-  pub rest : (i : ℕ) → len ≤ i → get_or at i 0 ≡ 0
+-- the list xs has some entries, and they are the first `len` of the chain's; the others are 0
+pub record IsChain (xs : List ℕ) (c : Chain) : Type 0 where
+  pub long : length c.at ≡ 16
+  pub some : 0 < c.len
+  pub few : c.len ≤ 16
+  pub list : take c.len c.at ≡ xs
+  pub rest : (i : ℕ) → c.len ≤ i → get_or c.at i 0 ≡ 0
+
+-- r has the list xs: as a chain, or as none where it is empty
+abbrev pub Holds : List ℕ → Option Chain → Type 0
+Holds xs r = MatchOption r (xs ≡ []) (λ c. IsChain xs c)
+
+-- a list, and no other, is the chain asked for, and r has it
+pub record Returned (leads : ℕ → ℕ → Bool) (P : ℕ) (r : Option Chain) : Type 0 where
+  pub processes : List ℕ
+  pub holds : Holds processes r
+  pub chain : Asked leads P processes
+  pub only : (ys : List ℕ) → Asked leads P ys → ys ≡ processes

@@ -9,6 +9,7 @@ use Prim.Native.Nat.{ℕ, ◌+◌, ◌<◌}
 use native.Mathlib.Omega.{arith}
 use lib.ListN.{length, get_or, set, length-set}
 use lib.Seq.{set-get_or}
+use Rattle.std.specs.Prelude.{Some, None}
 use Rattle.blocks.specs.Records.{Model}
 use Rattle.rules.specs.Configuration.{DriverState, ProcessState, Configuration, driver_in}
 use Rattle.rules.specs.Statements.{moved, stops, next_place, process_after, full_after, driver_after, drivers_after, variables_after, applied}
@@ -21,7 +22,6 @@ use Rattle.rules.specs.declared.driven.Driven.{Driven}
 use Rattle.waveforms.specs.Pending.{driven_of, no_driver}
 use Rattle.waveforms.specs.Waveform.{driving, ScheduledTo}
 use Rattle.waveforms.specs.declared.driver.Driver.{Driver}
-use Rattle.waveforms.specs.declared.driver.Scheduled.{Scheduled}
 use Rattle.steps.specs.Entries.{deadline_of}
 use Rattle.cycle.specs.View.{driver_view, process_view, view_of}
 use Rattle.cycle.specs.declared.config.Config.{Config}
@@ -173,25 +173,30 @@ module _ (M : Model) (c : Config) (p : ℕ) (h : p < c.nprocesses) where
     unfolding view_of driver_view
     stop_view f = change_is (Stop f) (stops_by c p f) refl refl (stopped_is f) refl
 
-    module _ (k d : ℕ) (v : Driven) (m : Mechanism) (kd : k < c.ndrivers) (k64 : k < 64) (r : Scheduled) (to : ScheduledTo (get_or c.drivers k no_driver) d v m r) where
-      full_is : r.full ≡ full_after (Schedule k d v m) c.time (view_of c).drivers
-      full_is = to.full c.time ∙ rw (pending_in c k kd)
+    module _ (k d : ℕ) (v : Driven) (m : Mechanism) (kd : k < c.ndrivers) where
+      module _ (r : Driver) (to : ScheduledTo (get_or c.drivers k no_driver) d v m (Some r)) where
+        fits : false ≡ full_after (Schedule k d v m) c.time (view_of c).drivers
+        fits = to.full c.time ∙ rw (pending_in c k kd)
 
-      driver_is : driving c.time (driven_of (get_or c.currents k 0)) r.driver ≡ driver_after m (c.time + d) v (driver_in (view_of c).drivers k)
-      unfolding driver_view
-      driver_is = to.driver c.time (driven_of (get_or c.currents k 0)) ∙ rw (driver_in_lem c k kd)
+        driver_is : driving c.time (driven_of (get_or c.currents k 0)) r ≡ driver_after m (c.time + d) v (driver_in (view_of c).drivers k)
+        unfolding driver_view
+        driver_is = to.driver c.time (driven_of (get_or c.currents k 0)) ∙ rw (driver_in_lem c k kd)
 
-      pub schedule_view : (t i : ℕ) → i ≡ next → r.full ≡ false → view_of (scheduled_to c p k r.driver t i) ≡ applied M p (Schedule k d v m) (view_of c)
-      unfolding view_of driver_view process_view
-      schedule_view t i e f =
-          change_is (Schedule k d v m) (scheduled_to c p k r.driver t i) refl
-          (driver_set c.time c.currents c.drivers c.ndrivers k r.driver (omega (arith, s.drivers)) ∙ rw driver_is)
-          (moved_is i c.variables ∙ rw (← full_is, f, e)) refl
+        pub schedule_view : (k64 : k < 64) (t i : ℕ) → i ≡ next → view_of (scheduled_to c p k r t i) ≡ applied M p (Schedule k d v m) (view_of c)
+        unfolding view_of driver_view process_view
+        schedule_view k64 t i e =
+            change_is (Schedule k d v m) (scheduled_to c p k r t i) refl
+            (driver_set c.time c.currents c.drivers c.ndrivers k r (omega (arith, s.drivers)) ∙ rw driver_is)
+            (moved_is i c.variables ∙ rw (← fits, e)) refl
 
-      stays : r.full ≡ true → (view_of c).drivers ≡ set (view_of c).drivers k (driver_after m (c.time + d) v (driver_in (view_of c).drivers k))
-      unfolding driver_after
-      stays f = rw (← full_is, f, set-get_or)
+      module _ (to : ScheduledTo (get_or c.drivers k no_driver) d v m None) where
+        full : true ≡ full_after (Schedule k d v m) c.time (view_of c).drivers
+        full = to.full c.time ∙ rw (pending_in c k kd)
 
-      pub full_view : r.full ≡ true → view_of (stops_by c p (failure no_node 3)) ≡ applied M p (Schedule k d v m) (view_of c)
-      unfolding view_of driver_view
-      full_view f = change_is (Schedule k d v m) (stops_by c p (failure no_node 3)) refl (stays f) (stopped_is (failure no_node 3) ∙ rw (← full_is, f)) refl
+        stays : (view_of c).drivers ≡ set (view_of c).drivers k (driver_after m (c.time + d) v (driver_in (view_of c).drivers k))
+        unfolding driver_after
+        stays = rw (← full, set-get_or)
+
+        pub full_view : view_of (stops_by c p (failure no_node 3)) ≡ applied M p (Schedule k d v m) (view_of c)
+        unfolding view_of driver_view
+        full_view = change_is (Schedule k d v m) (stops_by c p (failure no_node 3)) refl stays (stopped_is (failure no_node 3) ∙ rw (← full)) refl

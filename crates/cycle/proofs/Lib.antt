@@ -6,6 +6,7 @@ pub mod DeltaDrivers
 pub mod DeltaView
 pub mod First
 pub mod OrderLaws
+pub mod Refused
 pub mod Soonest
 pub mod TimeView
 pub mod Turning

@@ -12,7 +12,7 @@ use mathlib.Core.Logic.{⊎_elim}
 use Rattle.base.specs.Below.{any_below}
 use Rattle.base.proofs.Below.{split, any_same}
 use Rattle.base.specs.Cases.{◌∣◌, ◌⇒◌}
-use Rattle.base.proofs.Cases.{by_test, either_way}
+use Rattle.base.proofs.Cases.{either_way}
 use Rattle.base.proofs.Course.{any_first}
 use Rattle.sets.specs.Sets.{in_set}
 use Rattle.blocks.specs.Records.{Model}
@@ -191,12 +191,3 @@ named which standings nprocesses refusal e p one free =
     (λ (h : p < nprocesses). h)
     (λ (h : nprocesses ≤ p). let late : refusal ≡ 12 = rw (one, le-leb nprocesses p h) at e in absurd (omega arith))
     (split p nprocesses)
-
--- the loop goes on by at most one process
-short_part : (which : Picks) → (part_of which).stride ≤ 1
-short_part (One p) = omega arith
-short_part (Settle n) = omega arith
-short_part (Set set) = omega arith
-
-pub short_stride : (which : Picks) (refusal : ℕ) (t : Turns) → t ≡ turns_of which refusal → t.stride ≤ 1
-short_stride which refusal t e = rw e (by_test (λ (t : Turns). t.stride ≤ 1) (eqb refusal 0) _ _ (λ z. short_part which) (λ z. omega arith))

@@ -7,8 +7,9 @@ use native.Mathlib.Omega.{arith}
 use lib.Dec.{eqb, ltb}
 use lib.ListN.{length, get_or, set, length-set}
 use lib.Seq.{get_or-set_same, get_or-set_other}
-use borrow.Author.Tests.{eq-eqb, ne_eqb, ltb-true}
-use Rattle.base.proofs.Below.{and_left, and_right}
+use borrow.Author.Tests.{eq-eqb, eqb-true, ne_eqb, ltb-true, not-false}
+use Rattle.std.specs.Prelude.{Some, None}
+use Rattle.base.proofs.Below.{and_left, and_right, or_left, or_right}
 use Rattle.sets.specs.Sets.{in_set}
 use Rattle.blocks.specs.Records.{Model, signal_at, driver_at, statement_at}
 use Rattle.fields.specs.Fields.{owner_of}
@@ -31,7 +32,7 @@ use Rattle.expressions.specs.Reading.{arrays}
 use Rattle.waveforms.specs.Pending.{never, driven_of, word_for, pending_of, first_time, no_driver}
 use Rattle.waveforms.proofs.Held.{held}
 use Rattle.waveforms.specs.Waveform.{Waveform, ScheduledTo}
-use Rattle.waveforms.specs.declared.driver.Scheduled.{Scheduled}
+use Rattle.waveforms.specs.declared.driver.Driver.{Driver}
 use Rattle.waveforms.proofs.Drivers.{waveform_of}
 use Rattle.cycle.specs.View.{view_of, Valid, StepsTo}
 use Rattle.cycle.specs.declared.config.Config.{Config}
@@ -192,23 +193,23 @@ module _ {M : Model} {now p : ℕ} {c : Config} {e : Effect} (t : Turn M now p c
     pub word_held : driven_of (word_for v) ≡ v
     word_held = held (signal_at M (driver_at M k).signal) v schedule_fits.value
 
-    module _ (r : Scheduled) (to : ScheduledTo (get_or c.drivers k no_driver) d v w r) where
-      pub full_turn : r.full ≡ true → Next (stops_by c p (failure no_node 3))
-      full_turn g = turned (stops_by c p (failure no_node 3)) (rw x (full_view M c p in_nprocesses s in_16 k d v w in_ndrivers in_drivers r to g)) refl refl (stops_sized c p s (failure no_node 3)) f.due
+    pub full_turn : ScheduledTo (get_or c.drivers k no_driver) d v w None → Next (stops_by c p (failure no_node 3))
+    full_turn to = turned (stops_by c p (failure no_node 3)) (rw x (full_view M c p in_nprocesses s in_16 k d v w in_ndrivers to)) refl refl (stops_sized c p s (failure no_node 3)) f.due
 
-      pub schedule_turn : r.full ≡ false → (u i : ℕ) → u ≡ first_time (pending_of now r.driver) → i ≡ following → Next (scheduled_to c p k r.driver u i)
-      schedule_turn g u i a b =
-          turned (scheduled_to c p k r.driver u i) (rw x (schedule_view M c p in_nprocesses s in_16 k d v w in_ndrivers in_drivers r to u i b g)) refl refl
-          (scheduled_sized c p s k r.driver u i) first
-        where
-          first : (j : ℕ) → j < c.ndrivers → get_or (set c.due k u) j 0 ≡ first_time (pending_of c.time (get_or (set c.drivers k r.driver) j no_driver))
-          first j l = elim (ℕ_discrete j k) [
-            | yes q ↦
-                let m : k < length c.due = omega (arith, s.due, in_drivers) in
-                let o : k < length c.drivers = omega (arith, s.drivers, in_drivers) in
-                rw (q, get_or-set_same c.due k u 0 m, get_or-set_same c.drivers k r.driver no_driver o, t.clock) a
-            | no q ↦ rw (get_or-set_other c.due k j u 0 q, get_or-set_other c.drivers k j r.driver no_driver q) (f.due j l)
-          ]
+    pub schedule_turn : (r : Driver) → ScheduledTo (get_or c.drivers k no_driver) d v w (Some r) → (u i : ℕ) → u ≡ first_time (pending_of now r) → i ≡ following
+        → Next (scheduled_to c p k r u i)
+    schedule_turn r to u i a b =
+        turned (scheduled_to c p k r u i) (rw x (schedule_view M c p in_nprocesses s in_16 k d v w in_ndrivers r to in_drivers u i b)) refl refl
+        (scheduled_sized c p s k r u i) first
+      where
+        first : (j : ℕ) → j < c.ndrivers → get_or (set c.due k u) j 0 ≡ first_time (pending_of c.time (get_or (set c.drivers k r) j no_driver))
+        first j l = elim (ℕ_discrete j k) [
+          | yes q ↦
+              let m : k < length c.due = omega (arith, s.due, in_drivers) in
+              let o : k < length c.drivers = omega (arith, s.drivers, in_drivers) in
+              rw (q, get_or-set_same c.due k u 0 m, get_or-set_same c.drivers k r no_driver o, t.clock) a
+          | no q ↦ rw (get_or-set_other c.due k j u 0 q, get_or-set_other c.drivers k j r no_driver q) (f.due j l)
+        ]
 
 -- the test of the loop
 pub goes_on : (n count p end : ℕ) → (ltb n count && ltb p end) ≡ true → (n < count) × (p < end)
@@ -272,3 +273,32 @@ module _ {M : Model} {set stride count now first : ℕ} {c₀ : Config} {p n : �
   -- the loop is over
   pub turning_end : (ltb n count && ltb p c₀.nprocesses) ≡ false → Turned M set stride count c₀.nprocesses first 0 (view_of c₀) (record { picks = n; end = view_of c })
   turning_end o = t.same _ (over o)
+
+  -- the loop goes on at process p: it is there, and one of 16
+  module _ (go : (ltb n count && ltb p c₀.nprocesses) ≡ true) where
+    few_made : n < count
+    few_made = (goes_on n count p c₀.nprocesses go).0
+
+    pub inside : p < c.nprocesses
+    inside = omega (arith, (goes_on n count p c₀.nprocesses go).1, t.whole)
+
+    -- it is ready and in the set, so it is picked; e is what its statement does
+    module _ (fs : Facts M) {member : Bool} (has : member ≡ in_set set p) (picked : (not (eqb (get_or c.standings p 0) 0) || not member) ≡ false) where
+      ready : get_or c.standings p 0 ≡ 0
+      ready = eqb-true _ _ (not-false _ (or_left (not (eqb (get_or c.standings p 0) 0)) (not member) picked))
+
+      pub turn_made : {e : Effect} → e ≡ effect_by M (arrays c.variables c.signals) (owner_of M (get_or c.places p 0)) (statement_at M (get_or c.places p 0)) → Turn M now p c e
+      turn_made e = record { facts = fs; clock = t.clock; sized = t.sized; valid = t.valid; here = inside; idle = ready; effect = e }
+
+      pub turning_on : (c' : Config) → Stepped M p c c' → Turning M set stride count now first c₀ (p + stride) (n + 1) c'
+      turning_on c' d =
+          turning_next few_made (omega (arith, inside, t.whole)) (ready_in_lem c p inside ∙ eq-eqb _ 0 ready)
+          (sym has ∙ not-false _ (or_right (not (eqb (get_or c.standings p 0) 0)) (not member) picked)) c' d
+
+      -- the loop goes on with the struct that the arm of the effect leaves
+      pub turning_made : {e : Effect} → e ≡ effect_by M (arrays c.variables c.signals) (owner_of M (get_or c.places p 0)) (statement_at M (get_or c.places p 0)) → {c' : Config}
+          → (Turn M now p c e → Stepped M p c c') → Turning M set stride count now first c₀ (p + stride) (n + 1) c'
+      turning_made e step = turning_on _ (step (turn_made e))
+
+    pub turning_over : {member : Bool} → member ≡ in_set set p → (not (eqb (get_or c.standings p 0) 0) || not member) ≡ true → Turning M set stride count now first c₀ (p + 1) n c
+    turning_over has idle = turning_past few_made (omega (arith, inside, t.whole)) (rw (← has) idle)

@@ -1,13 +1,11 @@
 // The configuration, the empty one and the first one of a model.
-ghost use Rattle.std.specs.Prelude.{◌≡◌, ◌*◌, ◌≤◌, ◌<◌, length};
-ghost use Rattle.blocks.specs.Records.{model_of};
-ghost use Rattle.blocks.specs.Totals.{TotalsOf};
+ghost use Rattle.std.specs.Prelude.{◌≡◌, ℕ, ◌*◌, ◌≤◌, ◌<◌, length, slice_index_or};
 ghost use Rattle.rules.specs.Configuration.{empty};
-ghost use Rattle.expressions.specs.Reading.{Runs};
+ghost use Rattle.expressions.specs.Lent.{model_of_program};
 ghost use Rattle.cycle.specs.View.{view_of};
 ghost use Rattle.cycle.specs.Arrays.{EntriesAre, variable_start, process_first, driver_start, first_value, value_at, FirstOf};
 
-use blocks::index::{Index, Totals, driver_at, process_at, signal_at, variable_at};
+use expressions::program::Program;
 use rules::READY;
 use steps::delta::keep;
 use steps::resolve::resolved;
@@ -16,6 +14,7 @@ use waveforms::driver::{Driver, NEVER};
 // Signal s of k units ago stands at 32 * s + k, and its value before the latest delta step at 1024 + s. Driver k: its current value,
 // its waveform, and the time of its first pending transaction (due), the largest number where it has none. A waveform's times are
 // held as units from now: 32 bits, since a delay has 31. Process p: a deadline is the largest number where it has none.
+// Stays: arrays with their totals, entry k of several for one driver or process: there is no heap, and a search reads one array alone.
 // The numbers stand before the arrays, the time last of them: the list's loop keeps the time by itself, and the compiler then copies
 // the arrays, a multiple of 64 bytes, as one part, which lies at equal offsets in its cache lines (bench/README.md).
 #[derive(Drop)]
@@ -38,74 +37,60 @@ pub struct Config {
     pub variables: [u32; 64],
 }
 
-fn first_variables<'a>(m: &'a [u8], index: &'a Index, n: usize) -> [u32; 64]
-    requires runs { Runs m.now index.now }
-    requires n_value { n ≡ length (model_of m.now).variables }
-    ensures { EntriesAre (variable_start (model_of m.now)) n result }
+// An array whose first n entries are what `at` gives for them.
+fn entries<T: Copy, F: Fn(usize) -> T, const N: usize>(n: usize, none: T, at: F) -> [T; N]
+    requires n_bound { n ≤ N }
+    requires callable { (i : ℕ) → i < n → F.pre at i }
+    ensures { (i : ℕ) (d : T) → i < n → F.post at i (slice_index_or result i d) }
 {
-    let mut r = [0u32; 64];
-    let mut i = 0;
-    while i < n {
-        let v = variable_at(m, index, i);
-        r[i] = v.start;
-        i += 1;
+    let mut r = [none; N];
+    for i in 0..n {
+        r[i] = at(i);
     }
     r
 }
 
-fn first_places<'a>(m: &'a [u8], index: &'a Index, n: usize) -> [usize; 16]
-    requires runs { Runs m.now index.now }
-    requires n_value { n ≡ length (model_of m.now).processes }
-    ensures { EntriesAre (process_first (model_of m.now)) n result }
+fn first_variables(program: &Program) -> [u32; 64]
+    ensures { EntriesAre (variable_start (model_of_program program.now)) program.now.records.totals.variables result }
 {
-    let mut r = [0usize; 16];
-    let mut i = 0;
-    while i < n {
-        let p = process_at(m, index, i);
-        r[i] = p.first;
-        i += 1;
-    }
-    r
+    entries(program.records.totals.variables, 0, |i| {
+        program.records.variable(i).start
+    })
+}
+
+fn first_places(program: &Program) -> [usize; 16]
+    ensures { EntriesAre (process_first (model_of_program program.now)) program.now.records.totals.processes result }
+{
+    entries(program.records.totals.processes, 0, |i| {
+        program.records.process(i).first
+    })
 }
 
 // "drivers have their signal's starting value"
-fn first_currents<'a>(m: &'a [u8], index: &'a Index, n: usize) -> [u32; 64]
-    requires runs { Runs m.now index.now }
-    requires n_value { n ≡ length (model_of m.now).drivers }
-    ensures { EntriesAre (driver_start (model_of m.now)) n result }
+fn first_currents(program: &Program) -> [u32; 64]
+    ensures { EntriesAre (driver_start (model_of_program program.now)) program.now.records.totals.drivers result }
 {
-    let mut r = [0u32; 64];
-    let mut i = 0;
-    while i < n {
-        let d = driver_at(m, index, i);
-        let s = signal_at(m, index, d.signal);
-        r[i] = s.start;
-        i += 1;
-    }
-    r
+    let records = &program.records;
+    entries(records.totals.drivers, 0, |k| {
+        records.signal(records.driver(k).signal).start
+    })
 }
 
 // The first value of each of the n signals, resolved over ndrivers current values.
-fn first_values<'a>(
-    m: &'a [u8],
-    index: &'a Index,
-    currents: &'a [u32; 64],
-    ndrivers: usize,
-    n: usize,
-) -> [u32; 32]
-    requires runs { Runs m.now index.now }
-    requires ndrivers_value { ndrivers ≡ length (model_of m.now).drivers }
-    requires n_value { n ≡ length (model_of m.now).signals }
-    ensures { EntriesAre (first_value (model_of m.now) currents.now ndrivers) n result }
+fn first_values(program: &Program, currents: &[u32; 64], ndrivers: usize, n: usize) -> [u32; 32]
+    requires ndrivers_value { ndrivers ≡ length (model_of_program program.now).drivers }
+    requires n_value { n ≡ length (model_of_program program.now).signals }
+    ensures { EntriesAre (first_value (model_of_program program.now) currents.now ndrivers) n result }
 {
-    let mut r = [0u32; 32];
-    let mut i = 0;
-    while i < n {
-        let s = signal_at(m, index, i);
-        r[i] = resolved(m, index, currents, ndrivers, i, s.start);
-        i += 1;
-    }
-    r
+    entries(n, 0, |s| {
+        resolved(
+            program,
+            currents,
+            ndrivers,
+            s,
+            program.records.signal(s).start,
+        )
+    })
 }
 
 // Histories in which each of the first n values stands 32 times.
@@ -113,13 +98,7 @@ fn histories(values: &[u32; 32], n: usize) -> [u32; 1056]
     requires { n ≤ 32 }
     ensures { EntriesAre (value_at values.now) (32 * n) result }
 {
-    let mut r = [0u32; 1056];
-    let mut i = 0;
-    while i < 32 * n {
-        r[i] = values[i / 32];
-        i += 1;
-    }
-    r
+    entries(32 * n, 0, |i| values[i / 32])
 }
 
 // The contracts speak of the view: what the arrays hold past the totals is left open, and no view shows it.
@@ -148,16 +127,15 @@ impl Config {
         }
     }
 
-    pub fn first<'a>(m: &'a [u8], index: &'a Index, t: Totals) -> Config
-        requires runs { Runs m.now index.now }
-        requires totals_of { TotalsOf (model_of m.now) t }
-        ensures { FirstOf (model_of m.now) result }
+    pub fn first(program: &Program) -> Config
+        ensures { FirstOf (model_of_program program.now) result }
     {
         let d = Driver::none();
-        let variables = first_variables(m, index, t.variables);
-        let places = first_places(m, index, t.processes);
-        let currents = first_currents(m, index, t.drivers);
-        let values = first_values(m, index, &currents, t.drivers, t.signals);
+        let t = program.records.totals;
+        let variables = first_variables(program);
+        let places = first_places(program);
+        let currents = first_currents(program);
+        let values = first_values(program, &currents, t.drivers, t.signals);
         let mut signals = histories(&values, t.signals);
         keep(&mut signals, t.signals);
         Config {

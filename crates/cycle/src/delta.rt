@@ -1,34 +1,30 @@
 // Order 6, a delta step. In place: a configuration is large to copy.
-ghost use Rattle.blocks.specs.Records.{model_of};
 ghost use Rattle.rules.specs.Orders.{delta_stepped};
-ghost use Rattle.expressions.specs.Reading.{Runs};
+ghost use Rattle.expressions.specs.Lent.{model_of_program};
 ghost use Rattle.cycle.specs.View.{view_of, Valid, Answers};
 
 use crate::config::Config;
 use crate::orders::{Answer, Answered};
-use blocks::index::Index;
 use due::{delta_refusal, next_due};
+use expressions::program::{Program, Readings};
 use steps::delta::{Processes, actives, keep, resolve, wake};
 
 impl Config {
-    pub fn delta_step<'a>(mut self, m: &'a [u8], index: &'a Index) -> Answered
-        requires runs { Runs m.now index.now }
-        requires valid { Valid (model_of m.now) self }
-        ensures { Answers (model_of m.now) result (delta_stepped (model_of m.now) (view_of self)) }
+    pub fn delta_step(mut self, program: &Program) -> Answered
+        requires { Valid (model_of_program program.now) self }
+        ensures { Answers (model_of_program program.now) result (delta_stepped (model_of_program program.now) (view_of self)) }
     {
         let nsignals = self.nsignals;
         let ndrivers = self.ndrivers;
         let nprocesses = self.nprocesses;
         let time = self.time;
         let t = next_due(&self.due, &self.deadlines, nprocesses, ndrivers, time);
-        let refusal = delta_refusal(&self.standings, nprocesses, t, time, self.deltas);
-        if refusal != 0 {
+        if let Err(refusal) = delta_refusal(&self.standings, nprocesses, t, time, self.deltas) {
             return self.refused(refusal);
         }
         // Each due transaction becomes its driver's current value and leaves; then the signals, then the processes.
-        let active = actives(m, index, &self.due, ndrivers, time);
-        let mut k = 0;
-        while k < ndrivers {
+        let active = actives(program, &self.due, ndrivers, time);
+        for k in 0..ndrivers {
             if self.due[k] == time {
                 let d = self.drivers[k];
                 let e = d.without_first();
@@ -36,13 +32,11 @@ impl Config {
                 self.due[k] = e.first_time(time);
                 self.drivers[k] = e;
             }
-            k += 1;
         }
         keep(&mut self.signals, nsignals);
         let currents = self.currents;
         let changed = resolve(
-            m,
-            index,
+            program,
             &currents,
             ndrivers,
             active,
@@ -61,16 +55,11 @@ impl Config {
             faults,
             nodes,
         };
-        let r = wake(
-            m,
-            index,
-            &self.variables,
-            &self.signals,
-            changed,
-            time,
-            nprocesses,
-            ps,
-        );
+        let readings = Readings {
+            variables: &self.variables,
+            signals: &self.signals,
+        };
+        let r = wake(program, &readings, changed, time, nprocesses, ps);
         let woken_places = r.places;
         let woken_standings = r.standings;
         let woken_deadlines = r.deadlines;
@@ -81,7 +70,7 @@ impl Config {
         self.deadlines = woken_deadlines;
         self.faults = woken_faults;
         self.nodes = woken_nodes;
-        self.deltas = self.deltas + 1;
+        self.deltas += 1;
         Answered {
             answer: Answer {
                 refusal: 0,

@@ -1,15 +1,17 @@
 // What every order hands back, the refusal of an order, pick, settle, pick of a set and read.
 ghost use Rattle.std.specs.Prelude.{◌≡◌, ◌≤◌};
-ghost use Rattle.blocks.specs.Records.{model_of};
+ghost use Rattle.base.specs.Refusals.{number_of};
 ghost use Rattle.rules.specs.Orders.{refused, picked, settled, picked_set};
-ghost use Rattle.expressions.specs.Reading.{Runs};
+ghost use Rattle.expressions.specs.Lent.{model_of_program};
 ghost use Rattle.cycle.specs.View.{view_of, Valid, Answers, outcome_of, refused_answer, ReadTo, Keeps};
 
 use crate::config::Config;
 use crate::picks::Picks;
-use blocks::index::Index;
+use base::refusal::Refusal;
+use expressions::program::Program;
 
 // An answer, without the time.
+// Stays: the refusal is its number, 0 where there is none, and the byte may be a standing: an answer's bytes have them so (`answer_bytes`).
 #[derive(Clone, Copy)]
 pub struct Answer {
     pub refusal: usize,
@@ -41,41 +43,38 @@ impl Answer {
 
 impl Config {
     // A refused order hands the configuration back as it was.
-    pub(crate) fn refused(self, n: usize) -> Answered
-        ensures result_value { outcome_of result ≡ refused n (view_of self) }
+    pub(crate) fn refused(self, refusal: Refusal) -> Answered
+        ensures result_value { outcome_of result ≡ refused (number_of refusal) (view_of self) }
         ensures keeps { Keeps self result }
     {
         Answered {
-            answer: Answer::refused(n),
+            answer: Answer::refused(refusal.number()),
             config: self,
         }
     }
 
     // One statement of process p.
-    pub fn pick<'a>(self, m: &'a [u8], index: &'a Index, p: usize) -> Answered
-        requires runs { Runs m.now index.now }
-        requires valid { Valid (model_of m.now) self }
-        ensures { Answers (model_of m.now) result (picked (model_of m.now) p (view_of self)) }
+    pub fn pick(self, program: &Program, p: usize) -> Answered
+        requires { Valid (model_of_program program.now) self }
+        ensures { Answers (model_of_program program.now) result (picked (model_of_program program.now) p (view_of self)) }
     {
-        self.picks(m, index, Picks::One(p))
+        self.picks(program, Picks::One(p))
     }
 
     // Picks of the lowest ready process until none is ready or count picks are made.
-    pub fn settle<'a>(self, m: &'a [u8], index: &'a Index, count: usize) -> Answered
-        requires runs { Runs m.now index.now }
-        requires valid { Valid (model_of m.now) self }
-        ensures { Answers (model_of m.now) result (settled (model_of m.now) count (view_of self)) }
+    pub fn settle(self, program: &Program, count: usize) -> Answered
+        requires { Valid (model_of_program program.now) self }
+        ensures { Answers (model_of_program program.now) result (settled (model_of_program program.now) count (view_of self)) }
     {
-        self.picks(m, index, Picks::Settle(count))
+        self.picks(program, Picks::Settle(count))
     }
 
     // One statement of each process of the set, bit n for process n.
-    pub fn pick_set<'a>(self, m: &'a [u8], index: &'a Index, set: usize) -> Answered
-        requires runs { Runs m.now index.now }
-        requires valid { Valid (model_of m.now) self }
-        ensures { Answers (model_of m.now) result (picked_set (model_of m.now) set (view_of self)) }
+    pub fn pick_set(self, program: &Program, set: usize) -> Answered
+        requires { Valid (model_of_program program.now) self }
+        ensures { Answers (model_of_program program.now) result (picked_set (model_of_program program.now) set (view_of self)) }
     {
-        self.picks(m, index, Picks::Set(set))
+        self.picks(program, Picks::Set(set))
     }
 
     // The current value of signal s.
@@ -85,7 +84,7 @@ impl Config {
         ensures keeps { Keeps self result }
     {
         if s >= self.nsignals {
-            return self.refused(19);
+            return self.refused(Refusal::NoSignal);
         }
         let v = self.signals[32 * s];
         Answered {

@@ -1,16 +1,16 @@
 // Pick, settle and pick of a set: statements run in place, one after the other, in one loop.
 ghost use Rattle.std.specs.Prelude.{◌≡◌, ◌≤◌};
-ghost use Rattle.base.specs.Cases.{◌∣◌, ◌⇒◌};
-ghost use Rattle.blocks.specs.Records.{model_of};
+ghost use Rattle.base.specs.Refusals.{told};
 ghost use Rattle.cycle.specs.View.{view_of, Valid, Answers, picked_by};
-ghost use Rattle.expressions.specs.Reading.{Runs};
+ghost use Rattle.expressions.specs.Lent.{model_of_program};
 ghost use Rattle.cycle.specs.Turns.{picks_refusal, turns_of, Tellable, Named, reply_of};
 
 use crate::config::Config;
 use crate::orders::{Answer, Answered};
-use blocks::index::Index;
+use base::refusal::Refusal;
 use due::any_standing;
 use expressions::effect::{effect_of, next_place};
+use expressions::program::{Program, Readings};
 use members::{any_stopped, pick_refusal, set_refusal};
 use rules::effect::Effect;
 use rules::{NO_NODE, READY, STOPPED, WAITING};
@@ -39,23 +39,27 @@ pub struct Turns {
     pub stride: usize,
 }
 
-// The refusal of the picks, or 0.
-fn refusal_of<'a>(which: Picks, standings: &'a [usize; 16], nprocesses: usize) -> usize
+// The refusal of the picks.
+fn refusal_of<'a>(
+    which: Picks,
+    standings: &'a [usize; 16],
+    nprocesses: usize,
+) -> Result<(), Refusal>
     requires { nprocesses ≤ 16 }
-    ensures { result ≡ picks_refusal which standings.now nprocesses }
+    ensures { told result ≡ picks_refusal which standings.now nprocesses }
 {
     match which {
         Picks::One(p) => pick_refusal(standings, nprocesses, p),
-        Picks::Settle(count) => 0,
+        Picks::Settle(_) => Ok(()),
         Picks::Set(set) => set_refusal(standings, nprocesses, set),
     }
 }
 
 // The part of the loop: nothing where the picks are refused.
-fn turns_of(which: Picks, refusal: usize) -> Turns
-    ensures { result ≡ turns_of which refusal }
+fn turns_of(which: Picks, refusal: Result<(), Refusal>) -> Turns
+    ensures { result ≡ turns_of which (told refusal) }
 {
-    if refusal != 0 {
+    if refusal.is_err() {
         return Turns {
             first: 0,
             count: 0,
@@ -85,16 +89,10 @@ fn turns_of(which: Picks, refusal: usize) -> Turns
     }
 }
 
-fn bit(b: bool) -> usize
-    ensures { result ≡ (b ⇒ 1 ∣ 0) }
-{
-    if b { 1 } else { 0 }
-}
-
 // The answer, n picks having been made.
 fn reply<'a>(
     which: Picks,
-    refusal: usize,
+    refusal: Result<(), Refusal>,
     standings: &'a [usize; 16],
     faults: &'a [u32; 16],
     nodes: &'a [u32; 16],
@@ -102,12 +100,12 @@ fn reply<'a>(
     n: usize,
 ) -> Answer
     requires nprocesses_bound { nprocesses ≤ 16 }
-    requires named { Named which refusal nprocesses }
+    requires named { Named which (told refusal) nprocesses }
     requires tellable { Tellable faults.now nodes.now nprocesses }
-    ensures { result ≡ reply_of which refusal standings.now faults.now nodes.now nprocesses n }
+    ensures { result ≡ reply_of which (told refusal) standings.now faults.now nodes.now nprocesses n }
 {
-    if refusal != 0 {
-        return Answer::refused(refusal);
+    if let Err(refusal) = refusal {
+        return Answer::refused(refusal.number());
     }
     match which {
         Picks::One(p) => Answer {
@@ -116,15 +114,15 @@ fn reply<'a>(
             picks: n,
             value: faults[p] + 65536 * nodes[p],
         },
-        Picks::Settle(count) => Answer {
+        Picks::Settle(_) => Answer {
             refusal: 0,
-            byte: bit(any_standing(standings, nprocesses, READY)),
+            byte: usize::from(any_standing(standings, nprocesses, READY)),
             picks: n,
             value: 0,
         },
         Picks::Set(set) => Answer {
             refusal: 0,
-            byte: bit(any_stopped(standings, set)),
+            byte: usize::from(any_stopped(standings, set)),
             picks: n,
             value: 0,
         },
@@ -133,10 +131,9 @@ fn reply<'a>(
 
 impl Config {
     // One method, in place, for pick, settle and pick of a set: a configuration is large to copy.
-    pub fn picks<'a>(mut self, m: &'a [u8], index: &'a Index, which: Picks) -> Answered
-        requires runs { Runs m.now index.now }
-        requires valid { Valid (model_of m.now) self }
-        ensures { Answers (model_of m.now) result (picked_by (model_of m.now) which (view_of self)) }
+    pub fn picks(mut self, program: &Program, which: Picks) -> Answered
+        requires { Valid (model_of_program program.now) self }
+        ensures { Answers (model_of_program program.now) result (picked_by (model_of_program program.now) which (view_of self)) }
     {
         let now = self.time;
         let nprocesses = self.nprocesses;
@@ -145,6 +142,7 @@ impl Config {
         let count = turns.count;
         let set = turns.set;
         let stride = turns.stride;
+        // Stays: a settle comes back to the same process, and a pick of a set goes on, so the place is no counter of the loop.
         let mut at = turns.first;
         let mut n = 0;
         while (n < count) & (at < nprocesses) {
@@ -157,8 +155,12 @@ impl Config {
             at += stride;
             n += 1;
             let place = self.places[p];
-            let effect = effect_of(m, index, &self.variables, &self.signals, place);
-            let next = next_place(m, index, p, place);
+            let readings = Readings {
+                variables: &self.variables,
+                signals: &self.signals,
+            };
+            let effect = effect_of(program, &readings, place);
+            let next = next_place(program, p, place);
             match effect {
                 Effect::Skip => {
                     self.places[p] = next;
@@ -167,20 +169,18 @@ impl Config {
                     self.variables[a] = v;
                     self.places[p] = next;
                 }
-                Effect::Schedule(k, d, v, w) => {
-                    let e = self.drivers[k];
-                    let r = e.schedule(d, v, w);
-                    if r.full {
+                Effect::Schedule(k, d, v, w) => match self.drivers[k].schedule(d, v, w) {
+                    Some(driver) => {
+                        self.due[k] = driver.first_time(now);
+                        self.drivers[k] = driver;
+                        self.places[p] = next;
+                    }
+                    None => {
                         self.standings[p] = STOPPED;
                         self.faults[p] = 3;
                         self.nodes[p] = NO_NODE;
-                    } else {
-                        let f = r.driver;
-                        self.due[k] = f.first_time(now);
-                        self.drivers[k] = f;
-                        self.places[p] = next;
                     }
-                }
+                },
                 Effect::Jump(a) => {
                     self.places[p] = a;
                 }
@@ -189,7 +189,7 @@ impl Config {
                 }
                 Effect::WaitFor(d) => {
                     self.standings[p] = WAITING;
-                    self.deadlines[p] = now + d as u64;
+                    self.deadlines[p] = now + u64::from(d);
                 }
                 Effect::Stop(f) => {
                     self.standings[p] = STOPPED;

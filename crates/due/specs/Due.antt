@@ -1,6 +1,8 @@
 -- What is due, and the refusals of a delta step and of a time step, over the arrays of the struct.
-use Rattle.std.specs.Prelude.{Bool, not, List, ℕ, min, eqb, ltb, leb, get_or}
+use Rattle.std.specs.Prelude.{Bool, not, List, ℕ, min, eqb, ltb, leb, get_or, Result, Ok, Err}
 use Rattle.base.specs.Below.{any_below, list_below}
+use Rattle.base.specs.declared.refusal.Refusal.{Refusal}
+use Rattle.base.specs.Refusals.{number_of}
 use Rattle.base.specs.Cases.{◌∣◌, ◌⇒◌}
 use Rattle.rules.specs.Configuration.{delta_limit, last_time, ready, stopped}
 use Rattle.rules.specs.Orders.{least}
@@ -17,6 +19,11 @@ soonest_in due ndrivers deadlines nprocesses = min (soonest_of due ndrivers) (so
 -- one of nprocesses processes has standing x
 abbrev pub some_is : List ℕ → ℕ → ℕ → Bool
 some_is standings nprocesses x = any_below (λ p. eqb (get_or standings p 0) x) nprocesses
+
+-- the number of the refusal, or n
+abbrev pub told_or : {A : Type 0} → Result A Refusal → ℕ → ℕ
+told_or (Ok x) n = n
+told_or (Err r) n = number_of r
 
 -- refusals 14 and 15, which hold for both steps, else n
 unfoldable pub standing_refusal : List ℕ → ℕ → ℕ → ℕ

@@ -1,18 +1,14 @@
 // What is due, and the refusals of a delta step and of a time step.
 #![tactic(auto)]
 
-ghost use Rattle.std.specs.Prelude.{◌≡◌, ◌≤◌, min, length};
+ghost use Rattle.std.specs.Prelude.{◌≡◌, ℕ, ◌≤◌, length};
+ghost use Rattle.base.specs.Refusals.{told};
 ghost use Rattle.waveforms.specs.Pending.{NoneBefore};
-ghost use Rattle.due.specs.Due.{soonest_of, soonest_in, some_is, standing_refusal, delta_refusal, time_refusal};
+ghost use Rattle.due.specs.Due.{soonest_of, soonest_in, some_is, told_or, standing_refusal, delta_refusal, time_refusal};
 
+use base::refusal::Refusal;
 use rules::{DELTA_LIMIT, LAST_TIME, READY, STOPPED};
 use waveforms::driver::NEVER;
-
-fn earlier(a: u64, b: u64) -> u64
-    ensures { result ≡ min a b }
-{
-    if a < b { a } else { b }
-}
 
 // The earliest of the first n times, or the largest number where there is none. No time is before `time`, so one that equals it ends
 // the search.
@@ -21,15 +17,12 @@ fn earliest(times: &[u64], n: usize, time: u64) -> u64
     requires none_before { NoneBefore time times.now n }
     ensures { result ≡ soonest_of times.now n }
 {
-    let mut t: u64 = NEVER;
-    let mut i = 0;
-    while i < n {
-        let x = times[i];
-        if x == time {
+    let mut t = NEVER;
+    for x in &times[..n] {
+        if *x == time {
             return time;
         }
-        t = earlier(t, x);
-        i += 1;
+        t = t.min(*x);
     }
     t
 }
@@ -49,7 +42,7 @@ pub fn next_due<'a>(
     ensures { result ≡ soonest_in due.now ndrivers deadlines.now nprocesses }
 {
     let first = earliest(due, ndrivers, time);
-    earlier(first, earliest(deadlines, nprocesses, time))
+    first.min(earliest(deadlines, nprocesses, time))
 }
 
 // Whether one of the first n processes has the standing.
@@ -57,71 +50,63 @@ pub fn any_standing(standings: &[usize; 16], n: usize, standing: usize) -> bool
     requires { n ≤ 16 }
     ensures { result ≡ some_is standings.now n standing }
 {
-    let mut i = 0;
-    while i < n {
-        if standings[i] == standing {
-            return true;
-        }
-        i += 1;
-    }
-    false
+    (0..n).any(|p| standings[p] == standing)
 }
 
-// 14, 15 or 0: the refusal by the standings.
-fn standing_refusal(standings: &[usize; 16], nprocesses: usize) -> usize
+// The refusal by the standings.
+fn standing_refusal(standings: &[usize; 16], nprocesses: usize) -> Result<(), Refusal>
     requires { nprocesses ≤ 16 }
-    ensures { result ≡ standing_refusal standings.now nprocesses 0 }
+    ensures { (n : ℕ) → told_or result n ≡ standing_refusal standings.now nprocesses n }
 {
     if any_standing(standings, nprocesses, READY) {
-        return 14;
+        return Err(Refusal::StillReady);
     }
     if any_standing(standings, nprocesses, STOPPED) {
-        return 15;
+        return Err(Refusal::Stopped);
     }
-    0
+    Ok(())
 }
 
-// The refusal of a delta step, or 0, where t is the earliest due time.
+// The refusal of a delta step, where t is the earliest due time.
 pub fn delta_refusal(
     standings: &[usize; 16],
     nprocesses: usize,
     t: u64,
     time: u64,
     deltas: u64,
-) -> usize
+) -> Result<(), Refusal>
     requires { nprocesses ≤ 16 }
-    ensures { result ≡ delta_refusal standings.now nprocesses t time deltas }
+    ensures { told result ≡ delta_refusal standings.now nprocesses t time deltas }
 {
-    let refusal = standing_refusal(standings, nprocesses);
-    if refusal != 0 {
-        return refusal;
-    }
+    standing_refusal(standings, nprocesses)?;
     if t != time {
-        return 22;
+        return Err(Refusal::NothingDueNow);
     }
     if deltas >= DELTA_LIMIT {
-        return 16;
+        return Err(Refusal::DeltaLimit);
     }
-    0
+    Ok(())
 }
 
-// The refusal of a time step, or 0, where t is the earliest due time.
-pub fn time_refusal(standings: &[usize; 16], nprocesses: usize, t: u64, time: u64) -> usize
+// The refusal of a time step, where t is the earliest due time.
+pub fn time_refusal(
+    standings: &[usize; 16],
+    nprocesses: usize,
+    t: u64,
+    time: u64,
+) -> Result<(), Refusal>
     requires { nprocesses ≤ 16 }
-    ensures { result ≡ time_refusal standings.now nprocesses t time }
+    ensures { told result ≡ time_refusal standings.now nprocesses t time }
 {
-    let refusal = standing_refusal(standings, nprocesses);
-    if refusal != 0 {
-        return refusal;
-    }
+    standing_refusal(standings, nprocesses)?;
     if t == time {
-        return 23;
+        return Err(Refusal::DueNow);
     }
     if t == NEVER {
-        return 17;
+        return Err(Refusal::NeverDue);
     }
     if t > LAST_TIME {
-        return 18;
+        return Err(Refusal::TooLate);
     }
-    0
+    Ok(())
 }

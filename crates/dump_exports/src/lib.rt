@@ -17,7 +17,14 @@ pub extern "C" fn gontrafiby_dump(
     ensures out_after { out.new ≡ (dumped_of model.now orders.now out.old).buffer }
     ensures length_after { length.new ≡ set length.old 0 (dumped_of model.now orders.now out.old).length }
 {
-    let r = dumps::dump(model, orders, out);
-    length[0] = r.length as u64;
-    r.number
+    match dumps::dump(model, orders, out) {
+        Ok(written) => {
+            length[0] = written as u64;
+            0
+        }
+        Err(refusal) => {
+            length[0] = 0;
+            refusal.number()
+        }
+    }
 }

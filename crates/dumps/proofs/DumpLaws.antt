@@ -6,22 +6,26 @@ use Prim.Native.Nat.{ℕ, ◌+◌, ◌*◌, ◌≤◌, ◌<◌}
 use native.Mathlib.Omega.{arith}
 use borrow.Author.Tests.{eq-eqb, ne_eqb, le-leb, lt-leb}
 use lib.Dec.{eqb, leb}
-use lib.ListN.{length, get_or, drop, take-append-drop, length-map}
+use lib.ListN.{length, get_or, take, drop, take-append-drop, length-map, length-take}
+use lib.Seq.{get_or-take}
+use Rattle.std.specs.Prelude.{Ok, Err}
+use Rattle.base.specs.Refusals.{number_of}
+use Rattle.base.specs.declared.refusal.Refusal.{Refusal}
 use Rattle.base.specs.Rules.{◌needs◌, first_failing}
-use Rattle.base.proofs.Below.{list_at, list_is, map_at}
+use Rattle.base.proofs.Below.{list_at, list_is, list_same, map_at}
 use Rattle.base.proofs.Rules.{none_left, passes, fails, first_decides}
 use Rattle.blocks.specs.Records.{Model, model_of, signal_at}
 use Rattle.blocks.specs.declared.records.SignalRecord.{SignalRecord}
 use Rattle.model.specs.Rules.{refusal_of}
 use Rattle.model.proofs.Facts.{facts}
-use Rattle.model.proofs.Rules.{model_decides, others_decide, later_ones_decide, accepted}
+use Rattle.model.proofs.Rules.{number_some, model_decides, others_decide, later_ones_decide, accepted}
 use Rattle.rules.specs.Configuration.{Configuration, first, current_of, empty}
 use Rattle.rules.proofs.FirstReachable.{first_reachable}
 use Rattle.cycle.specs.Arrays.{EntriesAre}
 use Rattle.session.specs.Lists.{orders_of}
 use Rattle.session.specs.Sessions.{orders_ok}
 use Rattle.vcd.specs.Vcd.{row_in, value_in, dump_text}
-use Rattle.vcd.specs.Writing.{header_most, row_most, front_of, rows_of}
+use Rattle.vcd.specs.Writing.{header_most, row_most, rows_of}
 use Rattle.numerals.specs.Puts.{Puts}
 use Rattle.vcd.proofs.ReadBack.{dumps_read_back}
 use Rattle.dumps.specs.Dumps.{dump_of, run_rules, run_number, dump_number, dumped_of, DumpIs, ReadsBack, TimesOfRuns, RoomHolds}
@@ -61,14 +65,14 @@ module _ (m o : List ℕ) where
     enough_room h l = by_room h ∙ passes 21 _ _ refl (le-leb _ _ l) ∙ sym none_left
 
     -- a refused dump writes nothing
-    pub refused_dump : (n : ℕ) → n ≡ dump_number m o out → (n ≡ 0 → ⊥) → DumpIs m o out out (record { number = n; length = 0 })
+    pub refused_dump : (r : Refusal) → number_of r ≡ dump_number m o out → DumpIs m o out out (Err r)
     unfolding dumped_of
-    refused_dump n e h =
-        let k : eqb (dump_number m o out) 0 ≡ false = ne_eqb _ _ (λ z. h (e ∙ z)) in
+    refused_dump r e =
+        let k : eqb (dump_number m o out) 0 ≡ false = ne_eqb _ _ (λ z. omega (arith, e, z, number_some r)) in
         record { number = rw k e; length = rw k refl; buffer = rw k refl }
 
     pub written_dump : {new : List ℕ} {n r : ℕ} → run_number m o ≡ 0 → n ≡ length (dump_of m o) → n ≤ length out → Puts (dump_of m o) out new 0 r
-        → DumpIs m o out new (record { number = 0; length = n })
+        → DumpIs m o out new (Ok n)
     unfolding dumped_of
     written_dump {new} {n} {r} h e l p =
         let fits : length (dump_of m o) ≤ length out = omega arith in
@@ -81,13 +85,24 @@ module _ (m o : List ℕ) where
 type_at : (M : Model) (n : ℕ) (d : ℕ) → n < length M.signals → get_or (types_of M) n d ≡ (signal_at M n).ty
 type_at M n d h = map_at (λ (s : SignalRecord). s.ty) M.signals n _ d h
 
--- what the arrays hold is the dump
+-- a front is no longer than what was asked for
+pub take_few : (n : ℕ) (xs : List ℕ) → length (take n xs) ≤ n
+take_few n xs = rw length-take (omega arith)
+
+-- what the fronts of the arrays hold is the dump
 pub array_text : (m o : List ℕ) (n : ℕ) (types times values : List ℕ) (count : ℕ) → n ≡ length (model_of m).signals → EntriesAre (signal_type (model_of m)) n types
-    → Traced (model_of m) (run_of m o) times values count → dump_text (front_of n types) (rows_of n times values count) ≡ dump_of m o
+    → n ≤ length types → count ≤ length times → Traced (model_of m) (run_of m o) times values count
+    → dump_text (take n types) (rows_of (length (take n types)) (take count times) values (length (take count times))) ≡ dump_of m o
 unfolding dump_of
-array_text m o n types times values count e f t =
-    let ts : front_of n types ≡ types_of (model_of m) = list_is _ (types_of (model_of m)) 0 n (length-map (model_of m).signals _ ∙ sym e) (λ j h. f.at j h ∙ sym (type_at (model_of m) j 0 (omega arith))) in
-    rw (ts, e, t.rows)
+array_text m o n types times values count e f few short t =
+    let long : length (take n types) ≡ n = rw length-take (omega arith) in
+    let ts : types_of (model_of m) ≡ take n types =
+    sym (list_is (λ j. get_or (take n types) j 0) (types_of (model_of m)) 0 n (length-map (model_of m).signals _ ∙ sym e) (λ j h. get_or-take n types j 0 h ∙ f.at j h ∙ sym (type_at (model_of m) j 0 (omega arith))))
+    ∙ list_is (λ j. get_or (take n types) j 0) (take n types) 0 n long (λ j h. refl) in
+    let counted : length (take count times) ≡ count = rw length-take (omega arith) in
+    let rows : rows_of n (take count times) values count ≡ rows_of n times values count =
+    list_same _ _ count (λ k h. rw (get_or-take count times k 0 h)) in
+    rw (long, counted, rows, ← ts, e, t.rows)
 
 row_time : (M : Model) (c : Configuration) → (row_at M c).time ≡ c.time
 unfolding row_at

@@ -1,4 +1,5 @@
 pub mod DumpLaws
+pub mod Kept
 pub mod PrintLaws
 pub mod RunLaws
 pub mod TraceLaws

@@ -9,12 +9,14 @@ use borrow.Author.Tests.{eqb-true, eq-eqb, ne_eqb}
 use lib.Dec.{eqb}
 use lib.ListN.{length, take, drop}
 use lib.Seq.{take-append_seam}
+use Rattle.std.specs.Prelude.{Result}
+use Rattle.base.specs.Refusals.{told}
+use Rattle.base.specs.declared.refusal.Refusal.{Refusal}
 use Rattle.base.proofs.Cases.{either_way}
 use Rattle.model.specs.Rules.{refusal_of}
 use Rattle.text.specs.Text.{number_line_of, RoomsSuffice}
 use Rattle.text.proofs.PrintLaws.{long_orders, long_model, long_number, long_is, long_refused, rooms_by}
-use Rattle.dumps.specs.Dumps.{dump_of, run_number, dump_number, dumped_of, DumpIs, dump_room, RoomHolds, print_of}
-use Rattle.dumps.specs.declared.Dumped.{Dumped}
+use Rattle.dumps.specs.Dumps.{dump_of, run_number, dump_number, dumped_of, length_of, DumpIs, dump_room, RoomHolds, print_of}
 use Rattle.dumps.proofs.DumpLaws.{run_refused, run_nine, before_room, enough_room}
 
 module _ (m o : List ℕ) where
@@ -27,37 +29,37 @@ module _ (m o : List ℕ) where
   dump_print h = rw (eq-eqb _ _ h)
 
   -- where the buffer has the program's room, 21 does not apply
-  module _ {old new : List ℕ} {r : Dumped} (room : dump_room ≤ length old) (holds : RoomHolds m o) (is : DumpIs m o old new r) where
-    number_is : r.number ≡ run_number m o
+  module _ {old new : List ℕ} {r : Result ℕ Refusal} (room : dump_room ≤ length old) (holds : RoomHolds m o) (is : DumpIs m o old new r) where
+    number_is : told r ≡ run_number m o
     unfolding dumped_of
     number_is =
-        let e : r.number ≡ dump_number m o old = is.number ∙ either_way (eqb (dump_number m o old) 0) (λ t. rw t (sym (eqb-true _ _ t))) (λ t. rw t) in
+        let e : told r ≡ dump_number m o old = is.number ∙ either_way (eqb (dump_number m o old) 0) (λ t. rw t (sym (eqb-true _ _ t))) (λ t. rw t) in
         elim (ℕ_discrete (run_number m o) 0) [
           | yes z ↦ let h = holds z in e ∙ enough_room m o old z (omega arith) ∙ sym z
           | no z ↦ e ∙ before_room m o old z
         ]
 
-    pub prints_number : (r.number ≡ 0 → ⊥) → number_line_of r.number ≡ print_of m o
+    pub prints_number : (told r ≡ 0 → ⊥) → number_line_of (told r) ≡ print_of m o
     prints_number h = rw number_is (sym (refused_print (λ z. h (number_is ∙ z))))
 
-    module _ (z : r.number ≡ 0) where
+    module _ (z : told r ≡ 0) where
       free : run_number m o ≡ 0
       free = sym number_is ∙ z
 
       is_written : eqb (dump_number m o old) 0 ≡ true
       is_written = let h = holds free in eq-eqb _ _ (enough_room m o old free (omega arith))
 
-      length_is : r.length ≡ length (dump_of m o)
+      length_is : length_of r ≡ length (dump_of m o)
       unfolding dumped_of
       length_is = is.length ∙ rw is_written
 
-      pub prints_dump : take r.length new ≡ print_of m o
+      pub prints_dump : take (length_of r) new ≡ print_of m o
       unfolding dumped_of
       prints_dump =
           let b : new ≡ dump_of m o ++ drop (length (dump_of m o)) old = is.buffer ∙ rw is_written in
           rw (b, length_is) (take-append_seam (dump_of m o) _) ∙ sym (dump_print free)
 
-      pub prints_within : r.length ≤ dump_room
+      pub prints_within : length_of r ≤ dump_room
       prints_within = let h = holds free in omega (arith, length_is)
 
 -- files that are longer than their rooms

@@ -1,6 +1,8 @@
 -- The dump of a model and orders: its number, its bytes, what reading it back gives, and the room that holds every dump.
-use Rattle.std.specs.Prelude.{◌≡◌, List, [], ◌∷◌, ◌++◌, map, ℕ, ◌+◌, ◌*◌, ◌≤◌, ◌<◌, eqb, leb, length, get_or, drop}
+use Rattle.std.specs.Prelude.{◌≡◌, List, [], ◌∷◌, ◌++◌, map, ℕ, ◌+◌, ◌*◌, ◌≤◌, ◌<◌, eqb, leb, length, get_or, drop, Result, Ok, Err}
 use Rattle.base.specs.Rules.{Rule, ◌needs◌, first_failing}
+use Rattle.base.specs.Refusals.{told}
+use Rattle.base.specs.declared.refusal.Refusal.{Refusal}
 use Rattle.base.specs.Cases.{◌∣◌, ◌⇒◌}
 use Rattle.blocks.specs.Records.{model_of, signal_at}
 use Rattle.model.specs.Rules.{rules_of, refusal_of}
@@ -12,7 +14,6 @@ use Rattle.vcd.specs.Reader.{value_at}
 use Rattle.vcd.specs.Vcd.{identifier_of, dump_text}
 use Rattle.vcd.specs.Writing.{header_most, row_most}
 use Rattle.dumps.specs.Run.{run_of, row_at, types_of}
-use Rattle.dumps.specs.declared.Dumped.{Dumped}
 
 -- the dump's bytes
 unfoldable pub dump_of : List ℕ → List ℕ → List ℕ
@@ -47,10 +48,15 @@ dumped_of model orders out =
     eqb (dump_number model orders out) 0 ⇒ written (dump_of model orders) out
     ∣ unwritten (dump_number model orders out) out
 
+-- how many bytes a call wrote: none where it is refused
+abbrev pub length_of : Result ℕ Refusal → ℕ
+length_of (Ok n) = n
+length_of (Err refusal) = 0
+
 -- what the function returned, and what the buffer, once `old`, holds then, is the dump
-pub record DumpIs (model orders old new : List ℕ) (r : Dumped) : Type 0 where
-  pub number : r.number ≡ (dumped_of model orders old).number
-  pub length : r.length ≡ (dumped_of model orders old).length
+pub record DumpIs (model orders old new : List ℕ) (r : Result ℕ Refusal) : Type 0 where
+  pub number : told r ≡ (dumped_of model orders old).number
+  pub length : length_of r ≡ (dumped_of model orders old).length
   pub buffer : new ≡ (dumped_of model orders old).buffer
 
 -- "Read back by the standard's rules, it gives every signal's settled value, so mapped, at each time of the run."

@@ -3,18 +3,19 @@
 
 ghost use Rattle.std.specs.Prelude.{◌≡◌, ◌≤◌, ◌<◌, length, replicate};
 ghost use Rattle.base.specs.Below.{list_below};
-ghost use Rattle.blocks.specs.Records.{model_of};
 ghost use Rattle.cycle.specs.Arrays.{EntriesAre};
 ghost use Rattle.cycle.specs.View.{Valid, view_of};
-ghost use Rattle.expressions.specs.Reading.{Runs};
+ghost use Rattle.expressions.specs.Lent.{model_of_program};
 ghost use Rattle.session.specs.Lists.{orders_of};
 ghost use Rattle.text.specs.Text.{RoomsSuffice, Prints};
 ghost use Rattle.vcd.specs.Writing.{row_of};
 ghost use Rattle.dumps.specs.Dumps.{DumpIs, ReadsBack, TimesOfRuns, dump_room, RoomHolds, print_of};
 ghost use Rattle.dumps.specs.Run.{settled_in, signal_type, current_at, RowPut, Traced};
 
-use blocks::index::{Index, signal_at};
+use base::refusal::Refusal;
+use blocks::index::Records;
 use cycle::config::Config;
+use expressions::program::Program;
 use model::load::load;
 use session::orders_ok;
 use session::play::play;
@@ -24,25 +25,14 @@ use vcd::put_dump;
 // How many bytes the program has room for.
 const DUMP_ROOM: usize = 2406375;
 
-// What a dump gives: its number, and how many bytes were written.
-#[derive(Clone, Copy)]
-pub struct Dumped {
-    pub number: usize,
-    pub length: usize,
-}
-
 // The types of the signals.
-fn signal_types<'a>(m: &'a [u8], index: &'a Index, n: usize) -> [usize; 32]
-    requires runs { Runs m.now index.now }
-    requires n_value { n ≡ length (model_of m.now).signals }
-    ensures { EntriesAre (signal_type (model_of m.now)) n result }
+fn signal_types(program: &Program) -> [usize; 32]
+    ensures { EntriesAre (signal_type (model_of_program program.now)) program.now.records.totals.signals result }
 {
     let mut r = [0usize; 32];
-    let mut i = 0;
-    while i < n {
-        let s = signal_at(m, index, i);
+    for i in 0..program.records.totals.signals {
+        let s = program.records.signal(i);
         r[i] = s.ty;
-        i += 1;
     }
     r
 }
@@ -53,10 +43,8 @@ fn put_values(signals: &[u32; 1056], n: usize, row: &mut [u32])
     requires row_len { length row.old ≡ 32 }
     ensures { EntriesAre (current_at signals.now) n row.new }
 {
-    let mut s = 0;
-    while s < n {
+    for s in 0..n {
         row[s] = signals[32 * s];
-        s += 1;
     }
 }
 
@@ -82,83 +70,69 @@ fn put_row(
 
 // Plays the orders one by one, and keeps a row of each time. Its settled values are those of the configuration that a time step leaves;
 // a time step alters none of them, so they are read behind it. Those of the last time are read at the end. Answers how many rows.
-fn trace<'a>(
+fn trace(
     c: Config,
-    m: &'a [u8],
-    index: &'a Index,
+    program: &Program,
     orders: &[u8],
     times: &mut [u64],
     values: &mut [u32],
 ) -> usize
-    requires runs { Runs m.now index.now }
-    requires valid { Valid (model_of m.now) c }
+    requires valid { Valid (model_of_program program.now) c }
     requires orders_len_bound { length orders.now ≤ 16384 }
     requires times_len { length times.old ≡ 2049 }
     requires values_len { length values.old ≡ 65568 }
-    ensures { Traced (model_of m.now) (settled_in (model_of m.now) (orders_of orders.now) (view_of c)) times.new values.new result }
+    ensures { Traced (model_of_program program.now) (settled_in (model_of_program program.now) (orders_of orders.now) (view_of c)) times.new values.new result }
 {
     let n = orders.len() / 4;
     let mut at = c;
     let mut k = 0;
-    let mut i = 0;
-    while i < n {
+    for i in 0..n {
         let from = 4 * i;
         let time = at.time;
         let mut answer = [0u8; 16];
-        at = play(at, m, index, &orders[from..from + 4], &mut answer);
+        at = play(at, program, &orders[from..from + 4], &mut answer);
         if at.time != time {
             put_row(time, &at.signals, at.nsignals, k, times, values);
             k += 1;
         }
-        i += 1;
     }
     put_row(at.time, &at.signals, at.nsignals, k, times, values);
     k + 1
 }
 
-// Writes the dump of the run of a model and orders, any bytes, into the front of the buffer. A refused one writes nothing.
-pub fn dump(model: &[u8], orders: &[u8], out: &mut [u8]) -> Dumped
+// Writes the dump of the run of a model and orders, any bytes, into the front of the buffer, and answers how many bytes that is. A refused one
+// writes nothing.
+pub fn dump(model: &[u8], orders: &[u8], out: &mut [u8]) -> Result<usize, Refusal>
     ensures dump_is { DumpIs model.now orders.now out.old out.new result }
     ensures reads_back { ReadsBack }
     ensures times_of_runs { TimesOfRuns }
     ensures room_holds { RoomHolds model.now orders.now }
 {
-    let loaded = load(model);
-    let refusal = loaded.refusal;
-    if refusal != 0 {
-        return Dumped {
-            number: refusal,
-            length: 0,
-        };
-    }
+    let loaded = load(model)?;
     if !orders_ok(orders) {
-        return Dumped {
-            number: 9,
-            length: 0,
-        };
+        return Err(Refusal::OrdersLength);
     }
-    let index = loaded.index;
-    let totals = loaded.totals;
-    let n = totals.signals;
-    let types = signal_types(model, &index, n);
-    let c = Config::first(model, &index, totals);
+    let program = Program {
+        records: Records {
+            bytes: model,
+            index: &loaded.index,
+            totals: loaded.totals,
+        },
+    };
+    let n = loaded.totals.signals;
+    let types = signal_types(&program);
+    let c = Config::first(&program);
     let mut times = [0u64; 2049];
     let mut values = [0u32; 65568];
-    let count = trace(c, model, &index, orders, &mut times, &mut values);
+    let count = trace(c, &program, orders, &mut times, &mut values);
     // Into no room the dump is only counted.
     let mut none = [0u8; 1];
-    let length = put_dump(&types, n, &times, &values, count, &mut none);
+    let length = put_dump(&types[..n], &times[..count], &values, &mut none);
     if length > out.len() {
-        return Dumped {
-            number: 21,
-            length: 0,
-        };
+        return Err(Refusal::NoRoom);
     }
-    put_dump(&types, n, &times, &values, count, out);
-    Dumped {
-        number: 0,
-        length: length,
-    }
+    put_dump(&types[..n], &times[..count], &values, out);
+    Ok(length)
 }
 
 // The program's room for the dump.
@@ -173,10 +147,8 @@ pub fn print(model: &[u8], orders: &[u8], out: &mut [u8; DUMP_ROOM]) -> usize
     ensures prints { Prints (print_of model.now orders.now) out.new result }
     ensures rooms_suffice { RoomsSuffice print_of }
 {
-    let r = dump(model, orders, out);
-    let number = r.number;
-    if number != 0 {
-        return put_refusal(number, out);
+    match dump(model, orders, out) {
+        Ok(length) => length,
+        Err(refusal) => put_refusal(refusal.number(), out),
     }
-    r.length
 }

@@ -111,26 +111,22 @@ fn process_word(c: &Config, p: usize, j: usize) -> u64
     if n <= p {
         return 0;
     }
-    if j == 0 {
-        return c.places[p] as u64;
+    match j {
+        0 => c.places[p] as u64,
+        1 => c.standings[p] as u64,
+        2 => c.faults[p] as u64,
+        3 => c.nodes[p] as u64,
+        _ => {
+            let t = c.deadlines[p];
+            if t == NEVER {
+                0
+            } else if j == 4 {
+                1
+            } else {
+                t
+            }
+        }
     }
-    if j == 1 {
-        return c.standings[p] as u64;
-    }
-    if j == 2 {
-        return c.faults[p] as u64;
-    }
-    if j == 3 {
-        return c.nodes[p] as u64;
-    }
-    let t = c.deadlines[p];
-    if t == NEVER {
-        return 0;
-    }
-    if j == 4 {
-        return 1;
-    }
-    t
 }
 
 // Word i of the configuration.
@@ -164,10 +160,7 @@ pub(crate) fn dump(c: Config, words: &mut [u64])
     requires { c.time ≤ last_time }
     ensures { words.new ≡ list_below (word_of (view_of c)) (length words.old) }
 {
-    let n = words.len();
-    let mut i = 0;
-    while i < n {
+    for i in 0..words.len() {
         words[i] = word(&c, i);
-        i += 1;
     }
 }

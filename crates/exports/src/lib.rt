@@ -55,7 +55,10 @@ pub extern "C" fn gontrafiby_xor(x: u32, y: u32) -> u32
 pub extern "C" fn gontrafiby_judge(model: &[u8]) -> u32
     ensures { result ≡ refusal_of model.now }
 {
-    model::load::judge(model) as u32
+    match model::load::judge(model) {
+        Ok(()) => 0,
+        Err(refusal) => refusal.number() as u32,
+    }
 }
 
 // Plays a session: its number, with every byte of the answer buffer as the rules have it, and the words of its end configuration.

@@ -11,22 +11,19 @@ use lib.IntN.{ℤ, pos}
 use lib.Signed.{lt_z}
 use mir.Syntax.{w64}
 use mir.Val.{to_z, of_z}
+use Rattle.std.specs.Prelude.{Ok}
 use Rattle.base.proofs.Below.{NoneOf, none_of}
 use Rattle.blocks.specs.Records.{Model, process_at, statement_at, model_of}
 use Rattle.blocks.specs.declared.records.ProcessRecord.{ProcessRecord}
-use Rattle.blocks.specs.Index.{Starts}
 use Rattle.blocks.specs.declared.records.StatementRecord.{StatementRecord}
-use Rattle.fields.specs.Fields.{end_of, owner_of}
+use Rattle.fields.specs.Fields.{owner_of}
 use Rattle.model.specs.Owners.{driver_for}
-use Rattle.model.specs.Facts.{Facts, StatementFits}
-use Rattle.model.specs.Index.{DriversBelow}
+use Rattle.model.specs.Facts.{StatementFits}
 use Rattle.rules.specs.Statements.{next_place, with_value, with_delay, mechanism_of, effect_by}
 use Rattle.rules.specs.declared.effect.Effect.{Effect}
 use Rattle.rules.specs.declared.effect.Effect.TheVariants.{Schedule, Stop}
 use Rattle.rules.specs.declared.driven.Driven.TheVariants.{To}
-use Rattle.rules.specs.declared.value.Failure.{Failure}
-use Rattle.rules.specs.declared.value.Value.{Value}
-use Rattle.rules.specs.declared.value.Value.TheVariants.{Of, Fault}
+use Rattle.rules.specs.Values.{Value}
 use Rattle.rules.specs.Evaluation.{Environment, failure, no_node, int, eval_of}
 use Rattle.rules.proofs.Signed.{not_negative, int_read}
 use Rattle.expressions.specs.Reading.{Runs}
@@ -38,11 +35,7 @@ unfolding effect_by
 assigned M e p s = ⊎_elim (λ k. rw k) (λ k. rw k)
 
 -- a delay, r being what `int` returned
-pub delay_fault : {v : Value} {f : Failure} (next : ℕ → Effect) → v ≡ Fault f → Stop f ≡ with_delay v next
-unfolding with_delay
-delay_fault next h = rw h
-
-module _ {v : Value} {x : ℕ} {r : ℤ} (next : ℕ → Effect) (h : v ≡ Of x) (l : x < 4294967296) (e : r ≡ int x) where
+module _ {v : Value} {x : ℕ} {r : ℤ} (next : ℕ → Effect) (h : v ≡ Ok x) (l : x < 4294967296) (e : r ≡ int x) where
   pub delay_negative : lt_z (to_z w64 (of_z w64 r)) (pos 0) ≡ true → Stop (failure no_node 2) ≡ with_delay v next
   unfolding with_delay
   delay_negative t = rw (h, simp (int_read x l e) at t)
@@ -53,10 +46,6 @@ module _ {v : Value} {x : ℕ} {r : ℤ} (next : ℕ → Effect) (h : v ≡ Of x
 
 -- statement n
 module _ {m index : List ℕ} {n : ℕ} (call : Runs m index × (n < length (model_of m).statements)) where
-  -- what the call that reads its driver asks
-  pub driver_call : Starts m index × (DriversBelow m index (length (model_of m).statements) × (n < length (model_of m).statements))
-  driver_call = let u = call.0.usable in (u.starts, (u.driver, call.1))
-
   -- the program read it as s
   module _ {s : StatementRecord} (read : s ≡ statement_at (model_of m) n) where
     pub statement_fits : StatementFits (model_of m) (owner_of (model_of m) n) s
@@ -82,6 +71,3 @@ module _ (M : Model) (p i : ℕ) (r : ProcessRecord) (e : r ≡ process_at M p) 
   pub next_first : r.first + r.count ≤ i + 1 → r.first ≡ next_place M p i
   unfolding next_place
   next_first h = rw (← e, le-ltb (i + 1) (r.first + r.count) h)
-
-pub few_statements : (M : Model) → Facts M → (p : ℕ) → p < length M.processes → end_of M p ≤ 200
-few_statements M fs p h = omega (arith, (fs.process p h).within, fs.totals.statements)

@@ -1,17 +1,18 @@
 // What a statement does.
-ghost use Rattle.std.specs.Prelude.{◌≡◌, ◌<◌, eqb, length};
+ghost use Rattle.std.specs.Prelude.{◌≡◌, ℕ, ◌<◌, eqb, length};
 ghost use Rattle.base.specs.Cases.{◌∣◌, ◌⇒◌};
-ghost use Rattle.blocks.specs.Records.{model_of, statement_at};
+ghost use Rattle.blocks.specs.Records.{statement_at};
 ghost use Rattle.fields.specs.Fields.{owner_of};
 ghost use Rattle.fields.specs.Facts.{Spans};
 ghost use Rattle.rules.specs.declared.driven.Driven.TheVariants.{To};
+ghost use Rattle.rules.specs.declared.effect.Effect.{Effect};
 ghost use Rattle.rules.specs.declared.effect.Effect.TheVariants.{Skip, Store, Schedule, Jump, WaitFor};
 ghost use Rattle.rules.specs.Statements.{with_value, with_delay, mechanism_of, effect_by, next_place};
-ghost use Rattle.expressions.specs.Reading.{arrays, Runs};
+ghost use Rattle.expressions.specs.Lent.{model_of_program, read_in};
 
 use crate::eval::eval;
 use crate::operators::int;
-use blocks::index::{Index, process_at, statement_at};
+use crate::program::{Program, Readings};
 use fields::ABSENT;
 use model::owners::assignment_driver;
 use rules::NO_NODE;
@@ -24,8 +25,8 @@ fn store(a: usize, v: Value) -> Effect
     ensures { result ≡ with_value v (λ x. Store a x) }
 {
     match v {
-        Value::Fault(f) => Effect::Stop(f),
-        Value::Of(x) => Effect::Store(a, x),
+        Err(f) => Effect::Stop(f),
+        Ok(x) => Effect::Store(a, x),
     }
 }
 
@@ -33,14 +34,9 @@ fn branch(a: usize, v: Value) -> Effect
     ensures { result ≡ with_value v (λ x. eqb x 0 ⇒ Jump a ∣ Skip) }
 {
     match v {
-        Value::Fault(f) => Effect::Stop(f),
-        Value::Of(x) => {
-            if x == 0 {
-                Effect::Jump(a)
-            } else {
-                Effect::Skip
-            }
-        }
+        Err(f) => Effect::Stop(f),
+        Ok(0) => Effect::Jump(a),
+        Ok(_) => Effect::Skip,
     }
 }
 
@@ -55,22 +51,27 @@ fn mechanism_of(kind: usize) -> Mechanism
     }
 }
 
-// A schedule of a value or null on driver k: fault 2 for a negative delay.
+// A delay: fault 2 if it is negative.
+fn delay_of(c: Value) -> Value
+    ensures { (next : ℕ → Effect) → with_value result next ≡ with_delay c next }
+{
+    let d = c?;
+    if int(d) < 0 {
+        return Err(Failure {
+            fault: 2,
+            node: NO_NODE,
+        });
+    }
+    Ok(d)
+}
+
+// A schedule of a value or null on driver k.
 fn schedule(k: usize, c: Value, v: Driven, w: Mechanism) -> Effect
     ensures { result ≡ with_delay c (λ d. Schedule k d v w) }
 {
-    match c {
-        Value::Fault(f) => Effect::Stop(f),
-        Value::Of(d) => {
-            if int(d) < 0 {
-                Effect::Stop(Failure {
-                    fault: 2,
-                    node: NO_NODE,
-                })
-            } else {
-                Effect::Schedule(k, d, v, w)
-            }
-        }
+    match delay_of(c) {
+        Err(f) => Effect::Stop(f),
+        Ok(d) => Effect::Schedule(k, d, v, w),
     }
 }
 
@@ -78,66 +79,50 @@ fn assign(k: usize, v: Value, c: Value, w: Mechanism) -> Effect
     ensures { result ≡ with_value v (λ x. with_delay c (λ d. Schedule k d (To x) w)) }
 {
     match v {
-        Value::Fault(f) => Effect::Stop(f),
-        Value::Of(x) => schedule(k, c, Driven::To(x), w),
+        Err(f) => Effect::Stop(f),
+        Ok(x) => schedule(k, c, Driven::To(x), w),
     }
 }
 
 fn wait_for(c: Value) -> Effect
     ensures { result ≡ with_delay c WaitFor }
 {
-    match c {
-        Value::Fault(f) => Effect::Stop(f),
-        Value::Of(d) => {
-            if int(d) < 0 {
-                Effect::Stop(Failure {
-                    fault: 2,
-                    node: NO_NODE,
-                })
-            } else {
-                Effect::WaitFor(d)
-            }
-        }
+    match delay_of(c) {
+        Err(f) => Effect::Stop(f),
+        Ok(d) => Effect::WaitFor(d),
     }
 }
 
 // What statement n does.
-pub fn effect_of<'a>(
-    m: &'a [u8],
-    index: &'a Index,
-    variables: &'a [u32; 64],
-    signals: &'a [u32; 1056],
-    n: usize,
-) -> Effect
-    requires runs { Runs m.now index.now }
-    requires n_in_bounds { n < length (model_of m.now).statements }
-    ensures { result ≡ effect_by (model_of m.now) (arrays variables.now signals.now) (owner_of (model_of m.now) n) (statement_at (model_of m.now) n) }
+pub fn effect_of(program: &Program, readings: &Readings, n: usize) -> Effect
+    requires { n < length (model_of_program program.now).statements }
+    ensures { result ≡ effect_by (model_of_program program.now) (read_in readings.now) (owner_of (model_of_program program.now) n) (statement_at (model_of_program program.now) n) }
 {
-    let s = statement_at(m, index, n);
+    let s = program.records.statement(n);
     let kind = s.kind;
     match kind {
         0 => Effect::Skip,
-        1 => store(s.a, eval(m, index, variables, signals, s.b)),
+        1 => store(s.a, eval(program, readings, s.b)),
         2 | 7 => {
-            let v = eval(m, index, variables, signals, s.b);
+            let v = eval(program, readings, s.b);
             assign(
-                assignment_driver(m, index, n),
+                assignment_driver(&program.records, n),
                 v,
-                eval(m, index, variables, signals, s.c),
+                eval(program, readings, s.c),
                 mechanism_of(kind),
             )
         }
-        3 => branch(s.a, eval(m, index, variables, signals, s.b)),
+        3 => branch(s.a, eval(program, readings, s.b)),
         4 => Effect::Jump(s.a),
         5 => {
             if s.c == ABSENT {
                 return Effect::Wait;
             }
-            wait_for(eval(m, index, variables, signals, s.c))
+            wait_for(eval(program, readings, s.c))
         }
         6 => schedule(
-            assignment_driver(m, index, n),
-            eval(m, index, variables, signals, s.c),
+            assignment_driver(&program.records, n),
+            eval(program, readings, s.c),
             Driven::Null,
             Mechanism::Transport,
         ),
@@ -146,13 +131,12 @@ pub fn effect_of<'a>(
 }
 
 // The place after i in process p: the last statement is followed by the first.
-pub fn next_place<'a>(m: &'a [u8], index: &'a Index, p: usize, i: usize) -> usize
-    requires runs { Runs m.now index.now }
-    requires p_in_bounds { p < length (model_of m.now).processes }
-    requires spans { Spans (model_of m.now) p i }
-    ensures { result ≡ next_place (model_of m.now) p i }
+pub fn next_place(program: &Program, p: usize, i: usize) -> usize
+    requires p_in_bounds { p < length (model_of_program program.now).processes }
+    requires spans { Spans (model_of_program program.now) p i }
+    ensures { result ≡ next_place (model_of_program program.now) p i }
 {
-    let r = process_at(m, index, p);
+    let r = program.records.process(p);
     if i + 1 < r.first + r.count {
         i + 1
     } else {

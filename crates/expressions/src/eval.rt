@@ -1,14 +1,13 @@
 // The value of an expression.
-ghost use Rattle.std.specs.Prelude.{◌≡◌, ◌<◌, length, get_or};
-ghost use Rattle.blocks.specs.Records.{model_of};
-ghost use Rattle.rules.specs.declared.value.Value.TheVariants.{Of};
+ghost use Rattle.std.specs.Prelude.{◌≡◌, ◌<◌, length, get_or, Ok};
 ghost use Rattle.rules.specs.Evaluation.{Held, delayed_by, eval_of};
-ghost use Rattle.expressions.specs.Reading.{signal_slot, arrays, Runs};
+ghost use Rattle.expressions.specs.Lent.{model_of_program, read_in};
+ghost use Rattle.expressions.specs.Reading.{signal_slot};
 
 use crate::operators::{
     and, decided, divide, equal, less, minus, negate, not, or, plus, product, xor,
 };
-use blocks::index::{Index, node_at};
+use crate::program::{Program, Readings};
 use integers::division::Division;
 use rules::moment::Moment;
 use rules::value::Value;
@@ -16,15 +15,9 @@ use trees::types::type_at;
 
 fn variable_of(variables: &[u32; 64], a: usize) -> Value
     requires { a < 64 }
-    ensures { result ≡ Of (get_or variables.now a 0) }
+    ensures { result ≡ Ok (get_or variables.now a 0) }
 {
-    Value::Of(variables[a])
-}
-
-fn wide32(x: u32) -> usize
-    ensures { result ≡ x }
-{
-    x as usize
+    Ok(variables[a])
 }
 
 // The moment of "delayed by k".
@@ -46,119 +39,89 @@ fn slot(a: usize, at: Moment) -> usize
     match at {
         Moment::Now => 32 * a,
         Moment::DeltaAgo => 1024 + a,
-        Moment::UnitsAgo(k) => 32 * a + wide32(k),
+        Moment::UnitsAgo(k) => 32 * a + k as usize,
     }
 }
 
 // Signal a at a moment.
 fn signal_of(signals: &[u32; 1056], a: usize, at: Moment) -> Value
     requires { (a < 32) × Held at }
-    ensures { result ≡ Of (get_or signals.now (signal_slot a at) 0) }
+    ensures { result ≡ Ok (get_or signals.now (signal_slot a at) 0) }
 {
-    Value::Of(signals[slot(a, at)])
+    Ok(signals[slot(a, at)])
 }
 
-// The value of node n. Operands are evaluated by this function, a before b. They are lent the model as a slice of its own: the one
-// taken would be copied as 16 bytes right after its two halves were written, for which the machine waits (bench/README.md).
-pub fn eval<'a>(
-    m: &'a [u8],
-    index: &'a Index,
-    variables: &'a [u32; 64],
-    signals: &'a [u32; 1056],
-    n: usize,
-) -> Value
-    requires runs { Runs m.now index.now }
-    requires n_in_bounds { n < length (model_of m.now).nodes }
-    ensures { result ≡ eval_of (model_of m.now) (arrays variables.now signals.now) n }
+// The value of node n. Operands are evaluated by this function, a before b.
+// Stays: an arm for each operator of two operands, since one arm for all would ask for the kind a second time.
+pub fn eval(program: &Program, readings: &Readings, n: usize) -> Value
+    requires { n < length (model_of_program program.now).nodes }
+    ensures { result ≡ eval_of (model_of_program program.now) (read_in readings.now) n }
 {
-    let whole = &m[..];
-    let d = node_at(m, index, n);
+    let d = program.records.node(n);
     let kind = d.kind;
     let a = d.a;
     let b = d.b;
     let at = n as u32;
     match kind {
-        1 => Value::Of(d.k),
-        2 => Value::Of(d.k),
-        3 => variable_of(variables, a),
-        4 => signal_of(signals, a, Moment::Now),
-        5 => signal_of(signals, a, delayed(d.k)),
-        6 => not(
-            type_at(m, index, n),
-            eval(whole, index, variables, signals, a),
-        ),
+        1 => Ok(d.k),
+        2 => Ok(d.k),
+        3 => variable_of(readings.variables, a),
+        4 => signal_of(readings.signals, a, Moment::Now),
+        5 => signal_of(readings.signals, a, delayed(d.k)),
+        6 => not(type_at(&program.records, n), eval(program, readings, a)),
         7 => {
-            let p = eval(whole, index, variables, signals, a);
-            let ty = type_at(m, index, n);
+            let p = eval(program, readings, a);
+            let ty = type_at(&program.records, n);
             if decided(ty, p, 0) {
                 return p;
             }
-            and(ty, p, eval(whole, index, variables, signals, b))
+            and(ty, p, eval(program, readings, b))
         }
         8 => {
-            let p = eval(whole, index, variables, signals, a);
-            let ty = type_at(m, index, n);
+            let p = eval(program, readings, a);
+            let ty = type_at(&program.records, n);
             if decided(ty, p, 1) {
                 return p;
             }
-            or(ty, p, eval(whole, index, variables, signals, b))
+            or(ty, p, eval(program, readings, b))
         }
         9 => {
-            let p = eval(whole, index, variables, signals, a);
-            xor(
-                type_at(m, index, n),
-                p,
-                eval(whole, index, variables, signals, b),
-            )
+            let p = eval(program, readings, a);
+            xor(type_at(&program.records, n), p, eval(program, readings, b))
         }
-        10 => negate(at, eval(whole, index, variables, signals, a)),
+        10 => negate(at, eval(program, readings, a)),
         11 => {
-            let p = eval(whole, index, variables, signals, a);
-            plus(at, p, eval(whole, index, variables, signals, b))
+            let p = eval(program, readings, a);
+            plus(at, p, eval(program, readings, b))
         }
         12 => {
-            let p = eval(whole, index, variables, signals, a);
-            minus(at, p, eval(whole, index, variables, signals, b))
+            let p = eval(program, readings, a);
+            minus(at, p, eval(program, readings, b))
         }
         13 => {
-            let p = eval(whole, index, variables, signals, a);
-            equal(p, eval(whole, index, variables, signals, b))
+            let p = eval(program, readings, a);
+            equal(p, eval(program, readings, b))
         }
         14 => {
-            let p = eval(whole, index, variables, signals, a);
-            less(p, eval(whole, index, variables, signals, b))
+            let p = eval(program, readings, a);
+            less(p, eval(program, readings, b))
         }
         15 => {
-            let p = eval(whole, index, variables, signals, a);
-            product(at, p, eval(whole, index, variables, signals, b))
+            let p = eval(program, readings, a);
+            product(at, p, eval(program, readings, b))
         }
         16 => {
-            let p = eval(whole, index, variables, signals, a);
-            divide(
-                at,
-                Division::Quotient,
-                p,
-                eval(whole, index, variables, signals, b),
-            )
+            let p = eval(program, readings, a);
+            divide(at, Division::Quotient, p, eval(program, readings, b))
         }
         17 => {
-            let p = eval(whole, index, variables, signals, a);
-            divide(
-                at,
-                Division::Modulo,
-                p,
-                eval(whole, index, variables, signals, b),
-            )
+            let p = eval(program, readings, a);
+            divide(at, Division::Modulo, p, eval(program, readings, b))
         }
         18 => {
-            let p = eval(whole, index, variables, signals, a);
-            divide(
-                at,
-                Division::Rem,
-                p,
-                eval(whole, index, variables, signals, b),
-            )
+            let p = eval(program, readings, a);
+            divide(at, Division::Rem, p, eval(program, readings, b))
         }
-        _ => Value::Of(0),
+        _ => Ok(0),
     }
 }

@@ -4,3 +4,4 @@
 pub mod effect;
 pub mod eval;
 pub mod operators;
+pub mod program;

@@ -2,7 +2,7 @@
 use mathlib.Core.Path.{◌≡◌}
 use mathlib.Core.Bool.{Bool, false, ◌&&◌, ◌||◌}
 use mathlib.Core.Logic.{◌⊎◌, inl, inr, ⊎_elim}
-use Prim.Native.Nat.{ℕ, ◌+◌, ◌-◌, ◌^◌, ◌≤◌, ◌<◌}
+use Prim.Native.Nat.{ℕ, ◌-◌, ◌^◌, ◌≤◌, ◌<◌}
 use native.Mathlib.Omega.{arith}
 use lib.Dec.{eqb, leb, ltb}
 use lib.ListN.{length}
@@ -30,9 +30,9 @@ module _ (M : Model) (p : ℕ) (d : ProcessRecord) (e : d ≡ process_at M p) wh
   unfolding process_ok every
   process_form r q = rw (e, q)
 
-  pub span_form : (a : ℕ) → (leb d.first a && ltb a (d.first + d.count)) ≡ in_span M p a
+  pub span_form : (a r : ℕ) → r ≡ end_of M p → (leb d.first a && ltb a r) ≡ in_span M p a
   unfolding in_span
-  span_form a = rw e
+  span_form a r q = rw (e, q)
 
 pub end_fits : (x : ℕ) → x < 131072 → Fits w64 x
 end_fits x h = omega arith

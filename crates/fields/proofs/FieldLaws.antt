@@ -1,28 +1,21 @@
 -- The laws of rule 5: a node's fields by ranges of its kind, and a process's span. Assumes nothing.
-use mathlib.Core.Path.{◌≡◌, ◌∙◌}
+use mathlib.Core.Path.{◌≡◌}
 use mathlib.Core.Bool.{false, ◌&&◌}
 use mathlib.Core.List.{List, [], ◌∷◌, map}
-use Prim.Native.Nat.{ℕ, zero, suc, ◌+◌, ◌-◌, ◌*◌, ◌%◌, ◌^◌, ◌≤◌, ◌<◌, zero-le}
-use native.Mathlib.Nat.{not-suc-le-zero}
+use Prim.Native.Nat.{ℕ, zero, suc, ◌+◌, ◌≤◌, ◌<◌, zero-le}
 use native.Mathlib.Omega.{arith}
 use borrow.Author.Tests.{ne_eqb, le-leb, lt-leb, le-ltb}
 use mir.Syntax.{w8}
 use mir.Val.{Fits}
 use lib.Dec.{eqb, leb, leb-zero, lit<}
 use lib.ListN.{length, get_or, drop, get_or-eq_default}
-use lib.Pow.{shl_exact}
 use lib.Seq.{get_or-take, get_or-drop}
 use Rattle.base.specs.Bytes.{byte_at}
 use Rattle.base.specs.Below.{every}
 use Rattle.blocks.specs.Blocks.{starts_of, part_at}
-use Rattle.blocks.specs.Records.{Model, model_of, records_of, process_of, process_at}
+use Rattle.blocks.specs.Records.{Model, model_of, records_of, process_of}
 use Rattle.blocks.specs.declared.records.NodeRecord.{NodeRecord}
-use Rattle.blocks.specs.declared.records.ProcessRecord.{ProcessRecord}
-use Rattle.fields.specs.Fields.{node_ok, end_of, due_start, in_span}
-
--- what is left of 1.. when 1 to 6 are taken off
-pub at_least_seven : (x : ℕ) → 1 ≤ x → (x ≡ 1 → ⊥) → (x ≡ 2 → ⊥) → (x ≡ 3 → ⊥) → (x ≡ 4 → ⊥) → (x ≡ 5 → ⊥) → (x ≡ 6 → ⊥) → 7 ≤ x
-at_least_seven x h a b c d e f = omega arith
+use Rattle.fields.specs.Fields.{node_ok, end_of, in_span}
 
 module _ (M : Model) (d : NodeRecord) where
   -- from 7 on, 10 aside, the kinds are alike
@@ -49,10 +42,6 @@ module _ (M : Model) (d : NodeRecord) where
   pub node_past : 19 ≤ d.kind → false ≡ node_ok M d
   node_past h = rw (node_else (omega arith) (λ e. omega arith), lt-leb d.kind 18 h)
 
--- a set of signals is below the power of two that a shift computes
-pub power : (n : ℕ) → n ≤ 32 → (1 * 2 ^ n) % 2 ^ 64 ≡ 2 ^ n
-power n h = shl_exact 1 n 64 (lit< tt) (omega arith) ∙ omega arith
-
 -- what holds of each value of f holds of each element of the mapped list
 map_each : {A B : Type 0} (P : B → Type 0) (f : A → B) (xs : List A) (d : B) → ((x : A) → P (f x)) → P d → (n : ℕ) → P (get_or (map f xs) n d)
 map_each P f [] d h e n = e
@@ -64,28 +53,12 @@ module _ (m : List ℕ) (bytes : (i : ℕ) → Fits w8 (get_or m i 0)) where
   part_byte : (start i : ℕ) → i < 12 → byte_at (part_at m start) i < 256
   part_byte start i h = rw (get_or-take 12 (drop start m) i 0 h, get_or-drop) (omega (arith, bytes (start + i)))
 
-  pub span_small : (p : ℕ) (d : ProcessRecord) → d ≡ process_at (model_of m) p → d.first + d.count < 131072
+  pub span_small : (p : ℕ) → end_of (model_of m) p < 131072
   unfolding model_of records_of process_of
-  span_small p d e =
-      rw e
-      (map_each (λ r. r.first + r.count < 131072) (λ start. process_of (part_at m start)) (starts_of 3 m) _
+  span_small p =
+      map_each (λ r. r.first + r.count < 131072) (λ start. process_of (part_at m start)) (starts_of 3 m) _
       (λ s. omega (arith, part_byte s 0 (lit< tt), part_byte s 1 (lit< tt), part_byte s 2 (lit< tt), part_byte s 3 (lit< tt)))
-      (lit< tt) p)
-
--- the first process starts at 0
-pub due_first : (M : Model) (p : ℕ) → p ≡ 0 → 0 ≡ due_start M p
-due_first M p e = rw e
-
-pub some_before : (p : ℕ) → (p ≡ 0 → ⊥) → 1 ≤ p
-some_before p h = omega arith
-
-pub before_there : (p n : ℕ) → p < n → p - 1 < n
-before_there p n h = omega arith
-
--- each process after the first starts where the one before it ends
-pub due_next : (M : Model) (p : ℕ) {r : ℕ} → 1 ≤ p → r ≡ end_of M (p - 1) → r ≡ due_start M p
-due_next M zero h e = absurd (not-suc-le-zero h)
-due_next M (suc p) h e = let g : suc p - 1 ≡ p = omega arith in rw g at e
+      (lit< tt) p
 
 -- past the last process there is no span
 pub no_span : (M : Model) (p a : ℕ) → length M.processes ≤ p → false ≡ in_span M p a

@@ -5,7 +5,7 @@ use mathlib.Core.Logic.{⊎_elim}
 use Prim.Native.Nat.{ℕ, ◌≤◌, ◌<◌}
 use native.Mathlib.Omega.{arith}
 use borrow.Author.Tests.{ne_eqb, eqb-true, ltb-true, leb-true}
-use lib.Dec.{T, leb, lit≤}
+use lib.Dec.{leb}
 use lib.ListN.{length, get_or}
 use Rattle.base.specs.Below.{all_below}
 use Rattle.base.proofs.Below.{and_left, every_at, all_at, among, split}
@@ -88,9 +88,6 @@ module _ (M : Model) (d : NodeRecord) (ok : node_ok M d ≡ true) where
   names_signal l h =
       among (λ k. d.kind ≡ k → d.a < length M.signals) 4 2 d.kind
       ((λ e. ltb-true _ _ (every_at _ 0 (rw e at ok))), ((λ e. ltb-true _ _ (every_at _ 0 (rw e at ok))), tt)) l (omega arith) refl
-
-  pub signal_at_lem : (k : ℕ) → d.kind ≡ k → T (leb 4 k) → T (leb k 5) → d.a < length M.signals
-  signal_at_lem k e l h = names_signal (rw e (lit≤ l)) (rw e (lit≤ h))
 
   pub delay_most : d.kind ≡ 5 → d.k ≤ 31
   unfolding node_ok

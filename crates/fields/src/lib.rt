@@ -1,25 +1,25 @@
 // Rule 5: the fields of each record, the spans of the processes, and the process of a statement.
 #![tactic(auto)]
 
-ghost use Rattle.std.specs.Prelude.{◌≡◌, ◌+◌, ◌^◌, ◌≤◌, ◌<◌, ltb, length};
-ghost use Rattle.base.specs.Below.{all_below};
-ghost use Rattle.blocks.specs.Records.{Model, model_of, signal_at, variable_at, driver_at, node_at, statement_at, row_at};
+ghost use Rattle.std.specs.Prelude.{◌≡◌, ℕ, ◌+◌, ◌^◌, ◌≤◌, ◌<◌, ltb, length};
+ghost use Rattle.blocks.specs.Records.{model_of};
 ghost use Rattle.blocks.specs.Index.{Starts};
 ghost use Rattle.blocks.specs.Totals.{TotalsOf};
+ghost use Rattle.blocks.specs.Lent.{model_in};
 ghost use Rattle.fields.specs.Fields.{value_ok, signal_ok, variable_ok, end_of, due_start, process_ok, covered, driver_ok, node_ok, owner_of, in_span, statement_ok, row_ok, fields_ok};
 
-use blocks::index::{
-    Index, Totals, driver_at, node_at, process_at, row_at, signal_at, statement_at, variable_at,
-};
+use blocks::index::Records;
 use blocks::records::{
     DriverRecord, NodeRecord, PLAIN, REGISTER, RowRecord, SignalRecord, StatementRecord,
     VariableRecord,
 };
 
 // The number that stands for an absent b or c of a wait.
+// Stays: no Option, since a record's bytes have it so (`statement_of`, `is_node_or_absent`).
 pub const ABSENT: usize = 65535;
 
 // Whether 32 bits are a value of the type.
+// Stays: types and kinds are numbers here, since any byte may stand in a record and this rule judges which may.
 fn value_ok(ty: usize, x: u32) -> bool
     ensures { result ≡ value_ok ty x }
 {
@@ -41,117 +41,62 @@ fn signal_ok(d: SignalRecord) -> bool
         & d.zeros
 }
 
-fn signals_ok<'a>(m: &'a [u8], index: &'a Index, t: Totals) -> bool
-    requires starts { Starts m.now index.now }
-    requires totals_of { TotalsOf (model_of m.now) t }
-    ensures { result ≡ all_below (λ n. signal_ok (signal_at (model_of m.now) n)) (length (model_of m.now).signals) }
+fn variable_ok(records: &Records, d: VariableRecord) -> bool
+    ensures { result ≡ variable_ok (model_in records.now) d }
 {
-    let mut ok = true;
-    let mut n = 0;
-    while n < t.signals {
-        ok = ok & signal_ok(signal_at(m, index, n));
-        n += 1;
-    }
-    ok
+    value_ok(d.ty, d.start) & (d.process < records.totals.processes) & d.zeros
 }
 
-fn variable_ok(t: Totals, d: VariableRecord) -> bool
-    ensures { (M : Model) → TotalsOf M t → result ≡ variable_ok M d }
-{
-    value_ok(d.ty, d.start) & (d.process < t.processes) & d.zeros
-}
-
-fn variables_ok<'a>(m: &'a [u8], index: &'a Index, t: Totals) -> bool
-    requires starts { Starts m.now index.now }
-    requires totals_of { TotalsOf (model_of m.now) t }
-    ensures { result ≡ all_below (λ n. variable_ok (model_of m.now) (variable_at (model_of m.now) n)) (length (model_of m.now).variables) }
-{
-    let mut ok = true;
-    let mut n = 0;
-    while n < t.variables {
-        ok = ok & variable_ok(t, variable_at(m, index, n));
-        n += 1;
-    }
-    ok
-}
+// Called for what it ensures: where a process starts and how many statements it has are two words, so their sum fits.
+fn spans_fit(m: &[u8])
+    ensures { (p : ℕ) → end_of (model_of m.now) p < 131072 }
+{}
 
 // Where process p ends: one past its last statement.
-fn end_of<'a>(m: &'a [u8], index: &'a Index, p: usize) -> usize
-    requires starts { Starts m.now index.now }
-    requires p_in_bounds { p < length (model_of m.now).processes }
-    ensures { result ≡ end_of (model_of m.now) p }
+fn end_of(records: &Records, p: usize) -> usize
+    requires { p < length (model_in records.now).processes }
+    ensures { result ≡ end_of (model_in records.now) p }
 {
-    let d = process_at(m, index, p);
+    spans_fit(records.bytes);
+    let d = records.process(p);
     d.first + d.count
 }
 
 // Where process p has to start.
-fn due_start<'a>(m: &'a [u8], index: &'a Index, p: usize) -> usize
-    requires starts { Starts m.now index.now }
-    requires p_in_bounds { p < length (model_of m.now).processes }
-    ensures { result ≡ due_start (model_of m.now) p }
+fn due_start(records: &Records, p: usize) -> usize
+    requires { p < length (model_in records.now).processes }
+    ensures { result ≡ due_start (model_in records.now) p }
 {
-    if p == 0 { 0 } else { end_of(m, index, p - 1) }
+    if p == 0 { 0 } else { end_of(records, p - 1) }
 }
 
-fn process_ok<'a>(m: &'a [u8], index: &'a Index, p: usize) -> bool
-    requires starts { Starts m.now index.now }
-    requires p_in_bounds { p < length (model_of m.now).processes }
-    ensures { result ≡ process_ok (model_of m.now) p }
+fn process_ok(records: &Records, p: usize) -> bool
+    requires { p < length (model_in records.now).processes }
+    ensures { result ≡ process_ok (model_in records.now) p }
 {
-    let d = process_at(m, index, p);
-    (d.first == due_start(m, index, p)) & (1 <= d.count) & d.zeros
-}
-
-fn processes_ok<'a>(m: &'a [u8], index: &'a Index, t: Totals) -> bool
-    requires starts { Starts m.now index.now }
-    requires totals_of { TotalsOf (model_of m.now) t }
-    ensures { result ≡ all_below (process_ok (model_of m.now)) (length (model_of m.now).processes) }
-{
-    let mut ok = true;
-    let mut p = 0;
-    while p < t.processes {
-        ok = ok & process_ok(m, index, p);
-        p += 1;
-    }
-    ok
+    let d = records.process(p);
+    (d.first == due_start(records, p)) & (1 <= d.count) & d.zeros
 }
 
 // Whether the last process ends where the statements do.
-fn all_covered<'a>(m: &'a [u8], index: &'a Index, t: Totals) -> bool
-    requires starts { Starts m.now index.now }
-    requires totals_of { TotalsOf (model_of m.now) t }
-    ensures { result ≡ covered (model_of m.now) }
+fn all_covered(records: &Records) -> bool
+    ensures { result ≡ covered (model_in records.now) }
 {
-    end_of(m, index, t.processes - 1) == t.statements
+    end_of(records, records.totals.processes - 1) == records.totals.statements
 }
 
-fn driver_ok(t: Totals, d: DriverRecord) -> bool
-    ensures { (M : Model) → TotalsOf M t → result ≡ driver_ok M d }
+fn driver_ok(records: &Records, d: DriverRecord) -> bool
+    ensures { result ≡ driver_ok (model_in records.now) d }
 {
-    (d.process < t.processes) & (d.signal < t.signals) & d.zeros
-}
-
-fn drivers_ok<'a>(m: &'a [u8], index: &'a Index, t: Totals) -> bool
-    requires starts { Starts m.now index.now }
-    requires totals_of { TotalsOf (model_of m.now) t }
-    ensures { result ≡ all_below (λ n. driver_ok (model_of m.now) (driver_at (model_of m.now) n)) (length (model_of m.now).drivers) }
-{
-    let mut ok = true;
-    let mut n = 0;
-    while n < t.drivers {
-        ok = ok & driver_ok(t, driver_at(m, index, n));
-        n += 1;
-    }
-    ok
+    (d.process < records.totals.processes) & (d.signal < records.totals.signals) & d.zeros
 }
 
 // The fields by the node's kind; the operands of kinds 6 to 18 are left to rule 6.
-fn node_ok(t: Totals, d: NodeRecord) -> bool
-    ensures { (M : Model) → TotalsOf M t → result ≡ node_ok M d }
+fn node_ok(records: &Records, d: NodeRecord) -> bool
+    ensures { result ≡ node_ok (model_in records.now) d }
 {
-    let kind = d.kind;
-    match kind {
+    let t = records.totals;
+    match d.kind {
         1 => (d.a == 0) & (d.b == 0) & value_ok(0, d.k) & d.zeros,
         2 => (d.a == 0) & (d.b == 0) & value_ok(1, d.k) & d.zeros,
         3 => (d.a < t.variables) & (d.b == 0) & (d.k == 0) & d.zeros,
@@ -163,55 +108,30 @@ fn node_ok(t: Totals, d: NodeRecord) -> bool
     }
 }
 
-fn nodes_ok<'a>(m: &'a [u8], index: &'a Index, t: Totals) -> bool
-    requires starts { Starts m.now index.now }
-    requires totals_of { TotalsOf (model_of m.now) t }
-    ensures { result ≡ all_below (λ n. node_ok (model_of m.now) (node_at (model_of m.now) n)) (length (model_of m.now).nodes) }
+// The process of statement n: the first that ends past it, or the number of processes where none does.
+pub fn owner_of(records: &Records, n: usize) -> usize
+    ensures { result ≡ owner_of (model_in records.now) n }
 {
-    let mut ok = true;
-    let mut n = 0;
-    while n < t.nodes {
-        ok = ok & node_ok(t, node_at(m, index, n));
-        n += 1;
-    }
-    ok
-}
-
-// The process of statement n: the first that ends past it.
-pub fn owner_of<'a>(m: &'a [u8], index: &'a Index, t: Totals, n: usize) -> usize
-    requires starts { Starts m.now index.now }
-    requires totals_of { TotalsOf (model_of m.now) t }
-    ensures { result ≡ owner_of (model_of m.now) n }
-{
-    let mut p = 0;
-    while p < t.processes {
-        if n < end_of(m, index, p) {
-            return p;
-        }
-        p += 1;
-    }
-    p
+    (0..records.totals.processes)
+        .find(|p| n < end_of(records, *p))
+        .unwrap_or(records.totals.processes)
 }
 
 // Whether statement a belongs to process p.
-fn in_span<'a>(m: &'a [u8], index: &'a Index, p: usize, a: usize) -> bool
-    requires starts { Starts m.now index.now }
-    requires p_in_bounds { p < length (model_of m.now).processes }
-    ensures { result ≡ in_span (model_of m.now) p a }
+fn in_span(records: &Records, p: usize, a: usize) -> bool
+    requires { p < length (model_in records.now).processes }
+    ensures { result ≡ in_span (model_in records.now) p a }
 {
-    let d = process_at(m, index, p);
-    (d.first <= a) & (a < d.first + d.count)
+    (records.process(p).first <= a) & (a < end_of(records, p))
 }
 
 // Whether statement a belongs to the process of statement n.
-fn jump_ok<'a>(m: &'a [u8], index: &'a Index, t: Totals, n: usize, a: usize) -> bool
-    requires starts { Starts m.now index.now }
-    requires totals_of { TotalsOf (model_of m.now) t }
-    ensures { result ≡ in_span (model_of m.now) (owner_of (model_of m.now) n) a }
+fn jump_ok(records: &Records, n: usize, a: usize) -> bool
+    ensures { result ≡ in_span (model_in records.now) (owner_of (model_in records.now) n) a }
 {
-    let p = owner_of(m, index, t, n);
-    if p < t.processes {
-        in_span(m, index, p, a)
+    let p = owner_of(records, n);
+    if p < records.totals.processes {
+        in_span(records, p, a)
     } else {
         false
     }
@@ -222,22 +142,20 @@ fn set_ok(set: u32, signals: usize) -> bool
     requires { signals ≤ 32 }
     ensures { result ≡ ltb set (2 ^ signals) }
 {
-    (set as u64) < (1u64 << signals)
+    u64::from(set) < (1u64 << signals)
 }
 
 // The fields by the statement's kind, n being its number; b and c of a wait may be absent.
-fn statement_ok<'a>(m: &'a [u8], index: &'a Index, t: Totals, n: usize, s: StatementRecord) -> bool
-    requires starts { Starts m.now index.now }
-    requires totals_of { TotalsOf (model_of m.now) t }
-    ensures { result ≡ statement_ok (model_of m.now) n s }
+fn statement_ok(records: &Records, n: usize, s: StatementRecord) -> bool
+    ensures { result ≡ statement_ok (model_in records.now) n s }
 {
-    let kind = s.kind;
-    match kind {
+    let t = records.totals;
+    match s.kind {
         0 => (s.a == 0) & (s.b == 0) & (s.c == 0) & (s.set == 0) & s.zeros,
         1 => (s.a < t.variables) & (s.b < t.nodes) & (s.c == 0) & (s.set == 0) & s.zeros,
         2 | 7 => (s.a < t.signals) & (s.b < t.nodes) & (s.c < t.nodes) & (s.set == 0) & s.zeros,
-        3 => jump_ok(m, index, t, n, s.a) & (s.b < t.nodes) & (s.c == 0) & (s.set == 0) & s.zeros,
-        4 => jump_ok(m, index, t, n, s.a) & (s.b == 0) & (s.c == 0) & (s.set == 0) & s.zeros,
+        3 => jump_ok(records, n, s.a) & (s.b < t.nodes) & (s.c == 0) & (s.set == 0) & s.zeros,
+        4 => jump_ok(records, n, s.a) & (s.b == 0) & (s.c == 0) & (s.set == 0) & s.zeros,
         5 => {
             (s.a == 0)
                 & ((s.b < t.nodes) | (s.b == ABSENT))
@@ -250,58 +168,23 @@ fn statement_ok<'a>(m: &'a [u8], index: &'a Index, t: Totals, n: usize, s: State
     }
 }
 
-fn statements_ok<'a>(m: &'a [u8], index: &'a Index, t: Totals) -> bool
-    requires starts { Starts m.now index.now }
-    requires totals_of { TotalsOf (model_of m.now) t }
-    ensures { result ≡ all_below (λ n. statement_ok (model_of m.now) n (statement_at (model_of m.now) n)) (length (model_of m.now).statements) }
-{
-    let mut ok = true;
-    let mut n = 0;
-    while n < t.statements {
-        ok = ok & statement_ok(m, index, t, n, statement_at(m, index, n));
-        n += 1;
-    }
-    ok
-}
-
 fn row_ok(d: RowRecord) -> bool
     ensures { result ≡ row_ok d }
 {
-    let mut ok = true;
-    let mut i = 0;
-    while i < 9 {
-        ok = ok & (d.codes[i] <= 8);
-        i += 1;
-    }
-    ok & d.zeros
-}
-
-fn rows_ok<'a>(m: &'a [u8], index: &'a Index, t: Totals) -> bool
-    requires starts { Starts m.now index.now }
-    requires totals_of { TotalsOf (model_of m.now) t }
-    ensures { result ≡ all_below (λ n. row_ok (row_at (model_of m.now) n)) (length (model_of m.now).rows) }
-{
-    let mut ok = true;
-    let mut n = 0;
-    while n < t.rows {
-        ok = ok & row_ok(row_at(m, index, n));
-        n += 1;
-    }
-    ok
+    d.codes.iter().all(|code| *code <= 8) & d.zeros
 }
 
 // Rule 5 over the whole model.
-pub fn fields_ok<'a>(m: &'a [u8], index: &'a Index, t: Totals) -> bool
-    requires starts { Starts m.now index.now }
-    requires totals_of { TotalsOf (model_of m.now) t }
-    ensures { result ≡ fields_ok (model_of m.now) }
+pub fn fields_ok(records: &Records) -> bool
+    ensures { result ≡ fields_ok (model_in records.now) }
 {
-    signals_ok(m, index, t)
-        & variables_ok(m, index, t)
-        & processes_ok(m, index, t)
-        & all_covered(m, index, t)
-        & drivers_ok(m, index, t)
-        & nodes_ok(m, index, t)
-        & statements_ok(m, index, t)
-        & rows_ok(m, index, t)
+    let t = records.totals;
+    (0..t.signals).all(|n| signal_ok(records.signal(n)))
+        & (0..t.variables).all(|n| variable_ok(records, records.variable(n)))
+        & (0..t.processes).all(|p| process_ok(records, p))
+        & all_covered(records)
+        & (0..t.drivers).all(|n| driver_ok(records, records.driver(n)))
+        & (0..t.nodes).all(|n| node_ok(records, records.node(n)))
+        & (0..t.statements).all(|n| statement_ok(records, n, records.statement(n)))
+        & (0..t.rows).all(|n| row_ok(records.row(n)))
 }

@@ -2,20 +2,13 @@
 // system's reason.
 #![tactic(auto)]
 
-ghost use Rattle.std.specs.Prelude.{IfOk};
+ghost use Rattle.std.specs.Prelude.{IfOk, IfSome};
 ghost use Rattle.io.specs.Counts.{IsPrefixLen};
 
 use std::fs::File;
 use std::io::{Read, Write};
 use std::rt::Files;
 use std::{io, str};
-
-// What reading a file gave: whether all went well, and how many bytes.
-#[derive(Clone, Copy)]
-pub struct Taken {
-    pub ok: bool,
-    pub count: usize,
-}
 
 // Says what failed and why, without the number that the library puts behind the system's reason. Where there is no memory to cut it, it stays.
 fn fail<R: Eprint + Alloc>(rt: &R, what: &str, why: &io::Error) {
@@ -46,6 +39,7 @@ fn text_of<'a, R: Eprint>(rt: &R, path: &'a [u8]) -> Option<&'a str> {
 }
 
 // Reads until the buffer is full, the file ends or a read fails.
+// Stays: a turn reads as much as the system gives, and `read_exact` would refuse a file that is shorter than the buffer.
 fn fill<F: Read>(file: &mut F, buf: &mut [u8]) -> io::Result<usize>
     ensures { IfOk result (λ n. IsPrefixLen n buf.new) }
 {
@@ -72,24 +66,16 @@ fn write_file<R: Files>(rt: &R, name: &str, bytes: &[u8]) -> io::Result<()> {
     file.write_all(bytes)
 }
 
-// Reads the file that the path names, as much of it as the buffer holds, or says on standard error why it cannot.
-pub fn take_file<R: Files + Eprint + Alloc>(rt: &R, path: &[u8], buf: &mut [u8]) -> Taken
-    ensures { IsPrefixLen result.count buf.new }
+// Reads the file that the path names, as much of it as the buffer holds, and answers how many bytes, or says on standard error why it cannot.
+pub fn take_file<R: Files + Eprint + Alloc>(rt: &R, path: &[u8], buf: &mut [u8]) -> Option<usize>
+    ensures { IfSome result (λ count. IsPrefixLen count buf.new) }
 {
-    let Some(name) = text_of(rt, path) else {
-        return Taken {
-            ok: false,
-            count: 0,
-        };
-    };
+    let name = text_of(rt, path)?;
     match read_file(rt, name, buf) {
-        Ok(count) => Taken { ok: true, count },
+        Ok(count) => Some(count),
         Err(why) => {
             fail(rt, name, &why);
-            Taken {
-                ok: false,
-                count: 0,
-            }
+            None
         }
     }
 }

@@ -10,6 +10,9 @@ name_ok signals variables code value =
     ∣ code is variable_code ⇒ ltb value variables
     ∣ true
 
+abbrev pub token_ok : ℕ → ℕ → Token → Bool
+token_ok signals variables (tok code value) = name_ok signals variables code value
+
 -- each token up to the end mark
 unfoldable pub names_ok : ℕ → ℕ → List Token → Bool
 names_ok signals variables [] = true

@@ -3,10 +3,11 @@
 
 ghost use Rattle.std.specs.Prelude.{◌≡◌};
 ghost use Rattle.given.specs.Given.{whole_ok};
-ghost use Rattle.given.specs.Names.{name_ok, named};
+ghost use Rattle.given.specs.Names.{token_ok, named};
+ghost use Rattle.tokens.specs.Answers.{meant, Fits};
 
 use packing::byte_or_zero;
-use tokens::{END, SIGNAL, VARIABLE, token};
+use tokens::{Lexeme, token};
 
 // Whether the bytes are as many as the three numbers say.
 pub fn whole_ok(given: &[u8]) -> bool
@@ -19,16 +20,15 @@ pub fn whole_ok(given: &[u8]) -> bool
 }
 
 // Whether a token names no signal or variable, or one of so many.
-fn name_ok(signals: usize, variables: usize, code: usize, value: usize) -> bool
-    ensures { result ≡ name_ok signals variables code value }
+fn name_ok(signals: usize, variables: usize, token: Lexeme) -> bool
+    requires { Fits token }
+    ensures { result ≡ token_ok signals variables (meant token) }
 {
-    if code == SIGNAL {
-        return value < signals;
+    match token {
+        Lexeme::Signal(n) => n < signals,
+        Lexeme::Variable(n) => n < variables,
+        _ => true,
     }
-    if code == VARIABLE {
-        return value < variables;
-    }
-    true
 }
 
 // Whether each name of a text is one of so many signals and variables.
@@ -36,15 +36,15 @@ pub fn names_ok(text: &[u8], signals: usize, variables: usize) -> bool
     ensures { result ≡ named signals variables text.now }
 {
     let mut at = 0;
+    // Stays: the next place is what the token tells, and no count says how many tokens there are.
     loop {
-        let t = token(text, at);
-        let code = t.code;
-        if code == END {
+        let found = token(text, at);
+        if found.token == Lexeme::End {
             return true;
         }
-        if !name_ok(signals, variables, code, t.value) {
+        if !name_ok(signals, variables, found.token) {
             return false;
         }
-        at = t.next;
+        at = found.next;
     }
 }

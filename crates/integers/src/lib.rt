@@ -23,6 +23,7 @@ fn rem(a: i64, b: i64) -> i64
     a % b
 }
 
+// Stays: std's `rem_euclid` gives another number, one that is never negative, where b is.
 fn modulo(a: i64, b: i64) -> i64
     requires { Divisible a b }
     ensures { result ≡ modulo a b }

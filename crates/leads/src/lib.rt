@@ -2,24 +2,22 @@
 #![tactic(auto)]
 
 ghost use Rattle.std.specs.Prelude.{◌≡◌, ◌<◌, length};
-ghost use Rattle.blocks.specs.Records.{model_of, statement_at};
-ghost use Rattle.blocks.specs.Index.{Starts};
-ghost use Rattle.blocks.specs.Totals.{TotalsOf};
+ghost use Rattle.blocks.specs.Records.{statement_at};
+ghost use Rattle.blocks.specs.Lent.{model_in};
 ghost use Rattle.model.specs.Facts.{Facts};
 ghost use Rattle.leads.specs.Leads.{constant_above0, wait_later, waits_later};
 ghost use Rattle.leads.specs.Relation.{SeenWith, SidesOf, RelationOf};
 
-use blocks::index::{Index, Totals, node_at, process_at, statement_at};
+use blocks::index::Records;
 use fields::ABSENT;
 use sets::{join, with};
 
 // Whether node n is a constant above 0.
-fn constant_above_0<'a>(m: &'a [u8], index: &'a Index, n: usize) -> bool
-    requires starts { Starts m.now index.now }
-    requires n_in_bounds { n < length (model_of m.now).nodes }
-    ensures { result ≡ constant_above0 (model_of m.now) n }
+fn constant_above_0(records: &Records, n: usize) -> bool
+    requires n_in_bounds { n < length (model_in records.now).nodes }
+    ensures { result ≡ constant_above0 (model_in records.now) n }
 {
-    let d = node_at(m, index, n);
+    let d = records.node(n);
     (d.kind == 1) & ((0 < d.k) & (d.k < 2147483648))
 }
 
@@ -31,15 +29,14 @@ struct Sides {
 }
 
 // The sets, with what statement n assigns without delay or waits on.
-fn with_statement<'a>(m: &'a [u8], index: &'a Index, n: usize, sides: Sides) -> Sides
-    requires starts { Starts m.now index.now }
-    requires facts { Facts (model_of m.now) }
-    requires n_in_bounds { n < length (model_of m.now).statements }
-    ensures { SeenWith (model_of m.now) (statement_at (model_of m.now) n) sides result }
+fn with_statement(records: &Records, n: usize, sides: Sides) -> Sides
+    requires facts { Facts (model_in records.now) }
+    requires n_in_bounds { n < length (model_in records.now).statements }
+    ensures { SeenWith (model_in records.now) (statement_at (model_in records.now) n) sides result }
 {
-    let s = statement_at(m, index, n);
+    let s = records.statement(n);
     if ((s.kind == 2) | (s.kind == 7)) | (s.kind == 6) {
-        let later = constant_above_0(m, index, s.c);
+        let later = constant_above_0(records, s.c);
         return Sides {
             assigned: with(sides.assigned, s.a, !later),
             waited: sides.waited,
@@ -55,73 +52,58 @@ fn with_statement<'a>(m: &'a [u8], index: &'a Index, n: usize, sides: Sides) -> 
 }
 
 // What process p assigns without delay and what it waits on.
-fn sides_of<'a>(m: &'a [u8], index: &'a Index, p: usize) -> Sides
-    requires starts { Starts m.now index.now }
-    requires facts { Facts (model_of m.now) }
-    requires p_in_bounds { p < length (model_of m.now).processes }
-    ensures { SidesOf (model_of m.now) p result }
+fn sides_of(records: &Records, p: usize) -> Sides
+    requires facts { Facts (model_in records.now) }
+    requires p_in_bounds { p < length (model_in records.now).processes }
+    ensures { SidesOf (model_in records.now) p result }
 {
-    let d = process_at(m, index, p);
+    let d = records.process(p);
     let mut sides = Sides {
         assigned: 0,
         waited: 0,
     };
-    let mut i = 0;
-    while i < d.count {
-        sides = with_statement(m, index, d.first + i, sides);
-        i += 1;
+    for i in 0..d.count {
+        sides = with_statement(records, d.first + i, sides);
     }
     sides
 }
 
 // A row of bits for each process: bit q of row p says that process p leads to process q.
-pub fn rows<'a>(m: &'a [u8], index: &'a Index, t: Totals) -> [u32; 16]
-    requires starts { Starts m.now index.now }
-    requires totals_of { TotalsOf (model_of m.now) t }
-    requires facts { Facts (model_of m.now) }
-    ensures { RelationOf (model_of m.now) result }
+pub fn rows(records: &Records) -> [u32; 16]
+    requires facts { Facts (model_in records.now) }
+    ensures { RelationOf (model_in records.now) result }
 {
+    // Stays: an array of `Sides` would be taken apart again for `chains::relation`, which takes sets of either kind, and knows no process.
     let mut assigns: [u32; 16] = [0; 16];
     let mut waits: [u32; 16] = [0; 16];
-    let mut p = 0;
-    while p < t.processes {
-        let sides = sides_of(m, index, p);
+    for p in 0..records.totals.processes {
+        let sides = sides_of(records, p);
         assigns[p] = sides.assigned;
         waits[p] = sides.waited;
-        p += 1;
     }
-    chains::relation(&assigns, &waits, t.processes)
+    chains::relation(&assigns, &waits, records.totals.processes)
 }
 
 // Whether statement n, where it is a wait, has no c or a constant c above 0.
-fn wait_later<'a>(m: &'a [u8], index: &'a Index, n: usize) -> bool
-    requires starts { Starts m.now index.now }
-    requires facts { Facts (model_of m.now) }
-    requires n_in_bounds { n < length (model_of m.now).statements }
-    ensures { result ≡ wait_later (model_of m.now) (statement_at (model_of m.now) n) }
+fn wait_later(records: &Records, n: usize) -> bool
+    requires facts { Facts (model_in records.now) }
+    requires n_in_bounds { n < length (model_in records.now).statements }
+    ensures { result ≡ wait_later (model_in records.now) (statement_at (model_in records.now) n) }
 {
-    let s = statement_at(m, index, n);
+    let s = records.statement(n);
     if s.kind != 5 {
         return true;
     }
     if s.c == ABSENT {
         return true;
     }
-    constant_above_0(m, index, s.c)
+    constant_above_0(records, s.c)
 }
 
 // Whether every wait has no c or a constant c above 0.
-pub fn waits_later<'a>(m: &'a [u8], index: &'a Index, t: Totals) -> bool
-    requires starts { Starts m.now index.now }
-    requires totals_of { TotalsOf (model_of m.now) t }
-    requires facts { Facts (model_of m.now) }
-    ensures { result ≡ waits_later (model_of m.now) }
+pub fn waits_later(records: &Records) -> bool
+    requires facts { Facts (model_in records.now) }
+    ensures { result ≡ waits_later (model_in records.now) }
 {
-    let mut ok = true;
-    let mut n = 0;
-    while n < t.statements {
-        ok = ok & wait_later(m, index, n);
-        n += 1;
-    }
-    ok
+    (0..records.totals.statements).all(|n| wait_later(records, n))
 }

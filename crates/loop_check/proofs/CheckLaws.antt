@@ -5,14 +5,19 @@ use mathlib.Core.List.{List, [], ◌∷◌}
 use Prim.Native.Nat.{ℕ}
 use native.Mathlib.Omega.{arith}
 use lib.Dec.{eqb}
-use lib.ListN.{length, take}
+use lib.ListN.{length}
 use borrow.Author.Tests.{eqb-true, eq-eqb, ne_eqb}
+use Rattle.base.specs.Refusals as refusals
+use Rattle.base.specs.declared.refusal.Refusal.{Refusal}
 use Rattle.base.proofs.Cases.{by_test}
 use Rattle.loops.specs.Chains.{NoChain, Asked}
 use Rattle.loops.proofs.Asked.{asked, unique, asked_same}
+use Rattle.std.proofs.Common.{Option, Ok, Err, subst}
 use Rattle.chains.specs.Rows.{arrow, Holds, Returned}
+use Rattle.chains.specs.declared.Chain.{Chain}
 use Rattle.blocks.specs.Records.{Model, model_of}
 use Rattle.model.specs.Rules.{refusal_of}
+use Rattle.model.proofs.Rules.{number_some}
 use Rattle.leads.specs.Leads.{leads_to, waits_later}
 use Rattle.leads.specs.Relation.{RelationOf}
 use Rattle.bounded.proofs.Lists.{bounded}
@@ -22,7 +27,7 @@ use Rattle.loop_check.specs.declared.Checked.{Checked}
 abbrev pub accepted_check : Model → Check
 accepted_check M = record { number = 0; chain = loop_of M; later = waits_later M }
 
-abbrev refused_check : ℕ → Check
+abbrev pub refused_check : ℕ → Check
 refused_check n = record { number = n; chain = []; later = false }
 
 module _ (m : List ℕ) where
@@ -42,25 +47,26 @@ module _ (m : List ℕ) where
   accepted h = check_accepted (sym number_of ∙ h)
 
   -- what the program gives of a refused model, and of an accepted one
-  pub refused_is : (r : Checked) → r.number ≡ refusal_of m → (r.number ≡ 0 → ⊥) → Holds [] r.chain.at r.chain.len → r.later ≡ false → CheckIs m r
-  refused_is r e f h l =
-      let k : check_of m ≡ refused_check (refusal_of m) = check_refused (λ z. f (e ∙ z)) in
-      record { number = e ∙ sym number_of; chain = rw k h; later = rw k l }
+  pub refused_is : (r : Refusal) → refusals.number_of r ≡ refusal_of m → CheckIs m (Err r)
+  refused_is r e = record { number = e ∙ sym number_of; found = tt }
 
-  pub accepted_is : (r : Checked) → refusal_of m ≡ 0 → r.number ≡ 0 → Holds (loop_of (model_of m)) r.chain.at r.chain.len
-      → r.later ≡ waits_later (model_of m) → CheckIs m r
-  accepted_is r e n h l =
+  pub accepted_is : (c : Checked) → refusal_of m ≡ 0 → Holds (loop_of (model_of m)) c.chain → c.later ≡ waits_later (model_of m) → CheckIs m (Ok c)
+  accepted_is c e h l =
       let k : check_of m ≡ accepted_check (model_of m) = check_accepted e in
-      record { number = rw k n; chain = rw k h; later = rw k l }
+      record { number = rw k refl; found = record { chain = rw k h; later = rw k l } }
+
+  -- what the check is of a model that the program refused
+  pub refused_check_of : (r : Refusal) → CheckIs m (Err r) → check_of m ≡ refused_check (refusal_of m)
+  refused_check_of r is = check_refused (λ z. omega (arith, is.number, number_of, z, number_some r))
 
 -- the rows' chain is the one of the relation
-module _ (M : Model) (rows at : List ℕ) (len : ℕ) where
-  pub chain_is : RelationOf M rows → Returned (arrow rows) (length M.processes) at len → Holds (loop_of M) at len
+module _ (M : Model) (rows : List ℕ) (r : Option Chain) where
+  pub chain_is : RelationOf M rows → Returned (arrow rows) (length M.processes) r → Holds (loop_of M) r
   unfolding loop_of
   chain_is rel ret =
       let P : ℕ = length M.processes in
-      let a : Asked (leads_to M) P (take len at) = asked_same (arrow rows) (leads_to M) P rel.at (take len at) ret.chain in
-      record { long = ret.long; few = ret.few; list = unique (leads_to M) P (take len at) _ a (asked (leads_to M) P); rest = ret.rest }
+      let a : Asked (leads_to M) P ret.processes = asked_same (arrow rows) (leads_to M) P rel.at ret.processes ret.chain in
+      subst (λ (xs : List ℕ). Holds xs r) (unique (leads_to M) P ret.processes _ a (asked (leads_to M) P)) ret.holds
 
 -- with no closed chain there is none to return
 none_left : (leads : ℕ → ℕ → Bool) (P : ℕ) (xs : List ℕ) → Asked leads P xs → NoChain leads P → xs ≡ []

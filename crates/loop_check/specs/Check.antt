@@ -1,7 +1,10 @@
 -- The check of document 02, item 11: "The check returns a closed chain of processes, or says that none exists, which it says exactly in
 -- that case. The chain has each process once and begins at the lowest process on any; it is the shortest, then the one with the lowest
 -- numbers in turn. A refused model gets its number."
-use Rattle.std.specs.Prelude.{◌≡◌, Bool, true, false, List, [], ℕ, eqb, length}
+use Rattle.std.specs.Prelude.{◌≡◌, Bool, true, false, List, [], ℕ, eqb, length, Result}
+use Rattle.std.specs.Result.{IfOk}
+use Rattle.base.specs.declared.refusal.Refusal.{Refusal}
+use Rattle.base.specs.Refusals.{told}
 use Rattle.base.specs.Cases.{◌∣◌, ◌⇒◌}
 use Rattle.loops.specs.Bound.{FewSteps}
 use Rattle.loops.specs.Chains.{NoChain, Asked}
@@ -30,11 +33,15 @@ check_of m =
     eqb (refusal_of m) 0 ⇒ record { number = 0; chain = loop_of (model_of m); later = waits_later (model_of m) }
     ∣ record { number = refusal_of m; chain = []; later = false }
 
+-- what the program found in an accepted model is the check's
+pub record Found (k : Check) (c : Checked) : Type 0 where
+  pub chain : Holds k.chain c.chain
+  pub later : c.later ≡ k.later
+
 -- what the program returned is the check
-pub record CheckIs (m : List ℕ) (r : Checked) : Type 0 where
-  pub number : r.number ≡ (check_of m).number
-  pub chain : Holds (check_of m).chain r.chain.at r.chain.len
-  pub later : r.later ≡ (check_of m).later
+pub record CheckIs (m : List ℕ) (r : Result Checked Refusal) : Type 0 where
+  pub number : told r ≡ (check_of m).number
+  pub found : IfOk r (Found (check_of m))
 
 pub record LoopLaws : Type 0 where
   -- the chain of an accepted model is the one asked for, and no other list is

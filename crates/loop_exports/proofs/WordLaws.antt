@@ -8,10 +8,21 @@ use lib.ListN.{length, get_or, set, drop, length-append, length-set, length-drop
 use Rattle.base.specs.Below.{list_below}
 use Rattle.base.specs.Cases.{◌∣◌, ◌⇒◌}
 use Rattle.base.proofs.Below.{list_none, list_more, list_length, list_same, put_next}
+use mir.Val.{bool_byte}
+use Rattle.std.proofs.Common.{Bool, true, false, refl, Some, None, Ok, Err, replicate}
+use Rattle.base.specs.declared.refusal.Refusal.{Refusal}
+use Rattle.chains.specs.Rows.{IsChain}
+use Rattle.chains.specs.declared.Chain.{Chain}
 use Rattle.chains.proofs.Held.{held_length, held_at}
+use Rattle.loop_check.proofs.CheckLaws.{refused_check_of}
 use Rattle.loop_check.specs.Check.{check_of, CheckIs}
 use Rattle.loop_check.specs.declared.Checked.{Checked}
 use Rattle.loop_exports.specs.Words.{words_of}
+
+-- a test as a word
+pub truth_is : (b : Bool) → bool_byte b ≡ (b ⇒ 1 ∣ 0)
+truth_is true = refl
+truth_is false = refl
 
 module _ (old at : List ℕ) where
   -- the first i words are written
@@ -58,10 +69,19 @@ module _ (old at : List ℕ) where
       rw (words, a, b, c, append-nil, append_assoc)
 
 -- they are those of the check
-pub check_words : (m : List ℕ) (r : Checked) → CheckIs m r
-    → list_below (λ j. get_or r.chain.at j 0) 16 ++ (r.chain.len ∷ (r.later ⇒ 1 ∣ 0) ∷ []) ≡ words_of (check_of m)
-check_words m r is =
-    let h = is.chain in
-    let d : list_below (λ j. get_or (check_of m).chain j 0) 16 ≡ list_below (λ j. get_or r.chain.at j 0) 16 =
-    list_same _ _ 16 (λ j l. sym (held_at _ r.chain.at r.chain.len h j)) in
-    rw (d, held_length _ r.chain.at r.chain.len h, is.later)
+module _ (m : List ℕ) (k : Checked) (is : CheckIs m (Ok k)) where
+  pub chain_words : (c : Chain) → k.chain ≡ Some c → list_below (λ j. get_or c.at j 0) 16 ++ (c.len ∷ (k.later ⇒ 1 ∣ 0) ∷ []) ≡ words_of (check_of m)
+  chain_words c e =
+      let h : IsChain (check_of m).chain c = rw e at is.found.chain in
+      let d : list_below (λ j. get_or (check_of m).chain j 0) 16 ≡ list_below (λ j. get_or c.at j 0) 16 =
+      list_same _ _ 16 (λ j l. sym (held_at _ c h j)) in
+      rw (d, held_length _ c h, is.found.later)
+
+  pub no_words : k.chain ≡ None → list_below (λ j. get_or (replicate 16 0) j 0) 16 ++ (0 ∷ (k.later ⇒ 1 ∣ 0) ∷ []) ≡ words_of (check_of m)
+  unfolding list_below
+  no_words e = let none : (check_of m).chain ≡ [] = rw e at is.found.chain in rw (none, is.found.later)
+
+-- and of a refused model those of no chain
+pub refused_words : (m : List ℕ) (r : Refusal) → CheckIs m (Err r) → list_below (λ j. get_or (replicate 16 0) j 0) 16 ++ (0 ∷ 0 ∷ []) ≡ words_of (check_of m)
+unfolding list_below
+refused_words m r is = rw (refused_check_of m r is)

@@ -9,24 +9,16 @@ ghost use Rattle.loop_exports.specs.Words.{words_of};
 
 use loop_check::check;
 
-fn truth(b: bool) -> u64
-    ensures { result ≡ (b ⇒ 1 ∣ 0) }
-{
-    if b { 1 } else { 0 }
-}
-
-// Writes the chain's entries, how many they are, and whether every wait is later.
-fn put_words(chain: &[usize; 16], len: usize, later: bool, out: &mut [u64])
+// Writes a chain's entries, how many of them are the chain, and whether every wait is later.
+fn put_words(entries: &[usize; 16], len: usize, later: bool, out: &mut [u64])
     requires { length out.old ≡ 18 }
-    ensures { out.new ≡ list_below (λ i. get_or chain.now i 0) 16 ++ (len ∷ (later ⇒ 1 ∣ 0) ∷ []) }
+    ensures { out.new ≡ list_below (λ i. get_or entries.now i 0) 16 ++ (len ∷ (later ⇒ 1 ∣ 0) ∷ []) }
 {
-    let mut i = 0;
-    while i < 16 {
-        out[i] = chain[i] as u64;
-        i += 1;
+    for i in 0..16 {
+        out[i] = entries[i] as u64;
     }
     out[16] = len as u64;
-    out[17] = truth(later);
+    out[17] = u64::from(later);
 }
 
 // Checks a model: its number; the first 16 words are the chain's processes (0 behind the last), then how many they are, then 1 where
@@ -36,8 +28,17 @@ pub extern "C" fn gontrafiby_loop(model: &[u8], out: &mut [u64; 18]) -> usize
     ensures value { result ≡ (check_of model.now).number }
     ensures out_after { out.new ≡ words_of (check_of model.now) }
 {
-    let r = check(model);
-    let chain = r.chain.at;
-    put_words(&chain, r.chain.len, r.later, out);
-    r.number
+    match check(model) {
+        Err(refusal) => {
+            put_words(&[0; 16], 0, false, out);
+            refusal.number()
+        }
+        Ok(checked) => {
+            match checked.chain {
+                Some(chain) => put_words(&chain.at, chain.len, checked.later, out),
+                None => put_words(&[0; 16], 0, checked.later, out),
+            }
+            0
+        }
+    }
 }

@@ -15,33 +15,31 @@ use text::put_refusal;
 // How many bytes the program has room for in its text.
 const LOOP_ROOM: usize = 512;
 
-// The first n processes of a chain, a space before each.
-fn put_processes(chain: &[usize; 16], n: usize, out: &mut [u8], at: usize) -> usize
-    requires n_bound { n ≤ 16 }
+// The processes of a chain, a space before each.
+fn put_processes(chain: &[usize], out: &mut [u8], at: usize) -> usize
+    requires chain_len { length chain.now ≤ 16 }
     requires at_le_loop_room { at ≤ loop_room }
-    ensures upper_bound { result ≤ at + n * process_most }
-    ensures puts { Puts (join_below (λ i. space ∷ decimal_of (get_or chain.now i 0)) n) out.old out.new at result }
+    ensures upper_bound { result ≤ at + length chain.now * process_most }
+    ensures puts { Puts (join_below (λ i. space ∷ decimal_of (get_or chain.now i 0)) (length chain.now)) out.old out.new at result }
 {
     let mut end = at;
-    let mut i = 0;
-    while i < n {
-        let a = put_byte(32, out, end);
-        end = put_decimal(chain[i] as u64, out, a);
-        i += 1;
+    for process in chain {
+        let a = put_byte(b' ', out, end);
+        end = put_decimal(*process as u64, out, a);
     }
     end
 }
 
-// The line of a chain of n processes; answers how many bytes it has.
-fn put_chain(chain: &[usize; 16], n: usize, out: &mut [u8]) -> usize
-    requires n_bound { n ≤ 16 }
+// The line of a chain; answers how many bytes it has.
+fn put_chain(chain: &[usize], out: &mut [u8]) -> usize
+    requires chain_len { length chain.now ≤ 16 }
     requires loop_room_in_bounds { loop_room ≤ length out.old }
     ensures upper_bound { result ≤ length out.new }
-    ensures out_after { take result out.new ≡ chain_word ++ (join_below (λ i. space ∷ decimal_of (get_or chain.now i 0)) n ++ (line_feed ∷ [])) }
+    ensures out_after { take result out.new ≡ chain_word ++ (join_below (λ i. space ∷ decimal_of (get_or chain.now i 0)) (length chain.now) ++ (line_feed ∷ [])) }
 {
     let a = put(b"chain", out, 0);
-    let b = put_processes(chain, n, out, a);
-    put_byte(10, out, b)
+    let b = put_processes(chain, out, a);
+    put_byte(b'\n', out, b)
 }
 
 // The line of no chain; answers how many bytes it has.
@@ -65,15 +63,11 @@ pub fn print(model: &[u8], out: &mut [u8; LOOP_ROOM]) -> usize
     ensures prints { Prints (loop_text model.now) out.new result }
     ensures model_room_suffices { ModelRoomSuffices }
 {
-    let r = check(model);
-    let number = r.number;
-    if number != 0 {
-        return put_refusal(number, out);
+    match check(model) {
+        Err(refusal) => put_refusal(refusal.number(), out),
+        Ok(checked) => match checked.chain {
+            Some(chain) => put_chain(&chain.at[..chain.len], out),
+            None => put_none(out),
+        },
     }
-    let n = r.chain.len;
-    if n == 0 {
-        return put_none(out);
-    }
-    let chain = r.chain.at;
-    put_chain(&chain, n, out)
 }

@@ -7,12 +7,10 @@ use text::model_room;
 
 fn main(rt: HostRuntime) {
     let mut model = model_room();
-    let m = take_file(&rt, b"model", &mut model);
-    if !m.ok {
+    let Some(model_length) = take_file(&rt, b"model", &mut model) else {
         return;
-    }
-    let a = m.count;
+    };
     let mut text = loop_room();
-    let n = print(&model[..a], &mut text);
+    let n = print(&model[..model_length], &mut text);
     print_bytes(&rt, &text[..n]);
 }

@@ -2,41 +2,41 @@
 #![tactic(auto)]
 
 ghost use Rattle.std.specs.Prelude.{◌≡◌, ◌≤◌};
+ghost use Rattle.base.specs.Refusals.{told};
 ghost use Rattle.members.specs.Members.{pick_refusal, set_refusal, stopped_in};
 
+use base::refusal::Refusal;
 use rules::{READY, STOPPED};
 use sets::has;
 
-// The refusal of a pick of process p, or 0.
-pub fn pick_refusal(standings: &[usize; 16], nprocesses: usize, p: usize) -> usize
+// The refusal of a pick of process p.
+pub fn pick_refusal(standings: &[usize; 16], nprocesses: usize, p: usize) -> Result<(), Refusal>
     requires { nprocesses ≤ 16 }
-    ensures { result ≡ pick_refusal standings.now nprocesses p }
+    ensures { told result ≡ pick_refusal standings.now nprocesses p }
 {
     if p >= nprocesses {
-        return 12;
+        return Err(Refusal::NoProcess);
     }
     if standings[p] != READY {
-        return 13;
+        return Err(Refusal::NotReady);
     }
-    0
+    Ok(())
 }
 
-// The refusal of a pick of each process of the set, or 0.
-pub fn set_refusal(standings: &[usize; 16], nprocesses: usize, set: usize) -> usize
-    ensures { result ≡ set_refusal standings.now nprocesses set }
+// The refusal of a pick of each process of the set.
+pub fn set_refusal(standings: &[usize; 16], nprocesses: usize, set: usize) -> Result<(), Refusal>
+    ensures { told result ≡ set_refusal standings.now nprocesses set }
 {
-    let mut refusal = 0;
-    let mut p = 0;
-    while p < 16 {
+    let mut refusal = Ok(());
+    for p in 0..16 {
         if has(set, p) {
             if p >= nprocesses {
-                return 12;
+                return Err(Refusal::NoProcess);
             }
             if standings[p] != READY {
-                refusal = 13;
+                refusal = Err(Refusal::NotReady);
             }
         }
-        p += 1;
     }
     refusal
 }
@@ -45,12 +45,5 @@ pub fn set_refusal(standings: &[usize; 16], nprocesses: usize, set: usize) -> us
 pub fn any_stopped(standings: &[usize; 16], set: usize) -> bool
     ensures { result ≡ stopped_in standings.now set }
 {
-    let mut p = 0;
-    while p < 16 {
-        if has(set, p) & (standings[p] == STOPPED) {
-            return true;
-        }
-        p += 1;
-    }
-    false
+    (0..16).any(|p| has(set, p) & (standings[p] == STOPPED))
 }

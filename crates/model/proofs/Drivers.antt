@@ -9,6 +9,7 @@ use native.Mathlib.Omega.{arith}
 use borrow.Author.Tests.{eqb-true, ltb-true, leb-true, eq-eqb}
 use lib.Dec.{eqb, ltb}
 use lib.ListN.{length}
+use mir.Val.{bool_byte}
 use Rattle.base.specs.Cases.{◌∣◌, ◌⇒◌}
 use Rattle.base.specs.Course.{first_with}
 use Rattle.base.proofs.Below.{every_at, all_at, and_left, and_right, sum_below_lem, or_cases}
@@ -23,6 +24,11 @@ and_fails : (a b : Bool) → (a ≡ true → b ≡ true → ⊥) → (a && b) �
 and_fails true true h = absurd (h refl refl)
 and_fails true false h = refl
 and_fails false b h = refl
+
+-- one that passes counts 1
+pub counted : (b : Bool) → bool_byte b ≡ (b ⇒ 1 ∣ 0)
+counted true = refl
+counted false = refl
 
 module _ (M : Model) where
   -- the test that finds the driver of process p for signal s

@@ -7,7 +7,7 @@ use borrow.Author.Count.{below_more}
 use lib.Dec.{lit≤}
 use lib.ListN.{length, get_or, set}
 use lib.Seq.{get_or-set_same, get_or-set_other}
-use Rattle.blocks.specs.Index.{types_at, assignments_at, table_at, placed}
+use Rattle.blocks.specs.Index.{types_at, assignments_at, table_at, placed, Starts}
 use Rattle.blocks.specs.Records.{model_of, statement_at}
 use Rattle.blocks.proofs.Lookup.{nodes_most, statements_most}
 use Rattle.blocks.proofs.Places.{placed_before}
@@ -36,11 +36,14 @@ module _ (m before after : List ℕ) (d : DriversIn m before) (e : after ≡ pla
   pub table_put : TableIn m after
   table_put = table_placed m before after d.types.size e
 
+  pub table_starts : Starts m after
+  table_starts = starts_kept m before after d.types.starts (λ i h. same i (omega arith))
+
   pub usable : Accepted (model_of m) → Usable m after
   usable a =
       let s = d.types.starts in
       record {
-        starts = starts_kept m before after s (λ i h. same i (omega arith));
+        starts = table_starts;
         accepted = a;
         type = λ k h. same (types_at + k) (omega (arith, nodes_most (model_of m) s.totals)) ∙ d.types.type k h;
         driver = λ k h. same (assignments_at + k) (omega (arith, statements_most (model_of m) s.totals)) ∙ d.driver k h;

@@ -77,5 +77,5 @@ module _ (M : Model) (p n : ℕ) where
       }
 
 -- what a call on a lower node asks, from what the function is given
-pub recur : {S F T : Type 0} {n t k N : ℕ} → (n ≡ t) × (S × (F × (T × (n < N)))) → k < n → (k < t) × (S × (F × (T × (k < N))))
-recur h l = (rw h.0 at l, (h.1.0, (h.1.1.0, (h.1.1.1.0, omega (arith, h.1.1.1.1)))))
+pub recur : {F T : Type 0} {n t k N : ℕ} → n ≡ t → F → T → n < N → k < n → (k < t) × (F × (T × (k < N)))
+recur e f t h l = (rw e at l, (f, (t, omega arith)))

@@ -1,7 +1,7 @@
 -- The laws of rules 8 and 20 as the code works them out, of what was read of a statement, a signal or the drivers. Assumes nothing.
 use mathlib.Core.Path.{◌≡◌}
 use mathlib.Core.Bool.{Bool, true, not, ◌&&◌, ◌||◌}
-use mathlib.Core.Logic.{◌⊎◌, inl, inr, ⊎_elim}
+use mathlib.Core.Logic.{◌⊎◌, ⊎_elim}
 use Prim.Native.Nat.{ℕ, ◌≤◌}
 use native.Mathlib.Omega.{arith}
 use lib.Dec.{eqb, leb, ltb}
@@ -44,11 +44,11 @@ module _ (M : Model) (s u : StatementRecord) (e : s ≡ u) where
     pub driver_named : (d : ℕ) → d ≡ driver_for M p s.a → d ≡ driver_for M o u.a
     driver_named d q = rw (← e, ← f) q
 
-  pub other_owned : (o : ℕ) → (s.kind ≡ 1 → ⊥) → ((s.kind ≡ 2) ⊎ (s.kind ≡ 7) → ⊥) → (s.kind ≡ 3 → ⊥) → (s.kind ≡ 5 → ⊥) → (s.kind ≡ 6 → ⊥) → true ≡ statement_owned M o u
+  pub other_owned : (o : ℕ) → (s.kind ≡ 1 → ⊥) → (s.kind ≡ 2 → ⊥) → (s.kind ≡ 7 → ⊥) → (s.kind ≡ 3 → ⊥) → (s.kind ≡ 5 → ⊥) → (s.kind ≡ 6 → ⊥) → true ≡ statement_owned M o u
   unfolding statement_owned
-  other_owned o f g h i j =
+  other_owned o f g l h i j =
       let k = s.kind in
-      rw (← e, ne_eqb k 1 f, ne_eqb k 2 (λ x. g (inl x)), ne_eqb k 7 (λ x. g (inr x)), ne_eqb k 3 h, ne_eqb k 5 i, ne_eqb k 6 j)
+      rw (← e, ne_eqb k 1 f, ne_eqb k 2 g, ne_eqb k 7 l, ne_eqb k 3 h, ne_eqb k 5 i, ne_eqb k 6 j)
 
   pub not_null : (s.kind ≡ 6 → ⊥) → true ≡ null_ok M u
   unfolding null_ok

@@ -1,76 +1,104 @@
 // Loading a model: the first of its rules that it breaks, or its totals and index.
 ghost use Rattle.std.specs.Prelude.{◌≡◌, length};
+ghost use Rattle.base.specs.Refusals.{told};
 ghost use Rattle.blocks.specs.Records.{model_of};
 ghost use Rattle.blocks.specs.Index.{index_size, Starts};
 ghost use Rattle.blocks.specs.Totals.{TotalsOf};
 ghost use Rattle.model.specs.Rules.{refusal_of};
-ghost use Rattle.model.specs.Index.{Judged, LoadedIs};
+ghost use Rattle.model.specs.Index.{Judged, LoadedOf, LoadedIs};
 
 use crate::nulls::nulls_ok;
 use crate::owners::owners_ok;
-use blocks::blocks::{blocks_refusal, put_index, totals};
-use blocks::index::{INDEX_SIZE, Index, Totals};
+use base::refusal::Refusal;
+use blocks::blocks::{check_blocks, put_index, totals};
+use blocks::index::{INDEX_SIZE, Index, Records, Totals};
 use fields::fields_ok;
-use tables::{put_table, table_refusal};
+use tables::{check_table, put_table};
 use trees::trees::trees_ok;
 use trees::types::types_ok;
 
-// What loading gives: the refusal's number or 0, and with 0 the totals and the index (specs/Index).
+// A loaded model's totals and index (specs/Index).
 #[derive(Drop)]
 pub struct Loaded {
-    pub refusal: usize,
     pub totals: Totals,
     pub index: Index,
 }
 
-// The first rule of the records that fails (5 to 8, then 20, 24 and 25), or 0, and then an index to use.
-fn model_refusal(m: &[u8], index: &mut Index, t: Totals) -> usize
+impl Loaded {
+    // The records of the model that was loaded.
+    pub fn records<'a>(&'a self, bytes: &'a [u8]) -> Records<'a>
+        requires { LoadedOf bytes.now self.now }
+        ensures lent { (result.bytes.now ≡ bytes.now) × (result.index.now ≡ self.now.index) × (result.totals ≡ self.now.totals) }
+    {
+        Records {
+            bytes: bytes,
+            index: &self.index,
+            totals: self.totals,
+        }
+    }
+}
+
+// The first rule of the records that fails (5 to 8, then 20, 24 and 25), or an index to use.
+// Stays: here and in what it calls that writes, bytes, index and totals apart, since `Records` lends the index to readers alone.
+fn check_records(m: &[u8], index: &mut Index, t: Totals) -> Result<(), Refusal>
     requires index_len { length index.old ≡ index_size }
     requires starts { Starts m.now index.old }
     requires totals_of { TotalsOf (model_of m.now) t }
     ensures { Judged m.now index.new result }
 {
-    if !fields_ok(m, index, t) {
-        return 5;
+    let records = Records {
+        bytes: m,
+        index: &*index,
+        totals: t,
+    };
+    if !fields_ok(&records) {
+        return Err(Refusal::Fields);
     }
-    if !trees_ok(m, index, t) {
-        return 6;
+    if !trees_ok(&records) {
+        return Err(Refusal::Trees);
     }
     if !types_ok(m, index, t) {
-        return 7;
+        return Err(Refusal::Types);
     }
     if !owners_ok(m, index, t) {
-        return 8;
+        return Err(Refusal::Owners);
     }
-    if !nulls_ok(m, index, t) {
-        return 20;
+    let records = Records {
+        bytes: m,
+        index: &*index,
+        totals: t,
+    };
+    if !nulls_ok(&records) {
+        return Err(Refusal::NullOnPlain);
     }
     put_table(m, index, t);
-    table_refusal(m, index, t)
+    let records = Records {
+        bytes: m,
+        index: &*index,
+        totals: t,
+    };
+    check_table(&records)
 }
 
-// The number of the refusal, and with 0 the model's totals and index.
-pub fn load(m: &[u8]) -> Loaded
+// The model's totals and index, or the first rule that it breaks.
+pub fn load(m: &[u8]) -> Result<Loaded, Refusal>
     ensures { LoadedIs m.now result }
 {
     let t = totals(m);
+    check_blocks(m, t)?;
     let mut index = [0u16; INDEX_SIZE];
-    let mut refusal = blocks_refusal(m, t);
-    if refusal == 0 {
-        put_index(m, &mut index);
-        refusal = model_refusal(m, &mut index, t);
-    }
-    Loaded {
-        refusal: refusal,
+    put_index(m, &mut index);
+    check_records(m, &mut index, t)?;
+    Ok(Loaded {
         totals: t,
         index: index,
-    }
+    })
 }
 
-// The number of the first rule that the model breaks, or 0.
-pub fn judge(m: &[u8]) -> usize
-    ensures { result ≡ refusal_of m.now }
+// The first rule that the model breaks.
+pub fn judge(m: &[u8]) -> Result<(), Refusal>
+    ensures { told result ≡ refusal_of m.now }
 {
-    let l = load(m);
-    l.refusal
+    load(m)?;
+    Ok(())
 }

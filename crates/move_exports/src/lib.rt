@@ -10,5 +10,8 @@ pub extern "C" fn gontrafiby_move(model: &[u8], orders: &[u8], moved: &mut [u8])
     ensures value { result ≡ (moved_of model.now orders.now moved.old).number }
     ensures moved_after { moved.new ≡ (moved_of model.now orders.now moved.old).buffer }
 {
-    moving::move_over(model, orders, moved)
+    match moving::move_over(model, orders, moved) {
+        Ok(()) => 0,
+        Err(refusal) => refusal.number(),
+    }
 }

@@ -7,7 +7,7 @@ use native.Mathlib.Omega.{arith}
 use borrow.Author.Tests.{eq-eqb, ne_eqb}
 use borrow.Rule.Slice.PartMut.{put_mid}
 use lib.Dec.{eqb}
-use lib.ListN.{length, set, take, drop}
+use lib.ListN.{length, take, drop}
 use Rattle.base.specs.Bytes.{byte_at}
 use Rattle.base.proofs.Below.{or_left, or_right}
 use Rattle.base.proofs.Cases.{by_test, either_way}
@@ -22,15 +22,6 @@ use Rattle.moving.specs.Before.{performed_before}
 use Rattle.moving.specs.Moving.{same_answer, with_kind, moved_order, moved_over, MovedAt}
 use Rattle.moving.specs.declared.Moved.{Moved}
 use Rattle.moving.proofs.OrderTwo.{order_is, told_delta, told_time}
-
--- four bytes are written
-pub four_set : (xs : List ℕ) (a b c d : ℕ) → length xs ≡ 4 → set (set (set (set xs 0 a) 1 b) 2 c) 3 d ≡ a ∷ b ∷ c ∷ d ∷ []
-four_set (x ∷ y ∷ z ∷ w ∷ []) a b c d h = refl
-four_set [] a b c d h = absurd (omega arith)
-four_set (x ∷ []) a b c d h = absurd (omega arith)
-four_set (x ∷ y ∷ []) a b c d h = absurd (omega arith)
-four_set (x ∷ y ∷ z ∷ []) a b c d h = absurd (omega arith)
-four_set (x ∷ y ∷ z ∷ w ∷ v ∷ xs) a b c d h = absurd (omega arith)
 
 -- one order, played by its four bytes
 module _ {M : Model} {k a l h : ℕ} {v e : Configuration} {b : List ℕ} (p : PlayedTo M (k ∷ a ∷ l ∷ h ∷ []) v e b) where

@@ -20,25 +20,17 @@ pub(crate) fn decimal(n: u64, text: &mut [u8; 20]) -> usize
 pub(crate) fn binary_places(x: u32) -> usize
     ensures { result ≡ places_in 2 31 x }
 {
-    let n = x as u64;
-    let mut k = 1;
-    let mut limit: u64 = 2;
-    while limit <= n {
-        limit = 2 * limit;
-        k += 1;
-    }
-    k
+    x.max(1).ilog2() as usize + 1
 }
 
-// Writes the last digits of a number in base two over the whole slice.
+// Writes the last digits of a number in base two over the whole slice, the last one first.
 pub(crate) fn put_binary(x: u32, out: &mut [u8])
     ensures { out.new ≡ last_digits 2 (length out.old) x }
 {
+    let n = out.len();
     let mut rest = x;
-    let mut i = out.len();
-    while i > 0 {
-        i -= 1;
-        out[i] = (48 + rest % 2) as u8;
-        rest = rest / 2;
+    for k in 0..n {
+        out[n - 1 - k] = b'0' + (rest % 2) as u8;
+        rest /= 2;
     }
 }

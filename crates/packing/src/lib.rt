@@ -1,7 +1,7 @@
 // Records put into blocks: each kind in blocks of its own, all full but the last of a kind.
 #![tactic(auto)]
 
-ghost use Rattle.std.specs.Prelude.{◌≡◌, ◌+◌, ◌*◌, ◌/◌, ◌≤◌, ◌<◌, min, length};
+ghost use Rattle.std.specs.Prelude.{◌≡◌, ◌+◌, ◌*◌, ◌/◌, ◌≤◌, ◌<◌, length};
 ghost use Rattle.std.proofs.lemmas.List.Edits.{sets};
 ghost use Rattle.base.specs.Below.{sum_below};
 ghost use Rattle.base.specs.Bytes.{word_at, ByteIs};
@@ -36,10 +36,8 @@ fn words(block: &[u8]) -> usize
     ensures { result ≡ sum_below (λ i. word_at block.now (2 * i)) 255 }
 {
     let mut sum = 0;
-    let mut i = 0;
-    while i < 255 {
+    for i in 0..255 {
         sum += word(block, 2 * i);
-        i += 1;
     }
     sum
 }
@@ -50,21 +48,12 @@ fn put_block(out: &mut [u8], b: usize, kind: usize, r: &[u8])
     requires b_bound { (b < 65536) × (kind < 256) × (length r.now ≤ 504) }
     ensures { out.new ≡ block_of b (record { kind = kind; bytes = r.now }) }
 {
-    let mut i = 0;
-    while i < 510 {
+    for i in 0..510 {
         out[i] = block_byte(b, kind, r, i) as u8;
-        i += 1;
     }
     let last = (65537 - words(out) % 65536) % 65536;
     out[510] = (last % 256) as u8;
     out[511] = (last / 256) as u8;
-}
-
-// The lower of two numbers.
-fn lower(x: usize, y: usize) -> usize
-    ensures { result ≡ min x y }
-{
-    if x <= y { x } else { y }
 }
 
 // Writes the blocks of one kind's records, numbered from b on, and answers the number behind them.
@@ -74,13 +63,11 @@ fn put_kind(out: &mut [u8], b: usize, kind: usize, r: &[u8]) -> usize
     ensures out_after { out.new ≡ sets out.old (512 * b) (blocks_from b (pages_of kind r.now)) }
 {
     let n = (r.len() / 12 + 41) / 42;
-    let mut j = 0;
-    while j < n {
+    for j in 0..n {
         let from = 504 * j;
-        let end = lower(from + 504, r.len());
+        let end = r.len().min(from + 504);
         let to = 512 * (b + j);
         put_block(&mut out[to..to + 512], b + j, kind, &r[from..end]);
-        j += 1;
     }
     b + n
 }

@@ -8,25 +8,24 @@ use Prim.Native.Nat.{ℕ, suc, ◌+◌, ◌*◌, ◌-◌, ◌≤◌, ◌<◌}
 use native.Mathlib.Nat.{add-zero, add_assoc}
 use native.Mathlib.Numerals.{add-one}
 use native.Mathlib.Omega.{arith}
-use lib.Dec.{eqb}
-use borrow.Author.Tests.{eqb-true, eqb-false}
 use lib.ListN as ListN
 use lib.ListN.{length, get_or, length-append}
-use Rattle.base.specs.Cases.{◌∣◌, ◌⇒◌}
-use Rattle.base.proofs.Cases.{either_way}
 use lib.Seq.{sets}
+use Rattle.std.specs.Prelude.{Option, Some, None, MatchOption}
 use Rattle.blocks.specs.declared.records.NodeRecord.{NodeRecord}
 use Rattle.grammar.specs.Tokens.{Token, word, from, NoWord}
 use Rattle.tokens.specs.Answers.{FoundWord}
 use Rattle.grammar.specs.Words.{closing, operator_of}
 use Rattle.grammar.specs.Grammar.{Expression, unary, binary, Says}
 use Rattle.grammar.specs.Made.{node, nodes_in, nodes_of, signals_in, set_with, root_of}
-use Rattle.grammar.proofs.MadeLaws.{length_nodes_of, nodes_in_some, set_append}
+use Rattle.grammar.proofs.MadeLaws.{length_nodes_of, set_append}
 use Rattle.writing.specs.Written.{record_bytes, node_bytes}
 use Rattle.writing.proofs.WriteLaws.{nodes_behind}
-use Rattle.phrases.specs.Groups.{Group, prefix, left, right, Closes, closed, closes_prefix, closes_left, closes_right, Awaits, group_nodes, nodes_of_groups, signals_in_groups, packed, opened, is_prefix, Fits, closed_node, Stacked, bottom, on_top}
+use Rattle.phrases.specs.Groups.{Group, prefix, left, right, Closes, closed, closes_prefix, closes_left, closes_right, Awaits, group_nodes, nodes_of_groups, signals_in_groups, held, opened, Stacked, bottom, on_top}
 use Rattle.phrases.specs.Phrases.{FoundExpression, NoExpression, FoundOperator, NoOperator, FoundLeaf, leaf_signals, FoundGroup}
-use Rattle.phrases.proofs.Stacks.{stacked_more, top_left, prefix_small, closed_prefix, closed_right}
+use Rattle.phrases.specs.declared.Open.{Open}
+use Rattle.phrases.specs.declared.Open.TheVariants.{Prefix, First, Second}
+use Rattle.phrases.proofs.Stacks.{stacked_more, held_first, held_prefix, held_second}
 
 pub length_groups : (m : ℕ) (gs : List Group) → length (nodes_of_groups m gs) ≡ group_nodes gs
 unfolding nodes_of_groups group_nodes
@@ -41,7 +40,7 @@ one_node d = sym (append-nil _)
 
 module _ (text : List ℕ) (at m : ℕ) (out : List ℕ) where
   -- an operand is awaited at i: an expression from `at` on is one that goes on there
-  pub record Wanting (i n set depth : ℕ) (stack new : List ℕ) : Type 0 where
+  pub record Wanting (i n set depth : ℕ) (stack : List Open) (new : List ℕ) : Type 0 where
     pub groups : List Group
     pub down : (t : Expression) (r : List Token) → Says t (from text at) r → Awaits groups t (from text i) r
     pub up : (t : Expression) (r : List Token) → Awaits groups t (from text i) r → Says t (from text at) r
@@ -51,7 +50,7 @@ module _ (text : List ℕ) (at m : ℕ) (out : List ℕ) where
     pub written : new ≡ sets out (12 * m) (node_bytes (nodes_of_groups m groups))
 
   -- an operand has been read up to i
-  pub record Having (groups : List Group) (tree : Expression) (i n set depth : ℕ) (stack new : List ℕ) : Type 0 where
+  pub record Having (groups : List Group) (tree : Expression) (i n set depth : ℕ) (stack : List Open) (new : List ℕ) : Type 0 where
     pub down : (t : Expression) (r : List Token) → Says t (from text at) r → Closes groups tree t (from text i) r
     pub up : (t : Expression) (r : List Token) → Closes groups tree t (from text i) r → Says t (from text at) r
     pub stacked : Stacked stack m depth groups
@@ -59,7 +58,7 @@ module _ (text : List ℕ) (at m : ℕ) (out : List ℕ) where
     pub signals : set ≡ set_with 0 (signals_in_groups groups ++ signals_in tree)
     pub written : new ≡ sets out (12 * m) (node_bytes (nodes_of_groups m groups ++ nodes_of (m + group_nodes groups) tree))
 
-  pub record Has (i n set depth : ℕ) (stack new : List ℕ) : Type 0 where
+  pub record Has (i n set depth : ℕ) (stack : List Open) (new : List ℕ) : Type 0 where
     pub groups : List Group
     pub tree : Expression
     pub having : Having groups tree i n set depth stack new
@@ -73,7 +72,7 @@ awaits_whole {t} {s} {r} a =
     let (same, rest) = closed_whole a.closes in
     subst (λ u. Says u s r) same (subst (λ l. Says a.tree s l) rest a.says)
 
-pub wanting_first : (text : List ℕ) (at m : ℕ) (stack out : List ℕ) → Wanting text at m out at m 0 0 stack out
+pub wanting_first : (text : List ℕ) (at m : ℕ) (stack : List Open) (out : List ℕ) → Wanting text at m out at m 0 0 stack out
 unfolding group_nodes nodes_of_groups signals_in_groups set_with node_bytes
 wanting_first text at m stack out = record {
   groups = [];
@@ -86,7 +85,7 @@ wanting_first text at m stack out = record {
 }
 
 -- an expression of one node
-pub leaf_read : {text : List ℕ} {at m i n set depth kind a k next set' : ℕ} {stack out new new' : List ℕ} → Wanting text at m out i n set depth stack new
+pub leaf_read : {text : List ℕ} {at m i n set depth kind a k next set' : ℕ} {stack : List Open} {out new new' : List ℕ} → Wanting text at m out i n set depth stack new
     → FoundLeaf text (from text i) kind a k next → set' ≡ set_with set (leaf_signals kind a) → new' ≡ sets new (12 * n) (record_bytes kind a 0 0 k)
     → Has text at m out next (n + 1) set' depth stack new'
 leaf_read {text} {m} {n} {kind} {a} {k} {next} {out} {new} w f e g =
@@ -111,27 +110,17 @@ leaf_read {text} {m} {n} {kind} {a} {k} {next} {out} {new} w f e g =
     }
 
 -- a group that opens
-group_nodes_lem : (kind m : ℕ) (gs : List Group)
-    → (group_nodes (opened kind ∷ gs) ≡ group_nodes gs) × (nodes_of_groups m (opened kind ∷ gs) ≡ nodes_of_groups m gs) × (signals_in_groups (opened kind ∷ gs) ≡ signals_in_groups gs)
-unfolding opened group_nodes nodes_of_groups signals_in_groups
-group_nodes_lem kind m gs = (elim (eqb kind 0) as (λ b. let g = (b ⇒ left ∣ prefix kind) in (group_nodes (g ∷ gs) ≡ group_nodes gs) × (nodes_of_groups m (g ∷ gs) ≡ nodes_of_groups m gs) × (signals_in_groups (g ∷ gs) ≡ signals_in_groups gs)) [
-  | true ↦ (refl, refl, refl)
-  | false ↦ (refl, refl, refl)
-])
+group_nodes_lem : (before : Option ℕ) (m : ℕ) (gs : List Group)
+    → (group_nodes (opened before ∷ gs) ≡ group_nodes gs) × (nodes_of_groups m (opened before ∷ gs) ≡ nodes_of_groups m gs) × (signals_in_groups (opened before ∷ gs) ≡ signals_in_groups gs)
+unfolding group_nodes nodes_of_groups signals_in_groups
+group_nodes_lem None m gs = (refl, refl, refl)
+group_nodes_lem (Some kind) m gs = (refl, refl, refl)
 
-opened_packed : (kind m : ℕ) (gs : List Group) → kind ≡ packed m gs (opened kind)
-unfolding opened packed
-opened_packed kind m gs = (elim (eqb kind 0) as (λ b. eqb kind 0 ≡ b → kind ≡ packed m gs (b ⇒ left ∣ prefix kind)) [
-  | true ↦ λ e. eqb-true kind 0 e
-  | false ↦ λ e. refl
-]) refl
-
-opened_fits : (kind : ℕ) → (kind ≢ 0 → is_prefix kind ≡ true) → Fits (opened kind)
-unfolding opened
-opened_fits kind h = (elim (eqb kind 0) as (λ b. eqb kind 0 ≡ b → Fits (b ⇒ left ∣ prefix kind)) [
-  | true ↦ λ e. tt
-  | false ↦ λ e. h (eqb-false kind 0 e)
-]) refl
+-- what is put on the stack for it, o
+pub opened_held : {o : Open} {P : ℕ → Type 0} (before : Option ℕ) (m : ℕ) (gs : List Group) → MatchOption before (o ≡ First) P → ((kind : ℕ) → P kind → o ≡ Prefix kind) → o ≡ held m gs (opened before)
+unfolding held
+opened_held None m gs e k = e
+opened_held (Some kind) m gs e k = k kind e
 
 -- what closes a group and then others
 through : {gs : List Group} {e u t : Expression} {s v r : List Token} → Closes [] e u s v → Closes gs u t v r → Closes gs e t s r
@@ -154,14 +143,14 @@ inner (closes_prefix c) = record { whole = _; rest = _; first = closes_prefix cl
 inner (closes_left n b c) = record { whole = _; rest = _; first = closes_left n b closed; others = c }
 inner (closes_right c) = record { whole = _; rest = _; first = closes_right closed; others = c }
 
-pub group_opened : {text : List ℕ} {at m i n set depth kind next : ℕ} {stack stack' out new : List ℕ} → Wanting text at m out i n set depth stack new
-    → FoundGroup text (from text i) kind next → depth < length stack → stack' ≡ ListN.set stack depth kind
+pub group_opened : {text : List ℕ} {at m i n set depth next : ℕ} {before : Option ℕ} {o : Open} {stack stack' : List Open} {out new : List ℕ} → Wanting text at m out i n set depth stack new
+    → FoundGroup text (from text i) before next → depth < length stack → ((gs : List Group) → o ≡ held m gs (opened before)) → stack' ≡ ListN.set stack depth o
     → Wanting text at m out next n set (depth + 1) stack' new
-group_opened {m} {depth} {kind} {stack} {out} w f less e =
+group_opened {m} {depth} {before} {stack} {out} w f less k e =
     let gs = w.groups in
-    let (nodes, made, signals) = group_nodes_lem kind m gs in
+    let (nodes, made, signals) = group_nodes_lem before m gs in
     record {
-      groups = opened kind ∷ gs;
+      groups = opened before ∷ gs;
       down = λ t r h.
           let x = w.down t r h in
           let y = f.down x.tree x.rest x.says in
@@ -169,26 +158,25 @@ group_opened {m} {depth} {kind} {stack} {out} w f less e =
       up = λ t r a.
           let y = inner a.closes in
           w.up t r (record { tree = y.whole; rest = y.rest; says = f.up y.whole y.rest (record { tree = a.tree; rest = a.rest; says = a.says; closes = y.first }); closes = y.others });
-      stacked = rw (e, add-one) (stacked_more (opened kind) less (opened_fits kind f.fits) (opened_packed kind m gs) w.stacked);
+      stacked = rw (e, add-one) (stacked_more (opened before) less (k gs) w.stacked);
       counted = w.counted ∙ ap (λ x. m + x) (sym nodes);
       signals = w.signals ∙ ap (λ l. set_with 0 l) (sym signals);
       written = w.written ∙ ap (λ l. sets out (12 * m) (node_bytes l)) (sym made);
     }
 
 -- the group on top
-record Top (stack : List ℕ) (m depth : ℕ) (groups : List Group) : Type 0 where
+record Top (stack : List Open) (m depth : ℕ) (groups : List Group) : Type 0 where
   pub group : Group
   pub others : List Group
   pub all : groups ≡ group ∷ others
-  pub fits : Fits group
-  pub entry : get_or stack (depth - 1) 0 ≡ packed m others group
+  pub entry : get_or stack (depth - 1) First ≡ held m others group
   pub below : Stacked stack m (depth - 1) others
 
-top : {stack : List ℕ} {m depth : ℕ} {groups : List Group} → Stacked stack m depth groups → 0 < depth → Top stack m depth groups
+top : {stack : List Open} {m depth : ℕ} {groups : List Group} → Stacked stack m depth groups → 0 < depth → Top stack m depth groups
 top bottom h = absurd (omega arith)
-top {stack} {m} (on_top {depth} {g} {gs} f e s) h =
+top {stack} {m} (on_top {depth} {g} {gs} e s) h =
     let same : depth ≡ suc depth - 1 = omega arith in
-    record { group = g; others = gs; all = refl; fits = f; entry = subst (λ d. get_or stack d 0 ≡ packed m gs g) same e; below = subst (λ d. Stacked stack m d gs) same s }
+    record { group = g; others = gs; all = refl; entry = subst (λ d. get_or stack d First ≡ held m gs g) same e; below = subst (λ d. Stacked stack m d gs) same s }
 
 closes_operator : {gs : List Group} {e t : Expression} {s r : List Token} → Closes (left ∷ gs) e t s r → (c : ℕ) × (u : List Token) × (operator_of c ≢ 0) × (s ≡ word c ∷ u)
 closes_operator (closes_left n b c) = (_, _, n, refl)
@@ -201,27 +189,26 @@ before_rest : {gs : List Group} {c : ℕ} {e f t : Expression} {s u r : List Tok
 before_rest n h (closes_right c) = closes_left n h c
 
 -- an operator after the first operand
-pub operator_read : {text : List ℕ} {at m i n set depth kind next : ℕ} {stack stack' out new : List ℕ} → Has text at m out i n set depth stack new → 0 < depth
-    → depth ≤ length stack → get_or stack (depth - 1) 0 ≡ 0 → FoundOperator text i kind next → stack' ≡ ListN.set stack (depth - 1) (kind + 32 * (n - 1))
+pub operator_read : {text : List ℕ} {at m i n set depth kind next : ℕ} {stack stack' : List Open} {out new : List ℕ} → Has text at m out i n set depth stack new → 0 < depth
+    → depth ≤ length stack → get_or stack (depth - 1) First ≡ First → FoundOperator text i kind next → stack' ≡ ListN.set stack (depth - 1) (Second kind (n - 1))
     → Wanting text at m out next n set depth stack' new
-unfolding group_nodes nodes_of_groups signals_in_groups packed
+unfolding group_nodes nodes_of_groups signals_in_groups held
 operator_read {text} {at} {m} {i} {n} {set} {depth} {kind} {next} {stack} {stack'} {out} {new} x some room zero f e =
     let t = top x.having.stacked some in
     let gs = t.others in
     let a = x.tree in
-    let is-left : t.group ≡ left = top_left m gs t.group t.fits (sym t.entry ∙ zero) in
+    let is-left : t.group ≡ left = held_first m gs t.group (sym t.entry ∙ zero) in
     let h : Having text at m out (left ∷ gs) a i n set depth stack new = subst (λ l. Having text at m out l a i n set depth stack new) (t.all ∙ ap (λ g. g ∷ gs) is-left) x.having in
     let same-depth : suc (depth - 1) ≡ depth = omega arith in
     let root : n - 1 ≡ root_of (m + group_nodes gs) a = ap (λ y. y - 1) h.counted in
     let group : Group = right kind a in
-    let fits : Fits (right kind a) = ((λ z. f.some (sym f.operator ∙ z)), f.binary.0, f.binary.1) in
     record {
       groups = right kind a ∷ gs;
       down = λ w r s. subst (λ y. Awaits (right y a ∷ gs) w (from text next) r) (sym f.operator) (after_operator (subst (λ l. Closes (left ∷ gs) a w l r) f.begins (h.down w r s)));
       up = λ w r s.
           let b = subst (λ y. Awaits (right y a ∷ gs) w (from text next) r) f.operator s in
           h.up w r (subst (λ l. Closes (left ∷ gs) a w l r) (sym f.begins) (before_rest f.some b.says b.closes));
-      stacked = subst (λ d. Stacked stack' m d (right kind a ∷ gs)) same-depth (rw e (stacked_more group (omega arith) fits (ap (λ y. kind + 32 * y) root) t.below));
+      stacked = subst (λ d. Stacked stack' m d (right kind a ∷ gs)) same-depth (rw e (stacked_more group (omega arith) (ap (λ y. Second kind y) root) t.below));
       counted = h.counted ∙ add_assoc m (group_nodes gs) (nodes_in a);
       signals = h.signals;
       written = h.written;
@@ -240,36 +227,37 @@ no_bracket_prefix n (closes_prefix c) = n _ refl
 no_bracket_right : {gs : List Group} {kind : ℕ} {a e t : Expression} {s r : List Token} → NoWord s closing → Closes (right kind a ∷ gs) e t s r → ⊥
 no_bracket_right n (closes_right c) = n _ refl
 
-module _ {text : List ℕ} {at m i n set depth next : ℕ} {stack out new new' : List ℕ} where
-  prefix_closed : {gs : List Group} {e : Expression} (kind : ℕ) → Having text at m out (prefix kind ∷ gs) e i n set depth stack new → Stacked stack m (depth - 1) gs → is_prefix kind ≡ true
-      → FoundWord text i closing next → new' ≡ sets new (12 * n) (node_bytes (closed_node kind n ∷ [])) → Having text at m out gs (unary kind e) next (n + 1) set (depth - 1) stack new'
+module _ {text : List ℕ} {at m i n set depth next : ℕ} {stack : List Open} {out new new' : List ℕ} where
+  prefix_closed : {gs : List Group} {e : Expression} (kind : ℕ) → Having text at m out (prefix kind ∷ gs) e i n set depth stack new → Stacked stack m (depth - 1) gs
+      → FoundWord text i closing next → new' ≡ sets new (12 * n) (record_bytes kind (n - 1) 0 0 0) → Having text at m out gs (unary kind e) next (n + 1) set (depth - 1) stack new'
   unfolding group_nodes nodes_of_groups signals_in_groups nodes_of nodes_in signals_in
-  prefix_closed {gs} {e} kind h below p w f =
+  prefix_closed {gs} {e} kind h below w f =
       let ds = nodes_of_groups m gs ++ nodes_of (m + group_nodes gs) e in
       let total : length ds ≡ group_nodes gs + nodes_in e = length-append (nodes_of_groups m gs) _ ∙ ap₂ (λ x y. x + y) (length_groups m gs) (length_nodes_of (m + group_nodes gs) e) in
       let d : NodeRecord = node kind (root_of (m + group_nodes gs) e) 0 0 in
-      let same : closed_node kind n ≡ d = closed_prefix kind n p ∙ ap (λ y. node kind (y - 1) 0 0) h.counted in
+      let same : node kind (n - 1) 0 0 ≡ d = ap (λ y. node kind (y - 1) 0 0) h.counted in
       record {
         down = λ t r s. closing_prefix (subst (λ l. Closes (prefix kind ∷ gs) e t l r) w.begins (h.down t r s));
         up = λ t r c. h.up t r (subst (λ l. Closes (prefix kind ∷ gs) e t l r) (sym w.begins) (closes_prefix c));
         stacked = below;
         counted = omega (arith, h.counted);
         signals = h.signals;
-        written = nodes_behind out m n ds (d ∷ []) (omega (arith, h.counted)) h.written (f ∙ ap (λ y. sets new (12 * n) (node_bytes (y ∷ []))) same) ∙ rw append_assoc;
+        written = nodes_behind out m n ds (d ∷ []) (omega (arith, h.counted)) h.written (f ∙ ap (sets new (12 * n)) (one_node (node kind (n - 1) 0 0)) ∙ ap (λ y. sets new (12 * n) (node_bytes (y ∷ []))) same) ∙ rw append_assoc;
       }
 
   right_closed : {gs : List Group} {e : Expression} (kind : ℕ) (a : Expression) → Having text at m out (right kind a ∷ gs) e i n set depth stack new → Stacked stack m (depth - 1) gs
-      → kind < 32 → is_prefix kind ≡ false → FoundWord text i closing next → new' ≡ sets new (12 * n) (node_bytes (closed_node (packed m gs (right kind a)) n ∷ []))
+      → FoundWord text i closing next → new' ≡ sets new (12 * n) (record_bytes kind (root_of (m + group_nodes gs) a) (n - 1) 0 0)
       → Having text at m out gs (binary kind a e) next (n + 1) set (depth - 1) stack new'
-  unfolding group_nodes nodes_of_groups signals_in_groups nodes_of nodes_in signals_in packed
-  right_closed {gs} {e} kind a h below l p w f =
+  unfolding group_nodes nodes_of_groups signals_in_groups nodes_of nodes_in signals_in
+  right_closed {gs} {e} kind a h below w f =
       let ls = nodes_of_groups m gs ++ nodes_of (m + group_nodes gs) a in
       let next-m : m + (group_nodes gs + nodes_in a) ≡ m + group_nodes gs + nodes_in a = omega arith in
       let es = nodes_of (m + group_nodes gs + nodes_in a) e in
       let total : length (ls ++ es) ≡ group_nodes gs + nodes_in a + nodes_in e = length-append ls es ∙ ap₂ (λ x y. x + y) (length-append (nodes_of_groups m gs) _ ∙ ap₂ (λ x y. x + y) (length_groups m gs) (length_nodes_of (m + group_nodes gs) a)) (length_nodes_of (m + group_nodes gs + nodes_in a) e) in
       let d : NodeRecord = node kind (root_of (m + group_nodes gs) a) (root_of (m + group_nodes gs + nodes_in a) e) 0 in
       let counted : n ≡ m + group_nodes gs + nodes_in a + nodes_in e = omega (arith, h.counted) in
-      let same : closed_node (kind + 32 * root_of (m + group_nodes gs) a) n ≡ d = closed_right kind _ n l p ∙ ap (λ y. node kind (root_of (m + group_nodes gs) a) (y - 1) 0) counted in
+      let root = root_of (m + group_nodes gs) a in
+      let same : node kind root (n - 1) 0 ≡ d = ap (λ y. node kind root (y - 1) 0) counted in
       record {
         down = λ t r s. closing_right (subst (λ y. Closes (right kind a ∷ gs) e t y r) w.begins (h.down t r s));
         up = λ t r c. h.up t r (subst (λ y. Closes (right kind a ∷ gs) e t y r) (sym w.begins) (closes_right c));
@@ -277,52 +265,54 @@ module _ {text : List ℕ} {at m i n set depth next : ℕ} {stack out new new' :
         counted = omega (arith, h.counted);
         signals = h.signals ∙ ap (λ y. set_with 0 y) (append_assoc (signals_in_groups gs) (signals_in a) (signals_in e));
         written = nodes_behind out m n (ls ++ es) (d ∷ []) (omega (arith, counted, total)) (h.written ∙ ap (λ y. sets out (12 * m) (node_bytes (ls ++ nodes_of y e))) next-m)
-            (f ∙ ap (λ y. sets new (12 * n) (node_bytes (y ∷ []))) same) ∙ rw (append_assoc, append_assoc);
+            (f ∙ ap (sets new (12 * n)) (one_node (node kind root (n - 1) 0)) ∙ ap (λ y. sets new (12 * n) (node_bytes (y ∷ []))) same) ∙ rw (append_assoc, append_assoc);
       }
 
-  -- by the group on top
-  top_closed : {gs : List Group} {e : Expression} (g : Group) → packed m gs g ≢ 0 → Fits g → Having text at m out (g ∷ gs) e i n set depth stack new → Stacked stack m (depth - 1) gs
-      → FoundWord text i closing next → new' ≡ sets new (12 * n) (node_bytes (closed_node (packed m gs g) n ∷ [])) → Has text at m out next (n + 1) set (depth - 1) stack new'
-  unfolding packed
-  top_closed {gs} {e} (prefix kind) some fits h below w f = record { groups = gs; tree = unary kind e; having = prefix_closed kind h below fits w f }
-  top_closed left some fits h below w f = absurd (some refl)
-  top_closed {gs} {e} (right kind a) some (n, l, p) h below w f = record { groups = gs; tree = binary kind a e; having = right_closed kind a h below l p w f }
+  -- by what the stack holds on top
+  module _ (x : Has text at m out i n set depth stack new) (some : 0 < depth) where
+    pub prefix_read : {kind : ℕ} → get_or stack (depth - 1) First ≡ Prefix kind → FoundWord text i closing next → new' ≡ sets new (12 * n) (record_bytes kind (n - 1) 0 0 0)
+        → Has text at m out next (n + 1) set (depth - 1) stack new'
+    prefix_read {kind} e w f =
+        let t = top x.having.stacked some in
+        let same = held_prefix m t.others t.group (sym t.entry ∙ e) in
+        let h : Having text at m out (prefix kind ∷ t.others) x.tree i n set depth stack new =
+        subst (λ l. Having text at m out l x.tree i n set depth stack new) (t.all ∙ ap (λ g. g ∷ t.others) same) x.having in
+        record { groups = t.others; tree = unary kind x.tree; having = prefix_closed kind h t.below w f }
 
-  pub group_closed : Has text at m out i n set depth stack new → 0 < depth → get_or stack (depth - 1) 0 ≢ 0 → FoundWord text i closing next
-      → new' ≡ sets new (12 * n) (node_bytes (closed_node (get_or stack (depth - 1) 0) n ∷ [])) → Has text at m out next (n + 1) set (depth - 1) stack new'
-  group_closed x some more w f =
-      let t = top x.having.stacked some in
-      top_closed t.group (λ z. more (t.entry ∙ z)) t.fits (subst (λ l. Having text at m out l x.tree i n set depth stack new) t.all x.having) t.below w
-      (f ∙ ap (λ y. sets new (12 * n) (node_bytes (closed_node y n ∷ []))) t.entry)
+    pub second_read : {kind first : ℕ} → get_or stack (depth - 1) First ≡ Second kind first → FoundWord text i closing next → new' ≡ sets new (12 * n) (record_bytes kind first (n - 1) 0 0)
+        → Has text at m out next (n + 1) set (depth - 1) stack new'
+    second_read {kind} {first} e w f =
+        let t = top x.having.stacked some in
+        let (a, same, root) = held_second m t.others t.group (sym t.entry ∙ e) in
+        let h : Having text at m out (right kind a ∷ t.others) x.tree i n set depth stack new =
+        subst (λ l. Having text at m out l x.tree i n set depth stack new) (t.all ∙ ap (λ g. g ∷ t.others) same) x.having in
+        record { groups = t.others; tree = binary kind a x.tree; having = right_closed kind a h t.below w (f ∙ ap (λ y. sets new (12 * n) (record_bytes kind y (n - 1) 0 0)) root) }
 
 -- where no expression goes on
-not_closed : (m : ℕ) {gs : List Group} {e t : Expression} {s r : List Token} (g : Group) → packed m gs g ≢ 0 → NoWord s closing → Closes (g ∷ gs) e t s r → ⊥
-unfolding packed
+not_closed : (m : ℕ) {gs : List Group} {e t : Expression} {s r : List Token} (g : Group) → held m gs g ≢ First → NoWord s closing → Closes (g ∷ gs) e t s r → ⊥
+unfolding held
 not_closed m (prefix kind) some f c = no_bracket_prefix f c
 not_closed m left some f c = some refl
 not_closed m (right kind a) some f c = no_bracket_right f c
 
-module _ {text : List ℕ} {at m i n set depth : ℕ} {stack out new : List ℕ} where
-  pub no_operand : Wanting text at m out i n set depth stack new → NoExpression (from text i) → NoExpression (from text at)
-  no_operand w f e r h = let x = w.down e r h in f x.tree x.rest x.says
-
-  pub no_operator : Has text at m out i n set depth stack new → 0 < depth → get_or stack (depth - 1) 0 ≡ 0 → NoOperator (from text i) → NoExpression (from text at)
+module _ {text : List ℕ} {at m i n set depth : ℕ} {stack : List Open} {out new : List ℕ} where
+  pub no_operator : Has text at m out i n set depth stack new → 0 < depth → get_or stack (depth - 1) First ≡ First → NoOperator (from text i) → NoExpression (from text at)
   no_operator x some zero f e r h =
       let t = top x.having.stacked some in
-      let is-left : t.group ≡ left = top_left m t.others t.group t.fits (sym t.entry ∙ zero) in
+      let is-left : t.group ≡ left = held_first m t.others t.group (sym t.entry ∙ zero) in
       let (c, u, n, s) = closes_operator (subst (λ l. Closes l x.tree e (from text i) r) (t.all ∙ ap (λ g. g ∷ t.others) is-left) (x.having.down e r h)) in
       f c u n s
 
-  pub no_bracket : Has text at m out i n set depth stack new → 0 < depth → get_or stack (depth - 1) 0 ≢ 0 → NoWord (from text i) closing → NoExpression (from text at)
+  pub no_bracket : Has text at m out i n set depth stack new → 0 < depth → get_or stack (depth - 1) First ≢ First → NoWord (from text i) closing → NoExpression (from text at)
   no_bracket x some more f e r h =
       let t = top x.having.stacked some in
       not_closed m t.group (λ z. more (t.entry ∙ z)) f (subst (λ l. Closes l x.tree e (from text i) r) t.all (x.having.down e r h))
 
 -- with no group open the expression is whole
-no_groups : {stack : List ℕ} {m : ℕ} {gs : List Group} → Stacked stack m 0 gs → gs ≡ []
+no_groups : {stack : List Open} {m : ℕ} {gs : List Group} → Stacked stack m 0 gs → gs ≡ []
 no_groups bottom = refl
 
-pub whole : {text : List ℕ} {at m i n set depth : ℕ} {stack out new : List ℕ} → Has text at m out i n set depth stack new → depth ≡ 0 → (at < i) × (i ≤ length text) × (m < n) × (n ≤ i)
+pub whole : {text : List ℕ} {at m i n set depth : ℕ} {stack : List Open} {out new : List ℕ} → Has text at m out i n set depth stack new → depth ≡ 0 → (at < i) × (i ≤ length text) × (m < n) × (n ≤ i)
     → FoundExpression text at m i n set out new
 unfolding group_nodes nodes_of_groups signals_in_groups
 whole {text} {at} {m} {i} {n} {set} {depth} {stack} {out} {new} x zero within =
@@ -337,41 +327,22 @@ whole {text} {at} {m} {i} {n} {set} {depth} {stack} {out} {new} x zero within =
       within = within;
     }
 
--- the stack's top is small
-packed_small : {n : ℕ} (m : ℕ) (gs : List Group) (g : Group) → Fits g → n ≤ 65535 → m + group_nodes (g ∷ gs) ≤ n → packed m gs g < 2097152
-unfolding packed group_nodes
-packed_small m gs (prefix kind) f l h = omega (arith, prefix_small kind f)
-packed_small m gs left f l h = omega arith
-packed_small m gs (right kind a) (s, b, p) l h = omega (arith, nodes_in_some a)
-
-pub top_small : {text : List ℕ} {at m i n set depth : ℕ} {stack out new : List ℕ} → Has text at m out i n set depth stack new → 0 < depth → n ≤ 65535 → get_or stack (depth - 1) 0 < 2097152
-top_small {m} {n} x some l =
-    let t = top x.having.stacked some in
-    let fewer : m + group_nodes (t.group ∷ t.others) ≤ n = subst (λ l. m + group_nodes l ≤ n) t.all (omega (arith, x.having.counted)) in
-    subst (λ y. y < 2097152) (sym t.entry) (packed_small m t.others t.group t.fits l fewer)
-
 -- what the loop keeps
-pub record Reads (text : List ℕ) (at m : ℕ) (out : List ℕ) (i n set depth : ℕ) (wanted : Bool) (stack new : List ℕ) : Type 0 where
+pub record Reads (text : List ℕ) (at m : ℕ) (out : List ℕ) (i n set depth : ℕ) (wanted : Bool) (stack : List Open) (new : List ℕ) : Type 0 where
   pub wanting : wanted ≡ true → Wanting text at m out i n set depth stack new
   pub has : wanted ≡ false → Has text at m out i n set depth stack new × (at < i) × (m < n)
 
-pub reads_wanting : {text : List ℕ} {at m i n set depth : ℕ} {out stack new : List ℕ} → Wanting text at m out i n set depth stack new → Reads text at m out i n set depth true stack new
+pub reads_wanting : {text : List ℕ} {at m i n set depth : ℕ} {stack : List Open} {out new : List ℕ} → Wanting text at m out i n set depth stack new → Reads text at m out i n set depth true stack new
 reads_wanting w = record { wanting = λ e. w; has = λ e. absurd (true≢false e) }
 
-pub reads_having : {text : List ℕ} {at m i n set depth : ℕ} {out stack new : List ℕ} → Has text at m out i n set depth stack new → at < i → m < n
+pub reads_having : {text : List ℕ} {at m i n set depth : ℕ} {stack : List Open} {out new : List ℕ} → Has text at m out i n set depth stack new → at < i → m < n
     → Reads text at m out i n set depth false stack new
 reads_having h l k = record { wanting = λ e. absurd (true≢false (sym e)); has = λ e. (h, l, k) }
 
-pub reads_still : {text : List ℕ} {at m i n set depth : ℕ} {wanted : Bool} {out stack new : List ℕ} → wanted ≡ true → Wanting text at m out i n set depth stack new
+pub reads_still : {text : List ℕ} {at m i n set depth : ℕ} {wanted : Bool} {stack : List Open} {out new : List ℕ} → wanted ≡ true → Wanting text at m out i n set depth stack new
     → Reads text at m out i n set depth wanted stack new
 reads_still e w = record { wanting = λ y. w; has = λ y. absurd (true≢false (sym e ∙ y)) }
 
-pub reads_on : {text : List ℕ} {at m i n set depth : ℕ} {wanted : Bool} {out stack new : List ℕ} → wanted ≡ false → Has text at m out i n set depth stack new → at < i → m < n
+pub reads_on : {text : List ℕ} {at m i n set depth : ℕ} {wanted : Bool} {stack : List Open} {out new : List ℕ} → wanted ≡ false → Has text at m out i n set depth stack new → at < i → m < n
     → Reads text at m out i n set depth wanted stack new
 reads_on e h l k = record { wanting = λ y. absurd (true≢false (sym y ∙ e)); has = λ y. (h, l, k) }
-
-pub other_form : {form : ℕ} → form ≤ 2 → form ≢ 0 → form ≢ 1 → form ≡ 2
-other_form h n m = omega arith
-
-pub group_small : {kind : ℕ} → (kind ≢ 0 → is_prefix kind ≡ true) → kind < 32
-group_small {kind} f = either_way (eqb kind 0) (λ e. omega (arith, eqb-true kind 0 e)) (λ e. prefix_small kind (f (eqb-false kind 0 e)))

@@ -1,11 +1,12 @@
 -- Expressions read by a loop: the groups that are open where it stands, and what is still to come.
-use Rattle.std.specs.Prelude.{List, [], ◌∷◌, ◌++◌, ◌≢◌, ◌≡◌, Bool, true, false, ◌||◌, ℕ, suc, ◌+◌, ◌*◌, ◌-◌, ◌/◌, ◌%◌, ◌<◌, eqb, get_or}
-use Rattle.base.specs.Cases.{◌∣◌, ◌⇒◌, ◌is◌⇒◌}
+use Rattle.std.specs.Prelude.{List, [], ◌∷◌, ◌++◌, ◌≢◌, ◌≡◌, ℕ, suc, ◌+◌, get_or, Option, Some, None}
 use Rattle.blocks.specs.declared.records.NodeRecord.{NodeRecord}
+use Rattle.phrases.specs.declared.Open.{Open}
+use Rattle.phrases.specs.declared.Open.TheVariants.{Prefix, First, Second}
 use Rattle.grammar.specs.Tokens.{Token, word}
 use Rattle.grammar.specs.Words.{closing, operator_of}
 use Rattle.grammar.specs.Grammar.{Expression, unary, binary, Says}
-use Rattle.grammar.specs.Made.{node, nodes_in, nodes_of, signals_in, root_of}
+use Rattle.grammar.specs.Made.{nodes_in, nodes_of, signals_in, root_of}
 
 -- An open group, the innermost operand of which is being read: ( not _ ) or ( - _ ) by the node kind, the first operand of ( _ op b ), or the
 -- second of ( a op _ ) by the node kind of op and the tree of a.
@@ -50,32 +51,19 @@ signals_in_groups (prefix kind ∷ gs) = signals_in_groups gs
 signals_in_groups (left ∷ gs) = signals_in_groups gs
 signals_in_groups (right kind a ∷ gs) = signals_in_groups gs ++ signals_in a
 
--- a group as a number: 0, or the node kind and 32 times the first operand's root
-unfoldable pub packed : ℕ → List Group → Group → ℕ
-packed m gs (prefix kind) = kind
-packed m gs left = 0
-packed m gs (right kind a) = kind + 32 * root_of (m + group_nodes gs) a
+-- a group as the stack holds it
+unfoldable pub held : ℕ → List Group → Group → Open
+held m gs (prefix kind) = Prefix kind
+held m gs left = First
+held m gs (right kind a) = Second kind (root_of (m + group_nodes gs) a)
 
--- the group that opens by its number
-unfoldable pub opened : ℕ → Group
-opened kind = kind is 0 ⇒ left ∣ prefix kind
-
--- node kinds of operators before one operand: not and -
-unfoldable pub is_prefix : ℕ → Bool
-is_prefix kind = eqb kind 6 || eqb kind 10
-
--- what a group's node kind can be
-abbrev pub Fits : Group → Type 0
-Fits (prefix kind) = is_prefix kind ≡ true
-Fits left = Unit {0}
-Fits (right kind a) = (kind ≢ 0) × (kind < 32) × (is_prefix kind ≡ false)
-
--- the node of a group that closes, by its number, n nodes standing before it: its last operand's root is the last of them
-unfoldable pub closed_node : ℕ → ℕ → NodeRecord
-closed_node g n = is_prefix (g % 32) ⇒ node (g % 32) (n - 1) 0 0 ∣ node (g % 32) (g / 32) (n - 1) 0
+-- the group that opens, by the node kind of `not` or `-` before its operand
+abbrev pub opened : Option ℕ → Group
+opened None = left
+opened (Some kind) = prefix kind
 
 -- the stack holds the groups, the innermost on top
-pub data Stacked (stack : List ℕ) (m : ℕ) : ℕ → List Group → Type 0 where
+pub data Stacked (stack : List Open) (m : ℕ) : ℕ → List Group → Type 0 where
   bottom : Stacked stack m 0 []
-  on_top : {depth : ℕ} {g : Group} {gs : List Group} → Fits g → get_or stack depth 0 ≡ packed m gs g → Stacked stack m depth gs
+  on_top : {depth : ℕ} {g : Group} {gs : List Group} → get_or stack depth First ≡ held m gs g → Stacked stack m depth gs
       → Stacked stack m (suc depth) (g ∷ gs)

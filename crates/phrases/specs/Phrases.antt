@@ -1,5 +1,5 @@
 -- What the functions for expressions answer.
-use Rattle.std.specs.Prelude.{◌≡◌, true, false, ◌||◌, List, [], ◌∷◌, ◌≢◌, ℕ, ◌+◌, ◌*◌, ◌≤◌, ◌<◌, eqb, length}
+use Rattle.std.specs.Prelude.{◌≡◌, true, ◌||◌, List, [], ◌∷◌, ◌≢◌, ℕ, ◌+◌, ◌*◌, ◌≤◌, ◌<◌, eqb, length, Option, Some, None}
 use Rattle.std.proofs.lemmas.List.Edits.{sets}
 use Rattle.base.specs.Cases.{◌∣◌, ◌⇒◌}
 use Rattle.grammar.specs.Tokens.{Token, word, from}
@@ -7,7 +7,9 @@ use Rattle.grammar.specs.Words.{operator_of}
 use Rattle.grammar.specs.Grammar.{Expression, Says}
 use Rattle.grammar.specs.Made.{node, nodes_in, nodes_of, signals_in, set_with}
 use Rattle.writing.specs.Written.{node_bytes}
-use Rattle.phrases.specs.Groups.{Awaits, opened, is_prefix, closed_node}
+use Rattle.phrases.specs.declared.Awaited.{Awaited}
+use Rattle.phrases.specs.declared.Awaited.TheVariants.{Leaf as Single, Group as Opening}
+use Rattle.phrases.specs.Groups.{Awaits, opened}
 
 -- An expression stands from a place on. With it there are `after` nodes, and `before` without it; the nodes are in the buffer, as far as that reaches,
 -- and the set has its signals.
@@ -40,7 +42,6 @@ pub record FoundOperator (text : List ℕ) (at kind next : ℕ) : Type 0 where
   pub operator : kind ≡ operator_of code
   pub some : operator_of code ≢ 0
   pub begins : from text at ≡ word code ∷ from text next
-  pub binary : (kind < 32) × (is_prefix kind ≡ false)
   pub within : (at < next) × (next ≤ length text)
 
 abbrev pub NoOperator : List Token → Type 0
@@ -61,20 +62,13 @@ pub record FoundLeaf (text : List ℕ) (s : List Token) (kind a k next : ℕ) : 
   pub small : (kind < 65536) × (a < 64)
   pub named : (eqb kind 4 || eqb kind 5) ≡ true → a < 32
 
--- the tokens s begin with what opens a group, told by its number: an expression there is one that ends the group
-pub record FoundGroup (text : List ℕ) (s : List Token) (kind next : ℕ) : Type 0 where
-  pub down : (e : Expression) (r : List Token) → Says e s r → Awaits (opened kind ∷ []) e (from text next) r
-  pub up : (e : Expression) (r : List Token) → Awaits (opened kind ∷ []) e (from text next) r → Says e s r
-  pub fits : kind ≢ 0 → is_prefix kind ≡ true
+-- the tokens s begin with what opens a group: an expression there is one that ends the group
+pub record FoundGroup (text : List ℕ) (s : List Token) (before : Option ℕ) (next : ℕ) : Type 0 where
+  pub down : (e : Expression) (r : List Token) → Says e s r → Awaits (opened before ∷ []) e (from text next) r
+  pub up : (e : Expression) (r : List Token) → Awaits (opened before ∷ []) e (from text next) r → Says e s r
 
--- what stands where an operand is awaited: nothing (0), an expression of one node (1), or a group that opens (2). It goes up to `least` or further.
-pub record OperandIs (text : List ℕ) (s : List Token) (least form kind a k next : ℕ) : Type 0 where
-  pub none : form ≡ 0 → NoExpression s
-  pub leaf : form ≡ 1 → FoundLeaf text s kind a k next
-  pub group : form ≡ 2 → FoundGroup text s kind next
-  pub known : form ≤ 2
-  pub within : form ≢ 0 → (least ≤ next) × (next ≤ length text)
-
--- the node of a group that closes is behind the others
-abbrev pub ClosedNode : ℕ → ℕ → List ℕ → List ℕ → Type 0
-ClosedNode g n out out' = out' ≡ sets out (12 * n) (node_bytes (closed_node g n ∷ []))
+-- what stands where an operand is awaited: nothing, an expression of one node, or a group that opens. It goes up to `least` or further.
+abbrev pub OperandIs : List ℕ → List Token → (least : ℕ) → Option Awaited → Type 0
+OperandIs text s least None = NoExpression s
+OperandIs text s least (Some (Single leaf next)) = FoundLeaf text s leaf.kind leaf.a leaf.k next × (least ≤ next) × (next ≤ length text)
+OperandIs text s least (Some (Opening before next)) = FoundGroup text s before next × (least ≤ next) × (next ≤ length text)

@@ -3,206 +3,171 @@
 
 pub mod words;
 
-ghost use Rattle.std.specs.Prelude.{◌≡◌, true, false, ◌||◌, ◌∷◌, ◌+◌, ◌≤◌, ◌<◌, eqb, length};
+ghost use Rattle.std.specs.Prelude.{◌≡◌, ◌+◌, Some, None, true, ◌||◌, ◌∷◌, ◌≤◌, ◌<◌, ◌≢◌, eqb, length, MatchOption};
 ghost use Rattle.grammar.specs.Tokens.{from, tok, word as a_word, signal_code};
-ghost use Rattle.tokens.specs.Answers.{Word, Answer};
+ghost use Rattle.tokens.specs.Answers.{Word};
 ghost use Rattle.grammar.specs.Words.{opening, delayed_word, operator_of};
 ghost use Rattle.grammar.specs.Made.{set_with};
-ghost use Rattle.phrases.specs.Phrases.{FoundExpression, NoExpression, FoundPhrase, NoPhrase, FoundOperator, NoOperator, OperandIs, leaf_signals, ClosedNode};
+ghost use Rattle.phrases.specs.Phrases.{FoundExpression, NoExpression, FoundPhrase, NoPhrase, FoundOperator, NoOperator, OperandIs, leaf_signals};
 
 use crate::words::{
     AND, CLOSING, DELAYED, EQUALS, LESS, MINUS, MOD, NOT, OPENING, OR, OVER, PLUS, REM, TIMES, XOR,
 };
-use tokens::{LOGIC, NUMBER, SIGNAL, VARIABLE, token, word};
+use tokens::{Lexeme, token, word};
 use writing::put_record;
 
 // How many groups can be open: a text has at most 65,535 bytes.
 pub const GROUPS: usize = 65536;
 
-// An expression: whether one stands there, the place after it, how many nodes there are with it, and the set of its signals.
+// An expression: the place after it, how many nodes there are with it, and the set of its signals.
 #[derive(Clone, Copy)]
 pub struct Reading {
-    pub ok: bool,
     pub next: usize,
     pub nodes: usize,
     pub signals: u32,
 }
 
-// What stands where an operand is awaited: nothing (0), an expression of one node (1), or a group that opens (2).
+// An open group: before its operator; after `not` or `-`, by the node kind; or after its operator, by the node kind and the first operand's root.
+// Stays: node kinds are numbers, those that stand in the records (`nodes_of`, `operator_of`).
 #[derive(Clone, Copy)]
-pub struct Awaited {
-    pub form: usize,
-    pub kind: usize,
-    pub a: usize,
-    pub k: u32,
-    pub next: usize,
+pub enum Open {
+    First,
+    Prefix(u8),
+    Second(u8, u16),
+}
+
+// What stands where an operand is awaited, and the place after it: an expression of one node, or a group that opens, with the node kind of `not`
+// or `-` if one stands there.
+#[derive(Clone, Copy)]
+enum Awaited {
+    Leaf(Leaf, usize),
+    Group(Option<u8>, usize),
 }
 
 #[derive(Clone, Copy)]
-pub struct Infix {
-    pub ok: bool,
-    pub kind: usize,
-    pub next: usize,
+struct Leaf {
+    kind: usize,
+    a: usize,
+    k: u32,
 }
 
-fn no_operand() -> Awaited
-    ensures { result.form ≡ 0 }
-{
-    Awaited {
-        form: 0,
-        kind: 0,
-        a: 0,
-        k: 0,
-        next: 0,
-    }
+#[derive(Clone, Copy)]
+struct Infix {
+    kind: u8,
+    next: usize,
 }
 
 // What follows ( s delayed
-fn delay(text: &[u8], at: usize, s: usize) -> Awaited
+fn delay(text: &[u8], at: usize, s: usize) -> Option<Awaited>
     requires { (at ≤ length text.now) × (s < 32) }
-    ensures { OperandIs text.now (a_word opening ∷ tok signal_code s ∷ a_word delayed_word ∷ from text.now at) at result.form result.kind result.a result.k result.next }
+    ensures { OperandIs text.now (a_word opening ∷ tok signal_code s ∷ a_word delayed_word ∷ from text.now at) at result }
 {
-    let k = token(text, at);
-    if k.code != NUMBER {
-        return no_operand();
+    let found = token(text, at);
+    let Lexeme::Number(k) = found.token else {
+        return None;
+    };
+    if 31 < k {
+        return None;
     }
-    if 31 < k.value {
-        return no_operand();
-    }
-    let c = word(text, k.next, CLOSING);
-    if !c.ok {
-        return no_operand();
-    }
-    Awaited {
-        form: 1,
-        kind: 5,
-        a: s,
-        k: k.value as u32,
-        next: c.next,
-    }
+    let next = word(text, found.next, CLOSING)?;
+    Some(Awaited::Leaf(
+        Leaf {
+            kind: 5,
+            a: s,
+            k: k,
+        },
+        next,
+    ))
 }
 
 // What follows an opening bracket.
-fn group(text: &[u8], at: usize) -> Awaited
+fn group(text: &[u8], at: usize) -> Option<Awaited>
     requires { at ≤ length text.now }
-    ensures { OperandIs text.now (a_word opening ∷ from text.now at) at result.form result.kind result.a result.k result.next }
+    ensures { OperandIs text.now (a_word opening ∷ from text.now at) at result }
 {
-    let t = token(text, at);
-    let code = t.code;
-    if code == NOT {
-        return Awaited {
-            form: 2,
-            kind: 6,
-            a: 0,
-            k: 0,
-            next: t.next,
-        };
+    let found = token(text, at);
+    if found.token == Lexeme::Word(NOT) {
+        return Some(Awaited::Group(Some(6), found.next));
     }
-    if code == MINUS {
-        return Awaited {
-            form: 2,
-            kind: 10,
-            a: 0,
-            k: 0,
-            next: t.next,
-        };
+    if found.token == Lexeme::Word(MINUS) {
+        return Some(Awaited::Group(Some(10), found.next));
     }
-    if code == SIGNAL {
-        let d = word(text, t.next, DELAYED);
-        if d.ok {
-            return delay(text, d.next, t.value);
+    if let Lexeme::Signal(s) = found.token {
+        if let Some(next) = word(text, found.next, DELAYED) {
+            return delay(text, next, s);
         }
     }
-    Awaited {
-        form: 2,
-        kind: 0,
-        a: 0,
-        k: 0,
-        next: at,
-    }
+    Some(Awaited::Group(None, at))
 }
 
 // What stands where an operand is awaited.
-fn operand(text: &[u8], at: usize) -> Awaited
+fn operand(text: &[u8], at: usize) -> Option<Awaited>
     requires { at ≤ length text.now }
-    ensures { OperandIs text.now (from text.now at) (at + 1) result.form result.kind result.a result.k result.next }
+    ensures { OperandIs text.now (from text.now at) (at + 1) result }
 {
-    let t = token(text, at);
-    let code = t.code;
-    if code == NUMBER {
-        return Awaited {
-            form: 1,
+    let found = token(text, at);
+    let leaf = match found.token {
+        Lexeme::Number(k) => Leaf {
             kind: 1,
             a: 0,
-            k: t.value as u32,
-            next: t.next,
-        };
-    }
-    if code == LOGIC {
-        return Awaited {
-            form: 1,
+            k: k,
+        },
+        Lexeme::Logic(k) => Leaf {
             kind: 2,
             a: 0,
-            k: t.value as u32,
-            next: t.next,
-        };
-    }
-    if code == VARIABLE {
-        return Awaited {
-            form: 1,
+            k: k,
+        },
+        Lexeme::Variable(a) => Leaf {
             kind: 3,
-            a: t.value,
+            a: a,
             k: 0,
-            next: t.next,
-        };
-    }
-    if code == SIGNAL {
-        return Awaited {
-            form: 1,
+        },
+        Lexeme::Signal(a) => Leaf {
             kind: 4,
-            a: t.value,
+            a: a,
             k: 0,
-            next: t.next,
-        };
-    }
-    if code != OPENING {
-        return no_operand();
-    }
-    group(text, t.next)
+        },
+        Lexeme::Word(OPENING) => return group(text, found.next),
+        _ => return None,
+    };
+    Some(Awaited::Leaf(leaf, found.next))
 }
 
-// The node kind of an operator between two operands, or 0.
-fn operator_of(c: usize) -> usize
-    ensures { result ≡ operator_of c }
+// The node kind of an operator between two operands.
+#[tactic(auto, unfolding(grammar::specs::Words::operator_of))]
+fn operator_of(c: usize) -> Option<u8>
+    ensures { MatchOption result (operator_of c ≡ 0) (λ k. (k ≡ operator_of c) × (k ≢ 0)) }
 {
     match c {
-        AND => 7,
-        OR => 8,
-        XOR => 9,
-        PLUS => 11,
-        MINUS => 12,
-        EQUALS => 13,
-        LESS => 14,
-        TIMES => 15,
-        OVER => 16,
-        MOD => 17,
-        REM => 18,
-        _ => 0,
+        AND => Some(7),
+        OR => Some(8),
+        XOR => Some(9),
+        PLUS => Some(11),
+        MINUS => Some(12),
+        EQUALS => Some(13),
+        LESS => Some(14),
+        TIMES => Some(15),
+        OVER => Some(16),
+        MOD => Some(17),
+        REM => Some(18),
+        _ => None,
     }
 }
 
 // The operator that stands at a place.
-fn operator(text: &[u8], at: usize) -> Infix
+fn operator(text: &[u8], at: usize) -> Option<Infix>
     requires { at ≤ length text.now }
-    ensures { Answer result.ok (FoundOperator text.now at result.kind result.next) (NoOperator (from text.now at)) }
+    ensures { MatchOption result (NoOperator (from text.now at)) (λ o. FoundOperator text.now at o.kind o.next) }
 {
-    let t = token(text, at);
-    let kind = operator_of(t.code);
-    Infix {
-        ok: kind != 0,
+    let found = token(text, at);
+    let Lexeme::Word(c) = found.token else {
+        return None;
+    };
+    let kind = operator_of(c)?;
+    Some(Infix {
         kind: kind,
-        next: t.next,
-    }
+        next: found.next,
+    })
 }
 
 // The set of signals with that of an expression of one node.
@@ -217,89 +182,65 @@ fn with_leaf(set: u32, kind: usize, a: usize) -> u32
     }
 }
 
-// Puts the node of a group that closes, told by its number, behind n others.
-fn put_closed(out: &mut [u8], n: usize, g: usize)
-    requires { (0 < n) × (n < 65536) × (g < 2097152) }
-    ensures { ClosedNode g n out.old out.new }
-{
-    let kind = g % 32;
-    if (kind == 6) | (kind == 10) {
-        put_record(out, n, kind, n - 1, 0, 0, 0);
-    } else {
-        put_record(out, n, kind, g / 32, n - 1, 0, 0);
-    }
-}
-
-fn no_phrase() -> Reading
-    ensures { result.ok ≡ false }
-{
-    Reading {
-        ok: false,
-        next: 0,
-        nodes: 0,
-        signals: 0,
-    }
-}
-
 // Reads an expression. Its nodes are put behind the `nodes` that are there; `stack` is room for the open groups.
 pub fn expression(
     text: &[u8],
     at: usize,
     nodes: usize,
     out: &mut [u8],
-    stack: &mut [u32],
-) -> Reading
-    requires { (at ≤ length text.now) × (length text.now ≤ 65535) × (nodes ≤ at) × (length stack.old ≡ 65536) }
-    ensures { Answer result.ok (FoundExpression text.now at nodes result.next result.nodes result.signals out.old out.new) (NoExpression (from text.now at)) }
+    stack: &mut [Open; GROUPS],
+) -> Option<Reading>
+    requires { (at ≤ length text.now) × (length text.now ≤ 65535) × (nodes ≤ at) }
+    ensures { MatchOption result (NoExpression (from text.now at)) (λ e. FoundExpression text.now at nodes e.next e.nodes e.signals out.old out.new) }
 {
     let mut i = at;
     let mut n = nodes;
     let mut set = 0;
     let mut depth = 0;
     let mut wanted = true;
+    // Stays: what was read tells where the next turn begins, and no count says how many there are.
     loop {
         if wanted {
-            let o = operand(text, i);
-            if o.form == 0 {
-                return no_phrase();
+            match operand(text, i)? {
+                Awaited::Leaf(leaf, next) => {
+                    put_record(out, n, leaf.kind, leaf.a, 0, 0, leaf.k);
+                    set = with_leaf(set, leaf.kind, leaf.a);
+                    n += 1;
+                    wanted = false;
+                    i = next;
+                }
+                Awaited::Group(prefix, next) => {
+                    stack[depth] = prefix.map_or(Open::First, Open::Prefix);
+                    depth += 1;
+                    i = next;
+                }
             }
-            if o.form == 1 {
-                put_record(out, n, o.kind, o.a, 0, 0, o.k);
-                set = with_leaf(set, o.kind, o.a);
-                n += 1;
-                wanted = false;
-            } else {
-                stack[depth] = o.kind as u32;
-                depth += 1;
-            }
-            i = o.next;
+        } else if depth == 0 {
+            return Some(Reading {
+                next: i,
+                nodes: n,
+                signals: set,
+            });
         } else {
-            if depth == 0 {
-                return Reading {
-                    ok: true,
-                    next: i,
-                    nodes: n,
-                    signals: set,
-                };
-            }
-            let g = stack[depth - 1] as usize;
-            if g == 0 {
-                let o = operator(text, i);
-                if !o.ok {
-                    return no_phrase();
+            match stack[depth - 1] {
+                Open::First => {
+                    let o = operator(text, i)?;
+                    stack[depth - 1] = Open::Second(o.kind, (n - 1) as u16);
+                    wanted = true;
+                    i = o.next;
                 }
-                stack[depth - 1] = (o.kind + 32 * (n - 1)) as u32;
-                wanted = true;
-                i = o.next;
-            } else {
-                let w = word(text, i, CLOSING);
-                if !w.ok {
-                    return no_phrase();
+                Open::Prefix(kind) => {
+                    i = word(text, i, CLOSING)?;
+                    put_record(out, n, usize::from(kind), n - 1, 0, 0, 0);
+                    n += 1;
+                    depth -= 1;
                 }
-                put_closed(out, n, g);
-                n += 1;
-                depth -= 1;
-                i = w.next;
+                Open::Second(kind, first) => {
+                    i = word(text, i, CLOSING)?;
+                    put_record(out, n, usize::from(kind), usize::from(first), n - 1, 0, 0);
+                    n += 1;
+                    depth -= 1;
+                }
             }
         }
     }
@@ -312,21 +253,17 @@ pub fn phrase(
     c: usize,
     nodes: usize,
     out: &mut [u8],
-    stack: &mut [u32],
-) -> Reading
-    requires at_in_bounds { (at ≤ length text.now) × (length text.now ≤ 65535) × (nodes ≤ at) × (length stack.old ≡ 65536) }
+    stack: &mut [Open; GROUPS],
+) -> Option<Reading>
+    requires at_in_bounds { (at ≤ length text.now) × (length text.now ≤ 65535) × (nodes ≤ at) }
     requires word { Word c }
-    ensures { Answer result.ok (FoundPhrase text.now at c nodes result.next result.nodes result.signals out.old out.new) (NoPhrase (from text.now at) c) }
+    ensures { MatchOption result (NoPhrase (from text.now at) c) (λ e. FoundPhrase text.now at c nodes e.next e.nodes e.signals out.old out.new) }
 {
-    let e = expression(text, at, nodes, out, stack);
-    if e.ok {
-        let w = word(text, e.next, c);
-        return Reading {
-            ok: w.ok,
-            next: w.next,
-            nodes: e.nodes,
-            signals: e.signals,
-        };
-    }
-    e
+    let e = expression(text, at, nodes, out, stack)?;
+    let next = word(text, e.next, c)?;
+    Some(Reading {
+        next: next,
+        nodes: e.nodes,
+        signals: e.signals,
+    })
 }

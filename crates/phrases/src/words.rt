@@ -1,4 +1,5 @@
 // The words and signs of a text, by their codes: the bytes of each, put together in base 256.
+// Stays: the grammar's definitions (`Words`) tell a word by this code, so an enum would name the thirty words once more, and map them back.
 // null
 pub const NULL: usize = 1853189228;
 

@@ -6,18 +6,14 @@ use text::{model_room, orders_room, print, text_room};
 
 fn main(rt: HostRuntime) {
     let mut model = model_room();
-    let m = take_file(&rt, b"model", &mut model);
-    if !m.ok {
+    let Some(model_length) = take_file(&rt, b"model", &mut model) else {
         return;
-    }
+    };
     let mut orders = orders_room();
-    let o = take_file(&rt, b"orders", &mut orders);
-    if !o.ok {
+    let Some(orders_length) = take_file(&rt, b"orders", &mut orders) else {
         return;
-    }
-    let a = m.count;
-    let b = o.count;
+    };
     let mut text = text_room();
-    let n = print(&model[..a], &orders[..b], &mut text);
+    let n = print(&model[..model_length], &orders[..orders_length], &mut text);
     print_bytes(&rt, &text[..n]);
 }

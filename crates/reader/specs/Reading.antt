@@ -1,8 +1,13 @@
 -- What a text is read as (document 02, item 12).
-use Rattle.std.specs.Prelude.{◌≡◌, Bool, List, [], ◌∷◌, ◌≢◌, ℕ, ◌+◌, ◌*◌, ◌-◌, ◌≤◌, ◌<◌, length}
+use Rattle.std.specs.Prelude.{◌≡◌, Option, MatchOption, Result, Ok, Err, List, [], ◌∷◌, ◌≢◌, ℕ, ◌+◌, ◌*◌, ◌-◌, ◌≤◌, ◌<◌, length}
 use Rattle.std.proofs.lemmas.List.Edits.{sets}
-use Rattle.grammar.specs.Tokens.{Token, word, from, end_code}
-use Rattle.tokens.specs.Answers.{Answer}
+use Rattle.grammar.specs.Tokens.{Token, word, from}
+use Rattle.base.specs.declared.refusal.Refusal.{Refusal}
+use Rattle.tokens.specs.declared.Lexeme.{Lexeme}
+use Rattle.tokens.specs.declared.Lexeme.TheVariants.{Word, End}
+use Rattle.tokens.specs.Answers.{meant}
+use Rattle.simple.specs.declared.Made.{Made}
+use Rattle.reader.specs.declared.Counts.{Counts}
 use Rattle.grammar.specs.Words.{semicolon, end_word, else_word}
 use Rattle.grammar.specs.Grammar.{Statement, list, Spells, Sentence, OneReading}
 use Rattle.grammar.specs.Made.{statement, nodes_in_body, nodes_of_body, statements_in, statements_of, made_nodes, made_statements}
@@ -19,10 +24,10 @@ abbrev pub NoEnding : List Token → ℕ → Type 0
 NoEnding s c = (r : List Token) → s ≡ word c ∷ word semicolon ∷ r → ⊥
 
 -- what can stand behind a list of statements: `end`, `else` or the end mark
-pub data Behind : ℕ → Type 0 where
-  behind_end : Behind end_word
-  behind_else : Behind else_word
-  behind_mark : Behind end_code
+pub data Behind : Lexeme → Type 0 where
+  behind_end : Behind (Word end_word)
+  behind_else : Behind (Word else_word)
+  behind_mark : Behind End
 
 -- `unless` before a list that ends at `end`, and `go to` and null behind it; n nodes stand before the list
 abbrev pub LoopPut : ℕ → ℕ → ℕ → List ℕ → List ℕ → Type 0
@@ -35,24 +40,24 @@ ChoicePut i middle end n out out' =
     out' ≡ sets (sets (sets out (12 * i) (statement_bytes (statement 3 (middle + 1) (n - 1) 0 0 ∷ []))) (12 * middle) (statement_bytes (statement 4 end 0 0 0 ∷ [])))
     (12 * end) (statement_bytes (statement 0 0 0 0 0 ∷ []))
 
--- A list of statements with at most so many levels stands from a place on, and the word `stop` after it; m, i and the buffers as for one statement.
-pub record FoundList (text : List ℕ) (at room stop m i next m' i' : ℕ) (nodes nodes' out out' : List ℕ) : Type 0 where
+-- A list of statements with at most so many levels stands from a place on, and the token `stop` after it; m, i and the buffers as for one statement.
+pub record FoundList (text : List ℕ) (at room : ℕ) (stop : Lexeme) (m i next m' i' : ℕ) (nodes nodes' out out' : List ℕ) : Type 0 where
   pub tree : Statement
   pub rest : List Token
-  pub spells : Spells list room tree (from text at) (word stop ∷ rest)
-  pub goes_on : stop ≢ end_code → rest ≡ from text next
+  pub spells : Spells list room tree (from text at) (meant stop ∷ rest)
+  pub goes_on : stop ≢ End → rest ≡ from text next
   pub nodes_counted : m' ≡ m + nodes_in_body tree
   pub statements_counted : i' ≡ i + statements_in tree
   pub nodes_written : nodes' ≡ sets nodes (12 * m) (node_bytes (nodes_of_body m tree))
   pub written : out' ≡ sets out (12 * i) (statement_bytes (statements_of m i tree))
   pub within : (at < next) × (next ≤ length text) × (m' ≤ next) × (i' < next)
 
-abbrev pub NoList : List Token → ℕ → ℕ → Type 0
-NoList s room stop = (p : Statement) (r : List Token) → Spells list room p s (word stop ∷ r) → ⊥
+abbrev pub NoList : List Token → ℕ → Lexeme → Type 0
+NoList s room stop = (p : Statement) (r : List Token) → Spells list room p s (meant stop ∷ r) → ⊥
 
-abbrev pub AnswerList : List ℕ → (at room stop m i : ℕ) → Bool → (next m' i' : ℕ) → (nodes nodes' out out' : List ℕ) → Type 0
-AnswerList text at room stop m i ok next m' i' nodes nodes' out out' =
-    Answer ok (FoundList text at room stop m i next m' i' nodes nodes' out out') (NoList (from text at) room stop)
+abbrev pub AnswerList : List ℕ → (at room : ℕ) → Lexeme → (m i : ℕ) → Option Made → (nodes nodes' out out' : List ℕ) → Type 0
+AnswerList text at room stop m i made nodes nodes' out out' =
+    MatchOption made (NoList (from text at) room stop) (λ r. FoundList text at room stop m i r.next r.nodes r.statements nodes nodes' out out')
 
 -- the longest text
 abbrev pub longest : ℕ
@@ -86,3 +91,12 @@ pub record Read (text : List ℕ) (number m i : ℕ) (nodes nodes' out out' : Li
   pub refused : number ≡ 26 → Refused text m i nodes nodes' out out'
   pub one_reading : OneReading text
   pub meaning : Meaning text
+
+-- how many nodes and statements are told: none of a refused text
+abbrev pub nodes_read : Result Counts Refusal → ℕ
+nodes_read (Ok c) = c.nodes
+nodes_read (Err r) = 0
+
+abbrev pub statements_read : Result Counts Refusal → ℕ
+statements_read (Ok c) = c.statements
+statements_read (Err r) = 0

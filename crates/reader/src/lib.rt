@@ -1,17 +1,19 @@
 // The reader of a process body: lists and statements call each other, a list being a loop over its statements.
 #![tactic(auto)]
 
-ghost use Rattle.std.specs.Prelude.{◌≡◌, ◌∷◌, ◌≤◌, ◌<◌, length};
+ghost use Rattle.std.specs.Prelude.{◌≡◌, ◌∷◌, ◌≤◌, ◌<◌, length, MatchOption};
+ghost use Rattle.base.specs.Refusals.{told};
 ghost use Rattle.grammar.specs.Tokens.{from, word as a_word};
-ghost use Rattle.tokens.specs.Answers.{Word, Answer};
+ghost use Rattle.tokens.specs.Answers.{Word};
 ghost use Rattle.grammar.specs.Words.{while_word, if_word};
 ghost use Rattle.simple.specs.Statements.{AnswerStatement};
-ghost use Rattle.reader.specs.Reading.{FoundEnding, NoEnding, Behind, LoopPut, ChoicePut, AnswerList, Read};
+ghost use Rattle.reader.specs.Reading.{FoundEnding, NoEnding, Behind, LoopPut, ChoicePut, AnswerList, Read, nodes_read, statements_read};
 
-use phrases::phrase;
+use base::refusal::Refusal;
 use phrases::words::{ELSE, END_WORD, IF, LOOP, NULL, SEMICOLON, THEN, WAIT, WHILE};
-use simple::{Made, assigned, driven, no_statement, waiting};
-use tokens::{END, Place, SIGNAL, VARIABLE, token, word};
+use phrases::{GROUPS, Open, phrase};
+use simple::{Made, assigned, driven, waiting};
+use tokens::{Lexeme, token, word};
 use writing::put_record;
 
 // The longest text.
@@ -21,16 +23,13 @@ pub const LONGEST: usize = 65535;
 pub const LEVELS: usize = 16;
 
 // The place past the word c and a semicolon, if they stand at `at`.
-fn ending(text: &[u8], at: usize, c: usize) -> Place
+fn ending(text: &[u8], at: usize, c: usize) -> Option<usize>
     requires at_in_bounds { at ≤ length text.now }
     requires word { Word c }
-    ensures { Answer result.ok (FoundEnding text.now at c result.next) (NoEnding (from text.now at) c) }
+    ensures { MatchOption result (NoEnding (from text.now at) c) (FoundEnding text.now at c) }
 {
-    let w = word(text, at, c);
-    if w.ok {
-        return word(text, w.next, SEMICOLON);
-    }
-    w
+    let next = word(text, at, c)?;
+    word(text, next, SEMICOLON)
 }
 
 // Puts the statements around a loop's list, which ends at `end`; the condition's root is the last of n nodes.
@@ -63,37 +62,30 @@ fn repeated(
     k: usize,
     nodes: &mut [u8],
     out: &mut [u8],
-    stack: &mut [u32],
-) -> Made
-    requires { (at ≤ length text.now) × (length text.now ≤ 65535) × (n ≤ at) × (k < at) × (0 < room) × (length stack.old ≡ 65536) }
-    ensures { AnswerStatement text.now (a_word while_word ∷ from text.now at) at room n k result.ok result.next result.nodes result.statements nodes.old nodes.new out.old out.new }
+    stack: &mut [Open; GROUPS],
+) -> Option<Made>
+    requires { (at ≤ length text.now) × (length text.now ≤ 65535) × (n ≤ at) × (k < at) × (0 < room) }
+    ensures { AnswerStatement text.now (a_word while_word ∷ from text.now at) at room n k result nodes.old nodes.new out.old out.new }
 {
-    let e = phrase(text, at, LOOP, n, nodes, stack);
-    if !e.ok {
-        return no_statement();
-    }
+    let e = phrase(text, at, LOOP, n, nodes, stack)?;
     let p = list(
         text,
         e.next,
         room - 1,
-        END_WORD,
+        Lexeme::Word(END_WORD),
         e.nodes,
         k + 1,
         nodes,
         out,
         stack,
-    );
-    if !p.ok {
-        return no_statement();
-    }
-    let q = ending(text, p.next, LOOP);
+    )?;
+    let next = ending(text, p.next, LOOP)?;
     put_loop(out, k, p.statements, e.nodes);
-    Made {
-        ok: q.ok,
-        next: q.next,
+    Some(Made {
+        next: next,
         nodes: p.nodes,
         statements: p.statements + 2,
-    }
+    })
 }
 
 // Reads what follows the word `if`.
@@ -106,51 +98,41 @@ fn chosen(
     k: usize,
     nodes: &mut [u8],
     out: &mut [u8],
-    stack: &mut [u32],
-) -> Made
-    requires { (at ≤ length text.now) × (length text.now ≤ 65535) × (n ≤ at) × (k < at) × (0 < room) × (length stack.old ≡ 65536) }
-    ensures { AnswerStatement text.now (a_word if_word ∷ from text.now at) at room n k result.ok result.next result.nodes result.statements nodes.old nodes.new out.old out.new }
+    stack: &mut [Open; GROUPS],
+) -> Option<Made>
+    requires { (at ≤ length text.now) × (length text.now ≤ 65535) × (n ≤ at) × (k < at) × (0 < room) }
+    ensures { AnswerStatement text.now (a_word if_word ∷ from text.now at) at room n k result nodes.old nodes.new out.old out.new }
 {
-    let e = phrase(text, at, THEN, n, nodes, stack);
-    if !e.ok {
-        return no_statement();
-    }
+    let e = phrase(text, at, THEN, n, nodes, stack)?;
     let p = list(
         text,
         e.next,
         room - 1,
-        ELSE,
+        Lexeme::Word(ELSE),
         e.nodes,
         k + 1,
         nodes,
         out,
         stack,
-    );
-    if !p.ok {
-        return no_statement();
-    }
+    )?;
     let q = list(
         text,
         p.next,
         room - 1,
-        END_WORD,
+        Lexeme::Word(END_WORD),
         p.nodes,
         p.statements + 1,
         nodes,
         out,
         stack,
-    );
-    if !q.ok {
-        return no_statement();
-    }
-    let z = ending(text, q.next, IF);
+    )?;
+    let next = ending(text, q.next, IF)?;
     put_choice(out, k, p.statements, q.statements, e.nodes);
-    Made {
-        ok: z.ok,
-        next: z.next,
+    Some(Made {
+        next: next,
         nodes: q.nodes,
         statements: q.statements + 1,
-    }
+    })
 }
 
 // Reads a statement with at most `room` levels in it.
@@ -163,76 +145,61 @@ fn statement(
     k: usize,
     nodes: &mut [u8],
     out: &mut [u8],
-    stack: &mut [u32],
-) -> Made
-    requires { (at ≤ length text.now) × (length text.now ≤ 65535) × (n ≤ at) × (k ≤ at) × (length stack.old ≡ 65536) }
-    ensures { AnswerStatement text.now (from text.now at) at room n k result.ok result.next result.nodes result.statements nodes.old nodes.new out.old out.new }
+    stack: &mut [Open; GROUPS],
+) -> Option<Made>
+    requires { (at ≤ length text.now) × (length text.now ≤ 65535) × (n ≤ at) × (k ≤ at) }
+    ensures { AnswerStatement text.now (from text.now at) at room n k result nodes.old nodes.new out.old out.new }
 {
-    let t = token(text, at);
-    let code = t.code;
-    if code == NULL {
-        let w = word(text, t.next, SEMICOLON);
-        put_record(out, k, 0, 0, 0, 0, 0);
-        return Made {
-            ok: w.ok,
-            next: w.next,
-            nodes: n,
-            statements: k + 1,
-        };
+    let found = token(text, at);
+    let next = found.next;
+    match found.token {
+        Lexeme::Word(NULL) => {
+            let end = word(text, next, SEMICOLON)?;
+            put_record(out, k, 0, 0, 0, 0, 0);
+            Some(Made {
+                next: end,
+                nodes: n,
+                statements: k + 1,
+            })
+        }
+        Lexeme::Variable(v) => assigned(text, next, v, n, k, nodes, out, stack),
+        Lexeme::Signal(s) => driven(text, next, s, n, k, nodes, out, stack),
+        Lexeme::Word(WAIT) => waiting(text, next, n, k, nodes, out, stack),
+        Lexeme::Word(WHILE) if 0 < room => repeated(text, next, room, n, k, nodes, out, stack),
+        Lexeme::Word(IF) if 0 < room => chosen(text, next, room, n, k, nodes, out, stack),
+        _ => None,
     }
-    if code == VARIABLE {
-        return assigned(text, t.next, t.value, n, k, nodes, out, stack);
-    }
-    if code == SIGNAL {
-        return driven(text, t.next, t.value, n, k, nodes, out, stack);
-    }
-    if code == WAIT {
-        return waiting(text, t.next, n, k, nodes, out, stack);
-    }
-    if room == 0 {
-        return no_statement();
-    }
-    if code == WHILE {
-        return repeated(text, t.next, room, n, k, nodes, out, stack);
-    }
-    if code == IF {
-        return chosen(text, t.next, room, n, k, nodes, out, stack);
-    }
-    no_statement()
 }
 
-// Reads a list of statements and the word `stop` after it.
+// Reads a list of statements and the token `stop` after it.
 #[cycle(chosen_list_repeated_statement)]
 fn list(
     text: &[u8],
     at: usize,
     room: usize,
-    stop: usize,
+    stop: Lexeme,
     n: usize,
     k: usize,
     nodes: &mut [u8],
     out: &mut [u8],
-    stack: &mut [u32],
-) -> Made
-    requires { (at ≤ length text.now) × (length text.now ≤ 65535) × (n ≤ at) × (k ≤ at) × Behind stop × (length stack.old ≡ 65536) }
-    ensures { AnswerList text.now at room stop n k result.ok result.next result.nodes result.statements nodes.old nodes.new out.old out.new }
+    stack: &mut [Open; GROUPS],
+) -> Option<Made>
+    requires { (at ≤ length text.now) × (length text.now ≤ 65535) × (n ≤ at) × (k ≤ at) × Behind stop }
+    ensures { AnswerList text.now at room stop n k result nodes.old nodes.new out.old out.new }
 {
     let mut i = at;
     let mut m = n;
     let mut j = k;
+    // Stays: what was read tells where the next turn begins, and no count says how many there are.
     loop {
-        let s = statement(text, i, room, m, j, nodes, out, stack);
-        if !s.ok {
-            return no_statement();
-        }
-        let t = token(text, s.next);
-        if t.code == stop {
-            return Made {
-                ok: true,
-                next: t.next,
+        let s = statement(text, i, room, m, j, nodes, out, stack)?;
+        let found = token(text, s.next);
+        if found.token == stop {
+            return Some(Made {
+                next: found.next,
                 nodes: s.nodes,
                 statements: s.statements,
-            };
+            });
         }
         i = s.next;
         m = s.nodes;
@@ -240,50 +207,52 @@ fn list(
     }
 }
 
-// What a text is read as: 0 or 26, and how many nodes and statements it makes.
+// How many nodes and statements a text makes.
 #[derive(Clone, Copy)]
-pub struct Report {
-    pub number: usize,
+pub struct Counts {
     pub nodes: usize,
     pub statements: usize,
 }
 
-// Reads a text: 0, and its nodes and statements in the buffers as far as these reach, 12 bytes each; or 26, and nothing.
-pub fn read(text: &[u8], nodes: &mut [u8], statements: &mut [u8]) -> Report
-    ensures { Read text.now result.number result.nodes result.statements nodes.old nodes.new statements.old statements.new }
+// Reads a text: its nodes and statements are in the buffers as far as these reach, 12 bytes each; or it is no sentence, and nothing is written.
+pub fn read(text: &[u8], nodes: &mut [u8], statements: &mut [u8]) -> Result<Counts, Refusal>
+    ensures { Read text.now (told result) (nodes_read result) (statements_read result) nodes.old nodes.new statements.old statements.new }
 {
     if LONGEST < text.len() {
-        return Report {
-            number: 26,
-            nodes: 0,
-            statements: 0,
-        };
+        return Err(Refusal::NoSentence);
     }
-    let mut stack = [0u32; 65536];
+    let mut stack = [Open::First; GROUPS];
     let mut no_nodes = [0u8; 1];
     let mut no_statements = [0u8; 1];
     let judged = list(
         text,
         0,
         LEVELS,
-        END,
+        Lexeme::End,
         0,
         0,
         &mut no_nodes,
         &mut no_statements,
         &mut stack,
     );
-    if !judged.ok {
-        return Report {
-            number: 26,
-            nodes: 0,
-            statements: 0,
-        };
+    if judged.is_none() {
+        return Err(Refusal::NoSentence);
     }
-    let r = list(text, 0, LEVELS, END, 0, 0, nodes, statements, &mut stack);
-    Report {
-        number: 0,
+    let Some(r) = list(
+        text,
+        0,
+        LEVELS,
+        Lexeme::End,
+        0,
+        0,
+        nodes,
+        statements,
+        &mut stack,
+    ) else {
+        return Err(Refusal::NoSentence);
+    };
+    Ok(Counts {
         nodes: r.nodes,
         statements: r.statements,
-    }
+    })
 }

@@ -9,6 +9,7 @@ use lib.Dec.{eqb, lit≤}
 use lib.ListN.{length, get_or, replicate, length-map, length-take, length-append, length-replicate, get_or-replicate}
 use lib.Seq.{get_or-take}
 use borrow.Author.Tests.{eqb-true, eqb-false}
+use Rattle.std.specs.Prelude.{Ok, Err}
 use Rattle.base.specs.Below.{All}
 use Rattle.base.proofs.Cases.{by_test}
 use Rattle.base.proofs.Below.{at_append, map_at, list_length, list_at}
@@ -16,8 +17,7 @@ use Rattle.blocks.specs.Records.{bus, Model, signal_at, driver_at, statement_at}
 use Rattle.blocks.specs.declared.records.StatementRecord.{StatementRecord}
 use Rattle.fields.specs.Fields.{absent, value_ok}
 use Rattle.model.specs.Facts.{Facts}
-use Rattle.rules.specs.declared.value.Value.{Value}
-use Rattle.rules.specs.declared.value.Value.TheVariants.{Of, Fault}
+use Rattle.rules.specs.Values.{Value}
 use Rattle.rules.specs.Configuration.{ProcessState, Configuration, driver_in, process_in, past_of, current_of, waiting, last_time}
 use Rattle.rules.specs.Evaluation.{Environment, environment_of, eval_of}
 use Rattle.rules.specs.Failing.{FaultNamed}
@@ -119,8 +119,8 @@ module _ (M : Model) (fs : Facts M) (c : Configuration) (r : Reachable M c) wher
           }
 
       woken_by_lem : (v : Value) → FaultNamed M now s.b v → Valid (woken_by M p q v)
-      woken_by_lem (Fault f) g = stopped_valid M p c.time q (r.each_process p h) f (inl g.expression)
-      woken_by_lem (Of x) g = by_test Valid (eqb x 1) _ _ (λ e. wakes_valid) (λ e. r.each_process p h)
+      woken_by_lem (Err f) g = stopped_valid M p c.time q (r.each_process p h) f (inl g.expression)
+      woken_by_lem (Ok x) g = by_test Valid (eqb x 1) _ _ (λ e. wakes_valid) (λ e. r.each_process p h)
 
       woken_if_lem : Valid (woken_if M p now s q)
       unfolding woken_if

@@ -57,10 +57,6 @@ module _ (s : ℕ) (f : ℕ → ℕ) where
   pub least_done : (n i t : ℕ) → i ≤ n → n ≤ i → t ≡ least s (list_below f i) → t ≡ least s (list_below f n)
   least_done n i t h k e = rw (le_antisymm h k) at e
 
--- the earlier of two that are found
-pub earlier_found : (t u a b r : ℕ) → a ≡ t → b ≡ u → r ≡ min a b → r ≡ min t u
-earlier_found t u a b r e g h = rw (← e, ← g) h
-
 -- the earliest is one of them
 min_is : (P : ℕ → Type 0) (t u : ℕ) → P t → P u → P (min t u)
 min_is P t u h k =

@@ -9,6 +9,7 @@ use lib.ListN.{length}
 use lib.IntN.{pos, nat_abs}
 use lib.Signed.{lt_z}
 use borrow.Author.Tests.{eqb-false}
+use Rattle.std.specs.Prelude.{Ok, Err}
 use Rattle.base.specs.Cases.{◌∣◌, ◌⇒◌}
 use Rattle.base.proofs.Below.{◌and◌, among}
 use Rattle.base.proofs.Cases.{by_test}
@@ -22,8 +23,7 @@ use Rattle.model.specs.Facts as Facts
 use Rattle.model.specs.Facts.{Facts, StatementFits, SignalAssignment, NullAssignment, Expression}
 use Rattle.rules.specs.declared.driven.Driven.TheVariants.{To, Null}
 use Rattle.rules.specs.declared.value.Failure.{Failure}
-use Rattle.rules.specs.declared.value.Value.{Value}
-use Rattle.rules.specs.declared.value.Value.TheVariants.{Of, Fault}
+use Rattle.rules.specs.Values.{Value}
 use Rattle.rules.specs.declared.effect.Effect.{Effect}
 use Rattle.rules.specs.declared.effect.Effect.TheVariants.{Schedule, Wait, WaitFor, Stop}
 use Rattle.rules.specs.declared.mechanism.Mechanism.{Mechanism}
@@ -48,8 +48,8 @@ module _ (M : Model) (fs : Facts M) (p : ℕ) where
     -- what holds after any value of the type, and of a stop, holds after a value
     value_then : (P : Effect → Type 0) (ty n : ℕ) (v : Value) (next : ℕ → Effect) → Typed ty v → FaultNamed M e n v → Stops M P → ((x : ℕ) → value_ok ty x ≡ true → P (next x))
         → P (with_value v next)
-    value_then P ty n (Of x) next h k s g = g x h
-    value_then P ty n (Fault r) next h k s g = s r (inl k.expression)
+    value_then P ty n (Ok x) next h k s g = g x h
+    value_then P ty n (Err r) next h k s g = s r (inl k.expression)
 
     expression : (P : Effect → Type 0) (ty n : ℕ) (next : ℕ → Effect) → Expression M p ty n → Stops M P → ((x : ℕ) → value_ok ty x ≡ true → P (next x)) → P (with_value (eval_of M e n) next)
     expression P ty n next x s g =

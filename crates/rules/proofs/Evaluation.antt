@@ -12,6 +12,7 @@ use lib.Signed.{lt_z}
 use mir.Syntax.{w32}
 use mir.Val.{of_z}
 use borrow.Author.Tests.{ltb-true, le-leb, ne_eqb, eqb-true, eqb-false}
+use Rattle.std.specs.Prelude.{Ok, Err}
 use Rattle.base.specs.Course.{up_to, course}
 use Rattle.base.proofs.Cases.{by_test, choices_same}
 use Rattle.base.proofs.Below.{Each, ◌and◌, among, split}
@@ -28,8 +29,7 @@ use Rattle.fields.specs.Fields.{value_ok}
 use Rattle.trees.specs.Trees.{type_of, integer, logic, boolean}
 use Rattle.model.specs.Owners.{reads_own}
 use Rattle.model.specs.Facts.{Facts, NodeFits, NodeTyped}
-use Rattle.rules.specs.declared.value.Value.{Value}
-use Rattle.rules.specs.declared.value.Value.TheVariants.{Of, Fault}
+use Rattle.rules.specs.Values.{Value}
 use Rattle.rules.specs.declared.moment.Moment.{Moment}
 use Rattle.rules.specs.declared.moment.Moment.TheVariants.{Now}
 use Rattle.rules.specs.Evaluation.{Environment, delayed_by, Held, truth, int, one, two, unless_first, not_by, and_by, or_by, xor_by, ranged, negate_of, sum_of, difference_of, equal_of, less_of, product_of, divided, value_by, next_value, eval_of}
@@ -47,9 +47,9 @@ unfolding value_by
 read_same n d ty e e' p q s =
     choices_same (eqb d.kind 1) _ _ _ _ (λ t. refl)
     (λ t. choices_same (eqb d.kind 2) _ _ _ _ (λ t. refl)
-    (λ t. choices_same (eqb d.kind 3) _ _ _ _ (λ t. ap Of (s.variable (eqb-true _ _ t)))
-    (λ t. choices_same (eqb d.kind 4) _ _ _ _ (λ t. ap Of (s.current (eqb-true _ _ t)))
-    (λ t. choices_same (eqb d.kind 5) _ _ _ _ (λ t. ap Of (s.delayed (eqb-true _ _ t)))
+    (λ t. choices_same (eqb d.kind 3) _ _ _ _ (λ t. ap Ok (s.variable (eqb-true _ _ t)))
+    (λ t. choices_same (eqb d.kind 4) _ _ _ _ (λ t. ap Ok (s.current (eqb-true _ _ t)))
+    (λ t. choices_same (eqb d.kind 5) _ _ _ _ (λ t. ap Ok (s.delayed (eqb-true _ _ t)))
     (λ t. refl)))))
 
 -- the operands that its kind has are p and q as well as p' and q'
@@ -97,12 +97,12 @@ module _ (M : Model) (e : Environment) (n : ℕ) (f : NodeFits M n) where
   unfolding eval_of next_value course
   node_value = operands_same n (node_at M n) (type_of M n) e _ _ _ _ same f.kind_least f.kind_most
     where
-      same : SameOperands (node_at M n) (get_or (up_to (next_value M e) n) (node_at M n).a (Of 0)) (eval_of M e (node_at M n).a)
-          (get_or (up_to (next_value M e) n) (node_at M n).b (Of 0)) (eval_of M e (node_at M n).b)
+      same : SameOperands (node_at M n) (get_or (up_to (next_value M e) n) (node_at M n).a (Ok 0)) (eval_of M e (node_at M n).a)
+          (get_or (up_to (next_value M e) n) (node_at M n).b (Ok 0)) (eval_of M e (node_at M n).b)
       same =
           record {
-            first = λ l. earlier (next_value M e) (Of 0) n (node_at M n).a (f.lower_a l);
-            second = λ l t. earlier (next_value M e) (Of 0) n (node_at M n).b (f.lower_b l t);
+            first = λ l. earlier (next_value M e) (Ok 0) n (node_at M n).a (f.lower_a l);
+            second = λ l t. earlier (next_value M e) (Ok 0) n (node_at M n).b (f.lower_b l t);
           }
 
   -- v is the value of node n, whose record is d and whose type is ty, if it is so by the values of its operands, p and q
@@ -180,12 +180,12 @@ module _ (M : Model) (fs : Facts M) (e e' : Environment) where
 
 -- a fault, or a value of the type
 abbrev pub Typed : ℕ → Value → Type 0
-Typed ty (Of v) = value_ok ty v ≡ true
-Typed ty (Fault r) = Unit {0}
+Typed ty (Ok v) = value_ok ty v ≡ true
+Typed ty (Err r) = Unit {0}
 
 one_typed : (s t : ℕ) (p : Value) (f : ℕ → Value) → Typed s p → ((x : ℕ) → value_ok s x ≡ true → Typed t (f x)) → Typed t (one p f)
-one_typed s t (Of x) f h g = g x h
-one_typed s t (Fault e) f h g = h
+one_typed s t (Ok x) f h g = g x h
+one_typed s t (Err e) f h g = h
 
 operands_typed : (s s' t : ℕ) (p q : Value) (f : ℕ → ℕ → Value) → Typed s p → Typed s' q → ((x y : ℕ) → value_ok s x ≡ true → value_ok s' y ≡ true → Typed t (f x y))
     → Typed t (two p q f)
@@ -198,16 +198,16 @@ unless_typed : (t decides : ℕ) (p q : Value) → Typed t p → Typed t q → T
 unless_typed t decides p q h k = one_typed t t p _ h (λ x v. by_test (Typed t) (eqb x decides) _ _ (λ e. v) (λ e. k))
 
 -- the logic operators give codes, a test gives a boolean, and a ranged number is an integer
-code_typed : (v : ℕ) → v < 9 → Typed logic (Of v)
+code_typed : (v : ℕ) → v < 9 → Typed logic (Ok v)
 unfolding value_ok
 code_typed v h = le-leb v 8 (omega arith)
 
-truth_typed : (b : Bool) → Typed boolean (Of (truth b))
+truth_typed : (b : Bool) → Typed boolean (Ok (truth b))
 unfolding value_ok
 truth_typed true = refl
 truth_typed false = refl
 
-inside_typed : (z : ℤ) → nat_abs z < 2147483648 → Typed integer (Of (of_z w32 z))
+inside_typed : (z : ℤ) → nat_abs z < 2147483648 → Typed integer (Ok (of_z w32 z))
 unfolding value_ok
 inside_typed z l = rw (ne_eqb (of_z w32 z) 2147483648 (apart z l))
   where

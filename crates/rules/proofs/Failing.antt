@@ -10,6 +10,7 @@ use lib.Dec.{eqb, ltb}
 use lib.ListN.{length}
 use lib.IntN.{ℤ, nat_abs, neg_ℤ, ◌+ℤ◌, ◌-ℤ◌, ◌*ℤ◌}
 use borrow.Author.Tests.{lt-ltb, le-ltb}
+use Rattle.std.specs.Prelude.{Ok, Err}
 use Rattle.base.specs.Below.{All}
 use Rattle.base.specs.Cases.{◌∣◌, ◌⇒◌}
 use Rattle.base.specs.Course.{course}
@@ -22,8 +23,7 @@ use Rattle.blocks.specs.declared.records.NodeRecord.{NodeRecord}
 use Rattle.trees.specs.Trees.{boolean, type_of}
 use Rattle.model.specs.Facts.{Facts, NodeFits}
 use Rattle.rules.specs.declared.value.Failure.{Failure}
-use Rattle.rules.specs.declared.value.Value.{Value}
-use Rattle.rules.specs.declared.value.Value.TheVariants.{Of, Fault}
+use Rattle.rules.specs.Values.{Value}
 use Rattle.rules.specs.Evaluation.{Environment, int, failure, one, two, unless_first, decided_by, ranged, negate_of, sum_of, difference_of, equal_of, less_of, product_of, divided, value_by, eval_of}
 use Rattle.rules.specs.Failing.{leaves_b, order_by, next_order, evaluation_order, HasValue, AtFault, FaultNamed}
 use Rattle.base.proofs.All.{all_append}
@@ -31,8 +31,8 @@ use Rattle.rules.proofs.Evaluation.{node_value}
 
 -- what the operation of node n gives: a value, or one of its faults at n
 abbrev Own : ℕ → Value → Type 0
-Own n (Of x) = Unit {0}
-Own n (Fault r) = (r ≡ failure n 1) ⊎ (r ≡ failure n 4)
+Own n (Ok x) = Unit {0}
+Own n (Err r) = (r ≡ failure n 1) ⊎ (r ≡ failure n 4)
 
 ranged_own : (n : ℕ) (z : ℤ) → Own n (ranged n z)
 unfolding ranged
@@ -117,26 +117,26 @@ module _ (M : Model) (fs : Facts M) (e : Environment) where
       operands : Values (firsts ++ seconds)
       operands = all_append (HasValue M e) firsts seconds v w
 
-      node_fails : (f : ℕ) → (f ≡ 1) ⊎ (f ≡ 4) → eval_of M e n ≡ Fault (failure n f) → AtFault M e n (failure n f)
+      node_fails : (f : ℕ) → (f ≡ 1) ⊎ (f ≡ 4) → eval_of M e n ≡ Err (failure n f) → AtFault M e n (failure n f)
       node_fails f k x =
           record { expression = (k, h); before = firsts ++ seconds; after = []; order = order_is; valued = operands; fails = x }
 
       node_gives : (x : Value) → eval_of M e n ≡ x → Own n x → Named n x
-      node_gives (Of x) k o = rw order_is (all_append (HasValue M e) (firsts ++ seconds) (n ∷ []) operands ((x, k), tt))
-      node_gives (Fault r) k o =
+      node_gives (Ok x) k o = rw order_is (all_append (HasValue M e) (firsts ++ seconds) (n ∷ []) operands ((x, k), tt))
+      node_gives (Err r) k o =
           ⊎_elim
           (λ (s : r ≡ failure n 1). rw s (node_fails 1 (inl refl) (rw s at k)))
           (λ (s : r ≡ failure n 4). rw s (node_fails 4 (inr refl) (rw s at k))) o
 
     -- by the values of the operands
     by_one : leaves_b M e n ≡ true → (p : Value) → Named a p → (f : ℕ → Value) → eval_of M e n ≡ one p f → ((x : ℕ) → Own n (f x)) → Named n (one p f)
-    by_one t (Of x) v f w o = node_gives v (rw t tt) (f x) w (o x)
-    by_one t (Fault r) v f w o = first_fails r v
+    by_one t (Ok x) v f w o = node_gives v (rw t tt) (f x) w (o x)
+    by_one t (Err r) v f w o = first_fails r v
 
     by_two : leaves_b M e n ≡ false → (p q : Value) → Named a p → Named b q → (f : ℕ → ℕ → Value) → eval_of M e n ≡ two p q f → ((x y : ℕ) → Own n (f x y)) → Named n (two p q f)
-    by_two t (Of x) (Of y) v u f w o = node_gives v (rw t u) (f x y) w (o x y)
-    by_two t (Of x) (Fault r) v u f w o = second_fails t v r u
-    by_two t (Fault r) q v u f w o = first_fails r v
+    by_two t (Ok x) (Ok y) v u f w o = node_gives v (rw t u) (f x y) w (o x y)
+    by_two t (Ok x) (Err r) v u f w o = second_fails t v r u
+    by_two t (Err r) q v u f w o = first_fails r v
 
     -- `and` and `or`: by the type, and by a
     module _ (decides : ℕ) (f : ℕ → ℕ → ℕ) where
@@ -144,21 +144,21 @@ module _ (M : Model) (fs : Facts M) (e : Environment) where
       ty = eqb (type_of M n) boolean
 
       abbrev skipping : Value → Value → Value
-      skipping p q = ty ⇒ unless_first decides p q ∣ two p q (λ x y. Of (f x y))
+      skipping p q = ty ⇒ unless_first decides p q ∣ two p q (λ x y. Ok (f x y))
 
       -- b is the value where a does not decide
       second_gives : leaves_b M e n ≡ false → Values firsts → (q : Value) → Named b q → eval_of M e n ≡ q → Named n q
-      second_gives t v (Of y) u w = node_gives v (rw t u) (Of y) w tt
-      second_gives t v (Fault r) u w = second_fails t v r u
+      second_gives t v (Ok y) u w = node_gives v (rw t u) (Ok y) w tt
+      second_gives t v (Err r) u w = second_fails t v r u
 
       by_skipping : (p q : Value) → leaves_b M e n ≡ decided_by (type_of M n) p decides → Named a p → Named b q → eval_of M e n ≡ skipping p q → Named n (skipping p q)
-      by_skipping (Fault r) q t v u w = by_test (Named n) ty _ _ (λ k. first_fails r v) (λ k. first_fails r v)
-      by_skipping (Of x) q t v u w =
+      by_skipping (Err r) q t v u w = by_test (Named n) ty _ _ (λ k. first_fails r v) (λ k. first_fails r v)
+      by_skipping (Ok x) q t v u w =
           by_test (Named n) ty _ _
           (λ k. by_test (Named n) (eqb x decides) _ _
-          (λ d. let s : leaves_b M e n ≡ true = t ∙ rw (k, d) in node_gives v (rw s tt) (Of x) (rw (k, d) at w) tt)
+          (λ d. let s : leaves_b M e n ≡ true = t ∙ rw (k, d) in node_gives v (rw s tt) (Ok x) (rw (k, d) at w) tt)
           (λ d. second_gives (t ∙ rw (k, d)) v q u (rw (k, d) at w)))
-          (λ k. by_two (t ∙ rw k) (Of x) q v u (λ x y. Of (f x y)) (rw k at w) (λ x y. tt))
+          (λ k. by_two (t ∙ rw k) (Ok x) q v u (λ x y. Ok (f x y)) (rw k at w) (λ x y. tt))
 
   module _ (n : ℕ) (h : n < length M.nodes)
       (hp : 6 ≤ (node_at M n).kind → Named (node_at M n).a (eval_of M e (node_at M n).a))
@@ -176,7 +176,7 @@ module _ (M : Model) (fs : Facts M) (e : Environment) where
       abbrev NamedHere : Type 0
       NamedHere = Named n (value_by e n d (type_of M n) p q)
 
-      leaf : d.kind < 6 → (x : ℕ) → eval_of M e n ≡ Of x → Named n (Of x)
+      leaf : d.kind < 6 → (x : ℕ) → eval_of M e n ≡ Ok x → Named n (Ok x)
       leaf l x w = rw (order_leaf M e n (fs.node n h) l) ((x, w), tt)
 
       unary : 6 ≤ d.kind → leaves_b M e n ≡ true → (f : ℕ → Value) → eval_of M e n ≡ one p f → ((x : ℕ) → Own n (f x)) → Named n (one p f)

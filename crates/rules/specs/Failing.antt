@@ -1,14 +1,13 @@
 -- The node at fault, by the order of evaluation: "the number of the first node that failed in the order of evaluation" (document 02,
 -- item 3).
-use Rattle.std.specs.Prelude.{◌≡◌, Bool, true, false, ◌⊎◌, List, [], ◌∷◌, ◌++◌, ℕ, ◌<◌, ltb, length, get_or}
+use Rattle.std.specs.Prelude.{◌≡◌, Bool, true, false, ◌⊎◌, List, [], ◌∷◌, ◌++◌, ℕ, ◌<◌, ltb, length, get_or, Ok, Err}
 use Rattle.base.specs.Below.{All}
 use Rattle.base.specs.Cases.{◌∣◌, ◌⇒◌, ◌is◌⇒◌}
 use Rattle.base.specs.Course.{course}
 use Rattle.blocks.specs.Records.{Model, node_at}
 use Rattle.trees.specs.Trees.{type_of}
 use Rattle.rules.specs.declared.value.Failure.{Failure}
-use Rattle.rules.specs.declared.value.Value.{Value}
-use Rattle.rules.specs.declared.value.Value.TheVariants.{Of, Fault}
+use Rattle.rules.specs.Values.{Value}
 use Rattle.rules.specs.Evaluation.{Environment, decided_by, eval_of}
 
 -- b of node n is not evaluated: there is none, or "boolean `and` and `or` skip b when a decides", or a failed
@@ -33,7 +32,7 @@ evaluation_order M e n = course (next_order M e) n
 
 -- node n has a value
 abbrev pub HasValue : Model → Environment → ℕ → Type 0
-HasValue M e n = (x : ℕ) × (eval_of M e n ≡ Of x)
+HasValue M e n = (x : ℕ) × (eval_of M e n ≡ Ok x)
 
 -- the faults that an expression can have, "an integer out of range" and "A divisor of 0", at a node of the model
 abbrev pub ExpressionFails : Model → Failure → Type 0
@@ -46,9 +45,9 @@ pub record AtFault (M : Model) (e : Environment) (n : ℕ) (r : Failure) : Type 
   pub after : List ℕ
   pub order : evaluation_order M e n ≡ before ++ (r.node ∷ after)
   pub valued : All (HasValue M e) before
-  pub fails : eval_of M e r.node ≡ Fault r
+  pub fails : eval_of M e r.node ≡ Err r
 
 -- what a value of node n says of the nodes: none of them failed, or which was the first
 abbrev pub FaultNamed : Model → Environment → ℕ → Value → Type 0
-FaultNamed M e n (Of x) = All (HasValue M e) (evaluation_order M e n)
-FaultNamed M e n (Fault r) = AtFault M e n r
+FaultNamed M e n (Ok x) = All (HasValue M e) (evaluation_order M e n)
+FaultNamed M e n (Err r) = AtFault M e n r

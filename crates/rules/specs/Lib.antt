@@ -7,3 +7,4 @@ pub mod Numberings
 pub mod Orders
 pub mod Statements
 pub mod Steps
+pub mod Values

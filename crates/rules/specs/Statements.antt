@@ -1,7 +1,7 @@
 -- What a pick does: "A pick runs one statement of a ready process and moves the place on".
 -- "Statement kinds: 0 null; 1 variable a := b; 2 signal a <= b after c; 3 unless b go to statement a; 4 go to a; 5 wait on the
 -- set until b for c, where b or c 65,535 means absent." Kind 6: signal a <= null after c. Kind 7 "is the inertial form of kind 2".
-use Rattle.std.specs.Prelude.{Bool, true, false, ◌&&◌, List, [], ◌∷◌, ◌++◌, ℕ, ◌+◌, eqb, ltb, length, set, pos, nat_abs}
+use Rattle.std.specs.Prelude.{Bool, true, false, ◌&&◌, List, [], ◌∷◌, ◌++◌, ℕ, ◌+◌, eqb, ltb, length, set, pos, nat_abs, Ok, Err}
 use Rattle.std.proofs.Math.Option.{Option, none, some}
 use Rattle.std.specs.Int.Signed.{lt_z}
 use Rattle.base.specs.Cases.{◌∣◌, ◌⇒◌, ◌is◌⇒◌}
@@ -14,8 +14,7 @@ use Rattle.rules.specs.declared.driven.Driven.TheVariants.{To, Null}
 use Rattle.rules.specs.declared.mechanism.Mechanism.{Mechanism}
 use Rattle.rules.specs.declared.mechanism.Mechanism.TheVariants.{Transport, Inertial}
 use Rattle.rules.specs.declared.value.Failure.{Failure}
-use Rattle.rules.specs.declared.value.Value.{Value}
-use Rattle.rules.specs.declared.value.Value.TheVariants.{Of, Fault}
+use Rattle.rules.specs.Values.{Value}
 use Rattle.rules.specs.declared.effect.Effect.{Effect}
 use Rattle.rules.specs.declared.effect.Effect.TheVariants.{Skip, Store, Schedule, Jump, Wait, WaitFor, Stop}
 use Rattle.rules.specs.Configuration.{Transaction, DriverState, ProcessState, Configuration, driver_in, process_in, waiting, stopped}
@@ -23,8 +22,8 @@ use Rattle.rules.specs.Evaluation.{Environment, environment_of, failure, no_node
 
 -- what follows a value, or stop with its fault and node
 abbrev pub with_value : Value → (ℕ → Effect) → Effect
-with_value (Fault f) next = Stop f
-with_value (Of x) next = next x
+with_value (Err f) next = Stop f
+with_value (Ok x) next = next x
 
 -- what follows a delay of 0 or more; fault 2: "c negative", "65,535 for faults 2 and 3"
 unfoldable pub with_delay : Value → (ℕ → Effect) → Effect

@@ -1,5 +1,5 @@
 -- The delta step and the time step.
-use Rattle.std.specs.Prelude.{Bool, false, not, ◌&&◌, List, [], ◌∷◌, ◌++◌, map, ℕ, ◌+◌, ◌-◌, min, eqb, length, get_or, take, replicate}
+use Rattle.std.specs.Prelude.{Bool, false, not, ◌&&◌, List, [], ◌∷◌, ◌++◌, map, ℕ, ◌+◌, ◌-◌, min, eqb, length, get_or, take, replicate, Ok, Err}
 use Rattle.std.proofs.Math.Option.{Option, none, some}
 use Rattle.base.specs.Below.{any_below, list_below}
 use Rattle.base.specs.Cases.{◌∣◌, ◌⇒◌, ◌is◌⇒◌}
@@ -10,8 +10,7 @@ use Rattle.blocks.specs.declared.records.SignalRecord.{SignalRecord}
 use Rattle.blocks.specs.declared.records.StatementRecord.{StatementRecord}
 use Rattle.fields.specs.Fields.{absent}
 use Rattle.rules.specs.declared.driven.Driven.{Driven}
-use Rattle.rules.specs.declared.value.Value.{Value}
-use Rattle.rules.specs.declared.value.Value.TheVariants.{Of, Fault}
+use Rattle.rules.specs.Values.{Value}
 use Rattle.rules.specs.Configuration.{Transaction, DriverState, ProcessState, Configuration, driver_in, process_in, current_of, driving_of, resolved_or, ready, waiting}
 use Rattle.rules.specs.Evaluation.{Environment, environment_of, eval_of}
 use Rattle.rules.specs.Statements.{next_place, stops}
@@ -82,8 +81,8 @@ wakes M p q = record { place = next_place M p q.place; standing = ready; deadlin
 
 -- by the value of b: true wakes it; "A fault in b stops it, its place and deadline kept"; its node is kept "for a wait's condition too"
 abbrev pub woken_by : Model → ℕ → ProcessState → Value → ProcessState
-woken_by M p q (Fault f) = stops q f
-woken_by M p q (Of x) = eqb x 1 ⇒ wakes M p q ∣ q
+woken_by M p q (Err f) = stops q f
+woken_by M p q (Ok x) = eqb x 1 ⇒ wakes M p q ∣ q
 
 -- "b, read on the new values, is true or absent"
 unfoldable pub woken_if : Model → ℕ → Environment → StatementRecord → ProcessState → ProcessState

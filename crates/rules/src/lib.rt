@@ -9,6 +9,7 @@ pub mod moment;
 pub mod value;
 
 // Standings of a process.
+// Stays: an answer's byte and the end configuration hold them as numbers (`picked_by`, `view_of` in specs of `cycle`).
 pub const READY: usize = 0;
 
 pub const WAITING: usize = 1;
@@ -16,6 +17,7 @@ pub const WAITING: usize = 1;
 pub const STOPPED: usize = 2;
 
 // The node of a fault that no node has.
+// Stays: no Option, since an answer's bytes have it so (`fault_and_node`).
 pub const NO_NODE: u32 = 65535;
 
 // How many delta steps are done at one time, and the latest time.

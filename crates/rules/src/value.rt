@@ -8,8 +8,4 @@ pub struct Failure {
 }
 
 // What a node evaluates to: a value as 32 bits, or a fault with its node.
-#[derive(Clone, Copy)]
-pub enum Value {
-    Of(u32),
-    Fault(Failure),
-}
+pub type Value = Result<u32, Failure>;

@@ -3,6 +3,7 @@
 use mathlib.Core.Path.{◌≡◌, sym, ap, ◌∙◌}
 use mathlib.Core.Bool.{Bool, true, false}
 use mathlib.Core.Logic.{◌⊎◌, inl, inr, ⊎_elim}
+use Rattle.std.specs.Prelude.{Option, Some, None}
 use mathlib.Core.List.{List, [], ◌∷◌, ◌++◌, append_assoc, append-nil}
 use Prim.Native.Nat.{ℕ, ◌+◌, ◌*◌, ◌-◌, ◌/◌, ◌≤◌, ◌<◌}
 use native.Mathlib.Numerals.{add-one}
@@ -27,7 +28,10 @@ use Rattle.cycle.specs.declared.picks.Picks.{Picks}
 use Rattle.cycle.specs.declared.picks.Picks.TheVariants.{One, Settle, Set}
 use Rattle.cycle.proofs.OrderLaws.{refused_is}
 use Rattle.cycle.proofs.ViewLaws.{nsignals_is}
-use Rattle.session.specs.Lists.{order, order_of, orders_of, is_known, performed, answer_bytes, answer_of, played_by, played}
+use Rattle.session.specs.Actions.{done_by}
+use Rattle.session.specs.declared.play.Action.{Action}
+use Rattle.session.specs.declared.play.Action.TheVariants.{Read}
+use Rattle.session.specs.Lists.{order, order_of, orders_of, performed, answer_bytes, answer_of, played_by, played}
 use Rattle.session.specs.Sessions.{bytes_of}
 
 -- all is written
@@ -88,73 +92,28 @@ pub record Playing (M : Model) (os : List ℕ) (c₀ : Configuration) (i : ℕ) 
   pub end : (played M (drop i (orders_of os)) (view_of at)).end ≡ (played M (orders_of os) c₀).end
   pub bytes : take (16 * i) answers ++ bytes_of (played M (drop i (orders_of os)) (view_of at)).answers ≡ bytes_of (played M (orders_of os) c₀).answers
 
--- order i is read, and b says whether it is known
-pub record Reading (M : Model) (os : List ℕ) (c₀ : Configuration) (i : ℕ) (at : Config) (answers : List ℕ) (kind argument count : ℕ) (b : Bool) : Type 0 where
+-- order i is read, and taken for an action
+pub record Reading (M : Model) (os : List ℕ) (c₀ : Configuration) (i : ℕ) (at : Config) (answers : List ℕ) (kind argument count : ℕ) (a : Option Action) : Type 0 where
   pub playing : Playing M os c₀ i at answers
   pub here : i < length os / 4
   pub kind_read : kind ≡ byte_at os (4 * i)
   pub argument_read : argument ≡ byte_at os (4 * i + 1)
   pub count_read : count ≡ word_at os (4 * i + 2)
-  pub known : b ≡ is_known (order kind argument count)
+  pub action : (M : Model) (c : Configuration) → performed M (order kind argument count) c ≡ done_by M a c
 
-module _ {M : Model} {os : List ℕ} {c₀ : Configuration} {i : ℕ} {at : Config} {answers : List ℕ} {kind argument count : ℕ} {b : Bool} (t : Reading M os c₀ i at answers kind argument count b) where
-  -- what it does
-  refused_order : b ≡ false → performed M (order kind argument count) (view_of at) ≡ refused 11 (view_of at)
-  unfolding performed
-  refused_order k = rw (← t.known, k)
-
-  module _ (k : b ≡ true) where
-    pick_order_lem : kind ≡ 1 → performed M (order kind argument count) (view_of at) ≡ picked M argument (view_of at)
-    unfolding performed
-    pick_order_lem is = rw (← t.known, k, is)
-
-    settle_order_lem : kind ≡ 3 → performed M (order kind argument count) (view_of at) ≡ settled M count (view_of at)
-    unfolding performed
-    settle_order_lem is = rw (← t.known, k, is)
-
-    set_order_lem : kind ≡ 5 → performed M (order kind argument count) (view_of at) ≡ picked_set M count (view_of at)
-    unfolding performed
-    set_order_lem is = rw (← t.known, k, is)
-
-    picks_order : (w : Picks) → w ≡ (eqb kind 1 ⇒ One argument ∣ eqb kind 3 ⇒ Settle count ∣ Set count) → (kind ≡ 1) ⊎ ((kind ≡ 3) ⊎ (kind ≡ 5))
-        → performed M (order kind argument count) (view_of at) ≡ picked_by M w (view_of at)
-    picks_order w e =
-        ⊎_elim
-        (λ (is : kind ≡ 1). pick_order_lem is ∙ rw (e, is))
-        (λ (is : (kind ≡ 3) ⊎ (kind ≡ 5)). ⊎_elim (λ (is : kind ≡ 3). settle_order_lem is ∙ rw (e, is)) (λ (is : kind ≡ 5). set_order_lem is ∙ rw (e, is)) is)
-
-    delta_order_lem : kind ≡ 6 → performed M (order kind argument count) (view_of at) ≡ delta_stepped M (view_of at)
-    unfolding performed
-    delta_order_lem is = rw (← t.known, k, is)
-
-    time_order_lem : kind ≡ 7 → performed M (order kind argument count) (view_of at) ≡ time_stepped M (view_of at)
-    unfolding performed
-    time_order_lem is = rw (← t.known, k, is)
-
-    read_order_lem : (kind ≡ 1 → ⊥) → (kind ≡ 3 → ⊥) → (kind ≡ 5 → ⊥) → (kind ≡ 6 → ⊥) → (kind ≡ 7 → ⊥) → performed M (order kind argument count) (view_of at) ≡ read_of M argument (view_of at)
-    unfolding performed
-    read_order_lem no1 no3 no5 no6 no7 = rw (← t.known, k, ne_eqb kind 1 no1, ne_eqb kind 3 no3, ne_eqb kind 5 no5, ne_eqb kind 6 no6, ne_eqb kind 7 no7)
-
-  -- what each way of the order's choice says of the answer and the configuration that it leaves
+module _ {M : Model} {os : List ℕ} {c₀ : Configuration} {i : ℕ} {at : Config} {answers : List ℕ} {kind argument count : ℕ} {b : Option Action} (t : Reading M os c₀ i at answers kind argument count b) where
+  -- what each action says of the answer and the configuration that it leaves
   abbrev Gives : Answer → Config → Type 0
   Gives answer end = Answers M (record { answer = answer; config = end }) (performed M (order kind argument count) (view_of at))
 
-  pub refused_gives : b ≡ false → (a : Answer) → a ≡ refused_answer 11 → Gives a at
-  refused_gives k a e = rw (refused_order k) (record { is = rw e (refused_is at 11); valid = t.playing.valid })
+  pub gives : (d : Action) → b ≡ Some d → (r : Answered) → Answers M r (done_by M (Some d) (view_of at)) → Gives r.answer r.config
+  gives d e r a = rw (t.action M (view_of at), e) a
 
-  module _ (k : b ≡ true) where
-    pub picks_give : (w : Picks) → w ≡ (eqb kind 1 ⇒ One argument ∣ eqb kind 3 ⇒ Settle count ∣ Set count) → (kind ≡ 1) ⊎ ((kind ≡ 3) ⊎ (kind ≡ 5)) → (r : Answered) → Answers M r (picked_by M w (view_of at)) → Gives r.answer r.config
-    picks_give w e is r a = rw (picks_order k w e is) a
+  pub refused_gives : b ≡ None → (a : Answer) → a ≡ refused_answer 11 → Gives a at
+  refused_gives k a e = rw (t.action M (view_of at), k) (record { is = rw e (refused_is at 11); valid = t.playing.valid })
 
-    pub delta_gives : kind ≡ 6 → (r : Answered) → Answers M r (delta_stepped M (view_of at)) → Gives r.answer r.config
-    delta_gives is r a = rw (delta_order_lem k is) a
-
-    pub time_gives : kind ≡ 7 → (r : Answered) → Answers M r (time_stepped M (view_of at)) → Gives r.answer r.config
-    time_gives is r a = rw (time_order_lem k is) a
-
-    pub read_gives : ((kind ≡ 1) ⊎ ((kind ≡ 3) ⊎ (kind ≡ 5)) → ⊥) → (kind ≡ 6 → ⊥) → (kind ≡ 7 → ⊥) → (r : Answered) → ReadTo argument at r → Keeps at r → Gives r.answer r.config
-    read_gives none no6 no7 r a f =
-        rw (read_order_lem k (λ e. none (inl e)) (λ e. none (inr (inl e))) (λ e. none (inr (inr e))) no6 no7) (record { is = a M (sym (nsignals_is M at t.playing.valid.reachable)); valid = f M t.playing.valid })
+  pub read_gives : (s : ℕ) → b ≡ Some (Read s) → (r : Answered) → ReadTo s at r → Keeps at r → Gives r.answer r.config
+  read_gives s k r a f = rw (t.action M (view_of at), k) (record { is = a M (sym (nsignals_is M at t.playing.valid.reachable)); valid = f M t.playing.valid })
 
   -- it is done: r is what it gave, and its answer is written into its own part of the buffer
   module _ {r : Answered} (a : Answers M r (performed M (order kind argument count) (view_of at))) where

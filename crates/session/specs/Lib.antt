@@ -1,3 +1,4 @@
+pub mod Actions
 pub mod DelayLaws
 pub mod Demand3
 pub mod FaultLaws

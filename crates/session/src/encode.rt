@@ -4,41 +4,30 @@ ghost use Rattle.session.specs.Lists.{answer_bytes};
 
 use cycle::orders::Answer;
 
-// The 16 bytes of an answer.
-fn encoded(refusal: usize, byte: usize, picks: usize, value: u32, time: u64) -> [u8; 16]
-    ensures { result ≡ answer_bytes refusal byte picks value time }
-{
-    [
-        (refusal % 256) as u8,
-        (byte % 256) as u8,
-        (picks % 256) as u8,
-        (picks / 256 % 256) as u8,
-        (value % 256) as u8,
-        (value / 256 % 256) as u8,
-        (value / 65536 % 256) as u8,
-        (value / 16777216 % 256) as u8,
-        (time % 256) as u8,
-        (time / 256 % 256) as u8,
-        (time / 65536 % 256) as u8,
-        (time / 16777216 % 256) as u8,
-        (time / 4294967296 % 256) as u8,
-        (time / 1099511627776 % 256) as u8,
-        (time / 281474976710656 % 256) as u8,
-        (time / 72057594037927936 % 256) as u8,
-    ]
-}
-
 // Writes an answer into its 16 bytes.
 pub(crate) fn put_answer(out: &mut [u8], answer: Answer, time: u64)
     requires { length out.old ≡ 16 }
     ensures { out.new ≡ answer_bytes answer.refusal answer.byte answer.picks answer.value time }
 {
-    let b = encoded(
-        answer.refusal,
-        answer.byte,
-        answer.picks,
-        answer.value,
-        time,
-    );
-    out.copy_from_slice(&b);
+    let [p0, p1] = ((answer.picks % 65536) as u16).to_le_bytes();
+    let [v0, v1, v2, v3] = answer.value.to_le_bytes();
+    let [t0, t1, t2, t3, t4, t5, t6, t7] = time.to_le_bytes();
+    out.copy_from_slice(&[
+        (answer.refusal % 256) as u8,
+        (answer.byte % 256) as u8,
+        p0,
+        p1,
+        v0,
+        v1,
+        v2,
+        v3,
+        t0,
+        t1,
+        t2,
+        t3,
+        t4,
+        t5,
+        t6,
+        t7,
+    ]);
 }

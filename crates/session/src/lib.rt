@@ -5,7 +5,10 @@ pub mod encode;
 pub mod play;
 
 ghost use Rattle.std.specs.Prelude.{◌≡◌};
+ghost use Rattle.base.specs.Refusals.{number_of, told};
 ghost use Rattle.base.specs.Rules.{first_failing};
+ghost use Rattle.rules.specs.Configuration.{empty};
+ghost use Rattle.cycle.specs.View.{view_of};
 ghost use Rattle.session.specs.DelayLaws.{DelayLaws};
 ghost use Rattle.session.specs.Demand3.{Determinate};
 ghost use Rattle.session.specs.FaultLaws.{FaultLaws};
@@ -15,10 +18,13 @@ ghost use Rattle.session.specs.Sessions.{orders_ok, length_rules, SessionIs};
 ghost use Rattle.session.specs.SetLaws.{SetLaws};
 
 use crate::play::play;
+use base::refusal::Refusal;
 use cycle::config::Config;
+use expressions::program::Program;
 use model::load::load;
 
 // What a session returns: its number and its end configuration.
+// Stays: no Result, since a refused session has an end configuration too, the empty one (`session_is`).
 #[derive(Drop)]
 pub struct Ended {
     pub number: usize,
@@ -33,17 +39,28 @@ pub fn orders_ok(orders: &[u8]) -> bool
     (n % 4 == 0) & (n <= 16384)
 }
 
-// The first of 9 and 10 that applies, or 0.
-fn lengths_refusal(orders: &[u8], answers: &[u8]) -> usize
-    ensures { result ≡ first_failing (length_rules orders.now answers.now) }
+// The first of the rules 9 and 10 that fails.
+fn check_lengths(orders: &[u8], answers: &[u8]) -> Result<(), Refusal>
+    ensures { told result ≡ first_failing (length_rules orders.now answers.now) }
 {
     if !orders_ok(orders) {
-        return 9;
+        return Err(Refusal::OrdersLength);
     }
     if answers.len() != 4 * orders.len() {
-        return 10;
+        return Err(Refusal::AnswersLength);
     }
-    0
+    Ok(())
+}
+
+// What a refused session returns.
+fn refused(refusal: Refusal) -> Ended
+    ensures number { result.number ≡ number_of refusal }
+    ensures config { view_of result.config ≡ empty }
+{
+    Ended {
+        number: refusal.number(),
+        config: Config::empty(),
+    }
 }
 
 // Plays the orders on the model from its first configuration, and writes the answers. A refused session returns its number and
@@ -57,25 +74,19 @@ pub fn session(model: &[u8], orders: &[u8], answers: &mut [u8]) -> Ended
     ensures set_laws { SetLaws }
     ensures own_table_laws { OwnTableLaws }
 {
-    let loaded = load(model);
-    let refusal = loaded.refusal;
-    if refusal != 0 {
-        return Ended {
-            number: refusal,
-            config: Config::empty(),
-        };
+    let loaded = match load(model) {
+        Ok(loaded) => loaded,
+        Err(refusal) => return refused(refusal),
+    };
+    if let Err(refusal) = check_lengths(orders, answers) {
+        return refused(refusal);
     }
-    let number = lengths_refusal(orders, answers);
-    if number != 0 {
-        return Ended {
-            number: number,
-            config: Config::empty(),
-        };
-    }
-    let index = loaded.index;
-    let c = Config::first(model, &index, loaded.totals);
+    let program = Program {
+        records: loaded.records(model),
+    };
+    let first = Config::first(&program);
     Ended {
         number: 0,
-        config: play(c, model, &index, orders, answers),
+        config: play(first, &program, orders, answers),
     }
 }

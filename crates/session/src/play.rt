@@ -1,93 +1,85 @@
 // A list of orders, played one after the other.
 ghost use Rattle.std.specs.Prelude.{◌≡◌, ◌*◌, ◌/◌, length};
-ghost use Rattle.base.specs.Cases.{◌∣◌, ◌is◌⇒◌};
-ghost use Rattle.blocks.specs.Records.{model_of};
-ghost use Rattle.expressions.specs.Reading.{Runs};
+ghost use Rattle.blocks.specs.Records.{Model};
+ghost use Rattle.rules.specs.Configuration.{Configuration};
+ghost use Rattle.expressions.specs.Lent.{model_of_program};
 ghost use Rattle.cycle.specs.View.{Valid, view_of};
-ghost use Rattle.cycle.specs.declared.picks.Picks.TheVariants.{One, Settle, Set};
-ghost use Rattle.session.specs.Lists.{is_known, order};
+ghost use Rattle.session.specs.Actions.{done_by};
+ghost use Rattle.session.specs.Lists.{order, performed};
 ghost use Rattle.session.specs.Sessions.{PlayedTo};
 
 use crate::encode::put_answer;
 use base::{byte, word};
-use blocks::index::Index;
 use cycle::config::Config;
 use cycle::orders::Answer;
 use cycle::picks::Picks;
+use expressions::program::Program;
 
-// The kind is known, and the bytes that it does not use are zero.
-fn known(kind: usize, argument: usize, count: usize) -> bool
-    ensures { result ≡ is_known (order kind argument count) }
-{
-    match kind {
-        1 | 4 => count == 0,
-        3 | 5 => argument == 0,
-        6 | 7 => (argument == 0) & (count == 0),
-        _ => false,
-    }
+// What an order does.
+#[derive(Clone, Copy)]
+pub enum Action {
+    Picks(Picks),
+    // reads the current value of the signal
+    Read(usize),
+    DeltaStep,
+    TimeStep,
 }
 
-// The picks that a pick, a settle or a pick of a set asks for.
-fn picks_of(kind: usize, argument: usize, count: usize) -> Picks
-    ensures { result ≡ (kind is 1 ⇒ One argument ∣ kind is 3 ⇒ Settle count ∣ Set count) }
+// What the order of a kind does, if the kind is known and the bytes that it does not use are zero.
+#[tactic(auto, unfolding(crate::specs::Lists::performed, crate::specs::Lists::is_known))]
+fn action_of(kind: usize, argument: usize, count: usize) -> Option<Action>
+    ensures { (M : Model) (c : Configuration) → performed M (order kind argument count) c ≡ done_by M result c }
 {
-    match kind {
-        1 => Picks::One(argument),
-        3 => Picks::Settle(count),
-        _ => Picks::Set(count),
+    match (kind, argument, count) {
+        (1, process, 0) => Some(Action::Picks(Picks::One(process))),
+        (3, 0, count) => Some(Action::Picks(Picks::Settle(count))),
+        (4, signal, 0) => Some(Action::Read(signal)),
+        (5, 0, set) => Some(Action::Picks(Picks::Set(set))),
+        (6, 0, 0) => Some(Action::DeltaStep),
+        (7, 0, 0) => Some(Action::TimeStep),
+        _ => None,
     }
 }
 
 // Plays the orders, and writes each answer into its own part of the buffer.
-pub fn play<'a>(
-    c: Config,
-    m: &'a [u8],
-    index: &'a Index,
-    orders: &[u8],
-    answers: &mut [u8],
-) -> Config
-    requires runs { Runs m.now index.now }
-    requires valid { Valid (model_of m.now) c }
+pub fn play(c: Config, program: &Program, orders: &[u8], answers: &mut [u8]) -> Config
+    requires valid { Valid (model_of_program program.now) c }
     requires answers_len { length answers.old ≡ 16 * (length orders.now / 4) }
-    ensures played_to { PlayedTo (model_of m.now) orders.now (view_of c) (view_of result) answers.new }
-    ensures valid_2 { Valid (model_of m.now) result }
+    ensures played_to { PlayedTo (model_of_program program.now) orders.now (view_of c) (view_of result) answers.new }
+    ensures valid_2 { Valid (model_of_program program.now) result }
 {
-    let n = orders.len() / 4;
     let mut at = c;
-    let mut i = 0;
-    while i < n {
+    for i in 0..orders.len() / 4 {
         let from = 4 * i;
         let kind = byte(orders, from);
         let argument = byte(orders, from + 1);
         let count = word(orders, from + 2);
         let to = 16 * i;
         let mut answer = Answer::refused(11);
-        if known(kind, argument, count) {
-            match kind {
-                1 | 3 | 5 => {
-                    let r = at.picks(m, index, picks_of(kind, argument, count));
-                    at = r.config;
-                    answer = r.answer;
-                }
-                6 => {
-                    let r = at.delta_step(m, index);
-                    at = r.config;
-                    answer = r.answer;
-                }
-                7 => {
-                    let r = at.time_step(m, index);
-                    at = r.config;
-                    answer = r.answer;
-                }
-                _ => {
-                    let r = at.read(argument);
-                    at = r.config;
-                    answer = r.answer;
-                }
+        match action_of(kind, argument, count) {
+            None => {}
+            Some(Action::Picks(which)) => {
+                let r = at.picks(program, which);
+                at = r.config;
+                answer = r.answer;
+            }
+            Some(Action::Read(signal)) => {
+                let r = at.read(signal);
+                at = r.config;
+                answer = r.answer;
+            }
+            Some(Action::DeltaStep) => {
+                let r = at.delta_step(program);
+                at = r.config;
+                answer = r.answer;
+            }
+            Some(Action::TimeStep) => {
+                let r = at.time_step(program);
+                at = r.config;
+                answer = r.answer;
             }
         }
         put_answer(&mut answers[to..to + 16], answer, at.time);
-        i += 1;
     }
     at
 }

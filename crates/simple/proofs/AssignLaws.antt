@@ -7,7 +7,7 @@ use Prim.Native.Nat.{ℕ, ◌+◌, ◌*◌, ◌-◌, ◌≤◌, ◌<◌}
 use native.Mathlib.Omega.{arith}
 use lib.Seq.{sets}
 use Rattle.blocks.specs.declared.records.StatementRecord.{StatementRecord}
-use Rattle.grammar.specs.Tokens.{Token, tok, word, signal_code, variable_code, from, NoWord}
+use Rattle.grammar.specs.Tokens.{Token, tok, word, signal_code, variable_code, from}
 use Rattle.tokens.specs.Answers.{FoundWord}
 use Rattle.grammar.specs.Words.{wait_word, on_word, after_word, semicolon, becomes, drives}
 use Rattle.grammar.specs.Grammar.{Expression, Statement, assign, drive, wait, Says, SaysSignals, SaysUntil, SaysOn, no_on, with_on, one, Spells, spells_null, spells_assign, spells_drive, spells_wait, spells_while, spells_choice}
@@ -31,19 +31,7 @@ pub stored : (out : List ℕ) (i : ℕ) {s : StatementRecord} {kind a b c set : 
 stored out i {kind} {a} {b} {c} {set} e f = e ∙ ap (λ l. sets out (12 * i) l) (one_record (statement kind a b c set)) ∙ ap (λ s. sets out (12 * i) (statement_bytes (s ∷ []))) f
 
 -- v := e ;
-no_becomes_in : {d v : ℕ} {p : Statement} {u r : List Token} → NoWord u becomes → Spells one d p (tok variable_code v ∷ u) r → ⊥
-no_becomes_in n (spells_assign e) = n _ refl
-
-no_value_in : {d v : ℕ} {p : Statement} {u r : List Token} → NoPhrase u semicolon → Spells one d p (tok variable_code v ∷ word becomes ∷ u) r → ⊥
-no_value_in n (spells_assign e) = n _ _ e
-
-pub no_becomes : {v room : ℕ} {u : List Token} → NoWord u becomes → NoStatement (tok variable_code v ∷ u) room
-no_becomes n p r h = no_becomes_in n h
-
 module _ {text : List ℕ} {at v x : ℕ} (w : FoundWord text at becomes x) where
-  pub no_value : {room : ℕ} → NoPhrase (from text x) semicolon → NoStatement (tok variable_code v ∷ from text at) room
-  no_value n p r h = no_value_in n (spells_at (ap (λ l. tok variable_code v ∷ l) w.begins) h)
-
   pub found_assign : {room m i y k set : ℕ} {nodes nodes' out out' : List ℕ} → FoundPhrase text x semicolon m y k set nodes nodes' → i < at
       → out' ≡ sets out (12 * i) (record_bytes 1 v (k - 1) 0 0) → FoundStatement text (tok variable_code v ∷ from text at) at room m i y k (i + 1) nodes nodes' out out'
   unfolding nodes_in_body nodes_of_body statements_in statements_of
@@ -58,12 +46,6 @@ module _ {text : List ℕ} {at v x : ℕ} (w : FoundWord text at becomes x) wher
   }
 
 -- s <= e after e ;
-no_drives_in : {d n : ℕ} {p : Statement} {u r : List Token} → NoWord u drives → Spells one d p (tok signal_code n ∷ u) r → ⊥
-no_drives_in f (spells_drive a b) = f _ refl
-
-no_driven_in : {d n : ℕ} {p : Statement} {u r : List Token} → NoPhrase u after_word → Spells one d p (tok signal_code n ∷ word drives ∷ u) r → ⊥
-no_driven_in f (spells_drive a b) = f _ _ a
-
 no_delay_in : {d n : ℕ} {e : Expression} {p : Statement} {u w r : List Token} → Says e u (word after_word ∷ w) → NoPhrase w semicolon
     → Spells one d p (tok signal_code n ∷ word drives ∷ u) r → ⊥
 no_delay_in {w} f n (spells_drive {t = t} a b) =
@@ -71,13 +53,7 @@ no_delay_in {w} f n (spells_drive {t = t} a b) =
     let here : t ≡ w = cc in
     n _ _ (says_at here b)
 
-pub no_drives : {s room : ℕ} {u : List Token} → NoWord u drives → NoStatement (tok signal_code s ∷ u) room
-no_drives n p r h = no_drives_in n h
-
 module _ {text : List ℕ} {at s x : ℕ} (w : FoundWord text at drives x) where
-  pub no_driven : {room : ℕ} → NoPhrase (from text x) after_word → NoStatement (tok signal_code s ∷ from text at) room
-  no_driven n p r h = no_driven_in n (spells_at (ap (λ l. tok signal_code s ∷ l) w.begins) h)
-
   module _ {m y k set : ℕ} {nodes one' : List ℕ} (f : FoundPhrase text x after_word m y k set nodes one') where
     pub no_delay : {room : ℕ} → NoPhrase (from text y) semicolon → NoStatement (tok signal_code s ∷ from text at) room
     no_delay n p r h = no_delay_in f.says n (spells_at (ap (λ l. tok signal_code s ∷ l) w.begins) h)
@@ -133,13 +109,6 @@ found_wait {i} {b} {c} {o} {out} f says less small {l} collected e = record {
 }
 
 -- no `on`
-no_on_in : {o : Option (List ℕ)} {u f : Option Expression} {s r : List Token} → NoWord s on_word → NoUntil s → SaysOn o u f s r → ⊥
-no_on_in n m (no_on h) = m _ _ _ h
-no_on_in n m (with_on g h) = n _ refl
-
-pub no_wait_here : {s : List Token} {room : ℕ} → NoWord s on_word → NoUntil s → NoStatement (word wait_word ∷ s) room
-no_wait_here n m p r h = let (o, u, f, parts) = wait_parts h in no_on_in n m parts
-
 -- on ..
 on_parts : {o : Option (List ℕ)} {u f : Option Expression} {s r : List Token} → SaysOn o u f (word on_word ∷ s) r → (ns : List ℕ) × (t : List Token) × SaysSignals ns s t × SaysUntil u f t r
 on_parts (no_on h) = absurd (not_until {c = on_word} (λ z. omega (arith, z)) (λ z. omega (arith, z)) (λ z. omega (arith, z)) h)

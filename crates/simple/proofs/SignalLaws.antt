@@ -2,27 +2,25 @@
 -- Assumes nothing.
 use mathlib.Core.Path.{◌≡◌, refl, sym, ap, subst, ◌∙◌}
 use mathlib.Core.List.{List, [], ◌∷◌, ◌++◌, append_assoc}
-use mathlib.Core.Logic.{◌≢◌}
 use Prim.Native.Nat.{ℕ, ◌*◌, ◌%◌, ◌^◌, ◌≤◌, ◌<◌}
 use native.Mathlib.Omega.{arith}
 use lib.Bits.{bit_or}
 use Rattle.grammar.specs.Tokens.{Token, tok, word, signal_code, from, NoWord}
-use Rattle.tokens.specs.Answers.{FirstToken, FoundWord}
+use Rattle.tokens.specs.declared.Lexeme.{Lexeme}
+use Rattle.tokens.specs.declared.Lexeme.TheVariants.{Signal}
+use Rattle.tokens.specs.Answers.{Fits, FirstToken, FoundWord}
+use Rattle.phrases.proofs.Operands.{begins_as, first_within}
 use Rattle.grammar.specs.Words.{comma}
 use Rattle.grammar.specs.Grammar.{SaysSignals, one_signal, more_signals}
 use Rattle.grammar.specs.Made.{set_with}
 use Rattle.grammar.proofs.MadeLaws.{set_append}
 use Rattle.phrases.proofs.Operands.{leaf_signal}
-use Rattle.simple.specs.Waits.{FoundSignals, NoSignals}
+use Rattle.simple.specs.Waits.{FoundSignals}
 
 signals_at : {ns : List ℕ} {s t r : List Token} → s ≡ t → SaysSignals ns s r → SaysSignals ns t r
 signals_at e h = rw e at h
 
 -- signals begin with one
-signal_first : {ns : List ℕ} {c v : ℕ} {s r : List Token} → SaysSignals ns (tok c v ∷ s) r → c ≡ signal_code
-signal_first one_signal = refl
-signal_first (more_signals p) = refl
-
 -- behind a comma there are more
 after_comma : {ns : List ℕ} {n : ℕ} {s r : List Token} → NoWord r comma → SaysSignals ns (tok signal_code n ∷ word comma ∷ s) r
     → (ms : List ℕ) × (ns ≡ n ∷ ms) × SaysSignals ms s r
@@ -45,15 +43,13 @@ pub collects_first : (text : List ℕ) (at : ℕ) → Collects text at at 0
 unfolding set_with
 collects_first text at = record { done = []; down = λ ns r x h. (ns, refl, h); up = λ ms r h. h; collected = refl }
 
-module _ {text : List ℕ} {at i set code value next : ℕ} (k : Collects text at i set) (t : FirstToken text i code value next) where
-  pub no_signal : code ≢ signal_code → NoSignals (from text at)
-  no_signal n ns r x h =
-      let (ms, e, s) = k.down ns r x h in
-      n (signal_first (signals_at t.begins s))
+module _ {text : List ℕ} {at i set next : ℕ} {token : Lexeme} (k : Collects text at i set) (t : FirstToken text i token next) where
+  module _ (value : ℕ) (e : token ≡ Signal value) where
+    pub signal_small : value < 32
+    signal_small = subst Fits e t.fits
 
-  module _ (e : code ≡ signal_code) where
     here : from text i ≡ tok signal_code value ∷ from text next
-    here = t.begins ∙ rw (e, (t.goes_on (λ z. omega (arith, e, z))).0)
+    here = begins_as t (Signal value) e (λ z. cc)
 
     collected_more : {set' : ℕ} → set' ≡ set_with set (value ∷ []) → set' ≡ set_with 0 (k.done ++ (value ∷ []))
     collected_more f = f ∙ ap (λ x. set_with x (value ∷ [])) k.collected ∙ sym (set_append 0 k.done (value ∷ []))
@@ -81,5 +77,5 @@ module _ {text : List ℕ} {at i set code value next : ℕ} (k : Collects text a
       says = k.up (value ∷ []) (from text next) (signals_at (sym here) one_signal);
       ends = n;
       collected = collected_more f;
-      within = (omega (arith, (t.goes_on (λ z. omega (arith, e, z))).1), t.within.1);
+      within = (omega (arith, (first_within t (Signal value) e (λ z. cc)).0), t.within.1);
     }

@@ -1,8 +1,8 @@
 -- What the functions for statements answer.
-use Rattle.std.specs.Prelude.{◌≡◌, Bool, List, ℕ, ◌+◌, ◌*◌, ◌≤◌, ◌<◌, length}
+use Rattle.std.specs.Prelude.{◌≡◌, Option, MatchOption, List, ℕ, ◌+◌, ◌*◌, ◌≤◌, ◌<◌, length}
 use Rattle.std.proofs.lemmas.List.Edits.{sets}
 use Rattle.grammar.specs.Tokens.{Token, from}
-use Rattle.tokens.specs.Answers.{Answer}
+use Rattle.simple.specs.declared.Made.{Made}
 use Rattle.grammar.specs.Grammar.{Statement, one, Spells}
 use Rattle.grammar.specs.Made.{nodes_in_body, nodes_of_body, statements_in, statements_of}
 use Rattle.writing.specs.Written.{node_bytes, statement_bytes}
@@ -22,10 +22,10 @@ abbrev pub NoStatement : List Token → ℕ → Type 0
 NoStatement s room = (p : Statement) (r : List Token) → Spells one room p s r → ⊥
 
 -- whether the tokens s begin with a statement that has at most so many levels
-abbrev pub AnswerStatement : List ℕ → List Token → (at room m i : ℕ) → Bool → (next m' i' : ℕ) → (nodes nodes' out out' : List ℕ) → Type 0
-AnswerStatement text s at room m i ok next m' i' nodes nodes' out out' =
-    Answer ok (FoundStatement text s at room m i next m' i' nodes nodes' out out') (NoStatement s room)
+abbrev pub AnswerStatement : List ℕ → List Token → (at room m i : ℕ) → Option Made → (nodes nodes' out out' : List ℕ) → Type 0
+AnswerStatement text s at room m i made nodes nodes' out out' =
+    MatchOption made (NoStatement s room) (λ r. FoundStatement text s at room m i r.next r.nodes r.statements nodes nodes' out out')
 
 -- the same where the statement has no level
-abbrev pub AnswerSimple : List ℕ → List Token → (at m i : ℕ) → Bool → (next m' i' : ℕ) → (nodes nodes' out out' : List ℕ) → Type 0
-AnswerSimple text s at m i ok next m' i' nodes nodes' out out' = (room : ℕ) → AnswerStatement text s at room m i ok next m' i' nodes nodes' out out'
+abbrev pub AnswerSimple : List ℕ → List Token → (at m i : ℕ) → Option Made → (nodes nodes' out out' : List ℕ) → Type 0
+AnswerSimple text s at m i made nodes nodes' out out' = (room : ℕ) → AnswerStatement text s at room m i made nodes nodes' out out'

@@ -9,6 +9,7 @@ use lib.Dec.{eqb}
 use lib.ListN.{length, set, length-set}
 use lib.Seq.{get_or-set_same, get_or-set_other}
 use borrow.Author.Tests.{eqb-true, eq-eqb, ne_eqb}
+use Rattle.std.specs.Prelude.{Ok, Err}
 use Rattle.base.specs.Below.{any_below}
 use Rattle.base.proofs.Cases.{by_test}
 use Rattle.sets.specs.Sets.{in_set}
@@ -17,12 +18,11 @@ use Rattle.blocks.specs.declared.records.StatementRecord.{StatementRecord}
 use Rattle.fields.specs.Fields.{absent}
 use Rattle.fields.specs.Facts.{Spans}
 use Rattle.model.specs.Facts.{Facts}
-use Rattle.rules.specs.declared.value.Value.{Value}
+use Rattle.rules.specs.Values.{Value}
 use Rattle.rules.specs.declared.value.Failure.{Failure}
-use Rattle.rules.specs.declared.value.Value.TheVariants.{Of, Fault}
-use Rattle.rules.specs.Configuration.{ProcessState, ready, waiting, last_time}
+use Rattle.rules.specs.Configuration.{ProcessState, waiting, last_time}
 use Rattle.rules.specs.Evaluation.{Environment, eval_of}
-use Rattle.rules.specs.Statements.{next_place, stops}
+use Rattle.rules.specs.Statements.{stops}
 use Rattle.rules.specs.Steps.{deadline_at, deadline_due, wakes, woken_by}
 use Rattle.rules.specs.Invariant.{ProcessValid}
 use Rattle.rules.proofs.Effects.{own_statement}
@@ -39,20 +39,10 @@ due_is t d h =
     (λ e. sym (ne_eqb d t (λ q. omega (arith, eqb-true d never e))))
     (λ e. refl)
 
--- ready, past the wait
-pub woken_is : (M : Model) (p place : ℕ) (q : Process) → place ≡ next_place M p q.place → state_of (record { place = place; standing = ready; deadline = never; fault = q.fault; node = q.node }) ≡ wakes M p (state_of q)
-woken_is M p place q e = rw e
-
 -- by the value of the condition
 module _ (M : Model) (p : ℕ) (q : ProcessState) (v : Value) where
-  pub by_fault : (f : Failure) → v ≡ Fault f → stops q f ≡ woken_by M p q v
+  pub by_fault : (f : Failure) → v ≡ Err f → stops q f ≡ woken_by M p q v
   by_fault f e = rw e
-
-  pub by_true : (x : ℕ) (r : ProcessState) → v ≡ Of x → x ≡ 1 → r ≡ wakes M p q → r ≡ woken_by M p q v
-  by_true x r e h is = rw (e, eq-eqb x 1 h) is
-
-  pub by_false : (x : ℕ) → v ≡ Of x → (x ≡ 1 → ⊥) → q ≡ woken_by M p q v
-  by_false x e h = rw (e, ne_eqb x 1 h)
 
 -- by the condition b of the wait
 module _ (M : Model) (p : ℕ) (e : Environment) (b : ℕ) (q : ProcessState) where
@@ -68,9 +58,6 @@ module _ (M : Model) (p : ℕ) (e : Environment) (b : ℕ) (q : ProcessState) wh
 module _ (M : Model) (fs : Facts M) (p t : ℕ) (h : p < length M.processes) (q : Process) (f : ProcessValid M p t (state_of q)) where
   pub at_place : Spans M p q.place
   at_place = record { from = f.from; below = f.within }
-
-  pub place_there : q.place < length M.statements
-  place_there = omega (arith, f.within, (fs.process p h).within)
 
   pub condition_there : (w : StatementRecord) → w ≡ statement_at M q.place → q.standing ≡ waiting → (w.b ≡ absent → ⊥) → w.b < length M.nodes
   condition_there w e s b =
@@ -113,8 +100,8 @@ module _ (M : Model) (p t changed : ℕ) (e : Environment) (q : ProcessState) wh
     woken_stays h = absurd (omega (arith, h ∙ w))
 
     by_value : (v : Value) → Stays (woken_by M p q v)
-    by_value (Fault f) = λ h. absurd (omega (arith, h ∙ w))
-    by_value (Of x) = by_test Stays (eqb x 1) (wakes M p q) q (λ _. woken_stays) (λ _ h. refl)
+    by_value (Err f) = λ h. absurd (omega (arith, h ∙ w))
+    by_value (Ok x) = by_test Stays (eqb x 1) (wakes M p q) q (λ _. woken_stays) (λ _ h. refl)
 
     waiting_stays : (s : StatementRecord) → Stays (woken_in M p t changed e s q)
     unfolding woken_in woken_for

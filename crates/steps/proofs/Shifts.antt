@@ -3,10 +3,10 @@ use mathlib.Core.Path.{◌≡◌, refl, sym, ap, ◌∙◌}
 use mathlib.Core.List.{List, [], ◌++◌, map}
 use Prim.Native.Nat.{ℕ, ◌+◌, ◌-◌, ◌*◌, ◌%◌, ◌≤◌, ◌<◌, min}
 use native.Mathlib.Nat.{le_antisymm}
-use native.Mathlib.Decide.{dec_lt, ℕ_discrete}
+use native.Mathlib.Decide.{dec_lt}
 use native.Mathlib.Omega.{arith}
-use lib.ListN.{length, get_or, set, length-set, replicate, length-replicate, length-map, get_or-replicate, get_or-append}
-use lib.Seq.{get_or-take, ext_get_or, get_or-append-add, get_or-set_same, get_or-set_other}
+use lib.ListN.{length, get_or, replicate, length-replicate, length-map, get_or-replicate, get_or-append}
+use lib.Seq.{get_or-take, ext_get_or, get_or-append-add}
 use Rattle.base.specs.Below.{list_below}
 use Rattle.base.proofs.Below.{map_at, list_length, list_at}
 use Rattle.rules.specs.Steps.{shifted}
@@ -23,22 +23,6 @@ history_at l s k h = list_at (λ k. get_or l (32 * s + k) 0) 0 32 k h
 module _ (f : ℕ → ℕ) (old : List ℕ) (hi : ℕ) where
   pub between_none : (j : ℕ) → hi ≡ j + 1 → Between f old j hi old
   between_none j e = record { long = refl; done = λ i l h. absurd (omega arith); before = λ i l. refl; after = λ i l. refl }
-
-  -- one entry more
-  pub between_turn : (new : List ℕ) (j i v : ℕ) → j ≡ i + 1 → j < hi → j < length new → v ≡ f j → Between f old j hi new → Between f old i hi (set new j v)
-  between_turn new j i v s m l e h =
-      record {
-        long = length-set new j v ∙ h.long;
-        done = λ x a b. elim (ℕ_discrete x j) [
-          | yes q ↦ rw (q, get_or-set_same new j v 0 l) e
-          | no q ↦ rw (get_or-set_other new j x v 0 q) (h.done x (omega (arith, q)) b)
-        ];
-        before = λ x a. get_or-set_other new j x v 0 (λ q. omega arith) ∙ h.before x (omega arith);
-        after = λ x a. get_or-set_other new j x v 0 (λ q. omega arith) ∙ h.after x a;
-      }
-
-  pub between_all : (new : List ℕ) (j lo : ℕ) → lo ≤ j → j ≤ lo → Between f old j hi new → Between f old lo hi new
-  between_all new j lo l m h = record { long = h.long; done = λ x a b. h.done x (omega arith) b; before = λ x a. h.before x (omega arith); after = h.after }
 
 -- history after history
 module _ (old : List ℕ) (n : ℕ) where

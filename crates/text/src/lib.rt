@@ -37,10 +37,10 @@ fn put_signed(v: u64, out: &mut [u8], at: usize) -> usize
     ensures puts { Puts (ended (signed_of v) space) out.old out.new at result }
 {
     if v < 2147483648 {
-        return put_number(v, 32, out, at);
+        return put_number(v, b' ', out, at);
     }
-    let digits = put_byte(45, out, at);
-    put_number(4294967296 - v, 32, out, digits)
+    let digits = put_byte(b'-', out, at);
+    put_number(4294967296 - v, b' ', out, digits)
 }
 
 // The time of an answer.
@@ -87,12 +87,12 @@ fn put_line(kind: usize, answer: &[u8], out: &mut [u8], at: usize) -> usize
     let value = value_in(kind, answer);
     let node = node_in(kind, answer);
     let time = time_in(answer);
-    let a = put_number(refusal, 32, out, at);
-    let b = put_number(said, 32, out, a);
-    let c = put_number(picks, 32, out, b);
+    let a = put_number(refusal, b' ', out, at);
+    let b = put_number(said, b' ', out, a);
+    let c = put_number(picks, b' ', out, b);
     let d = put_signed(value, out, c);
-    let e = put_number(node, 32, out, d);
-    put_number(time, 10, out, e)
+    let e = put_number(node, b' ', out, d);
+    put_number(time, b'\n', out, e)
 }
 
 // The line of the answer to each order; answers how many bytes they have.
@@ -103,14 +103,11 @@ fn put_lines(orders: &[u8], answers: &[u8], out: &mut [u8]) -> usize
     ensures upper_bound { result ≤ length out.new }
     ensures out_after { take result out.new ≡ lines_of (orders_of orders.now) (answers_in answers.now) }
 {
-    let n = answers.len() / 16;
     let mut at = 0;
-    let mut i = 0;
-    while i < n {
+    for i in 0..answers.len() / 16 {
         let kind = byte(orders, 4 * i);
         let from = 16 * i;
         at = put_line(kind, &answers[from..from + 16], out, at);
-        i += 1;
     }
     at
 }
@@ -121,7 +118,7 @@ pub fn put_refusal(number: usize, out: &mut [u8]) -> usize
     ensures upper_bound { result ≤ length out.new }
     ensures out_after { take result out.new ≡ number_line_of number }
 {
-    put_number(number as u64, 10, out, 0)
+    put_number(number as u64, b'\n', out, 0)
 }
 
 // Plays the session, and answers its number.

@@ -10,6 +10,9 @@ use borrow.Author.Tests.{le-leb, eq-eqb}
 use lib.ListN.{length, take, replicate, length-replicate}
 use lib.Seq.{sets, sets-eq, take_at}
 use Rattle.base.specs.Below.{every}
+use Rattle.base.specs.Refusals.{number_of}
+use Rattle.base.specs.declared.refusal.Refusal.{Refusal}
+use Rattle.base.specs.declared.refusal.Refusal.TheVariants.{ModelLength, BlockSum, BlockHead, Counts, Fields, Trees, Types, Owners, OrdersLength, AnswersLength, UnknownOrder, NoProcess, NotReady, StillReady, Stopped, DeltaLimit, NeverDue, TooLate, NoSignal, NullOnPlain, NoRoom, NothingDueNow, DueNow, NotSymmetric, NotAssociative, NoSentence, UnknownName}
 use Rattle.base.specs.Rules.{first_failing}
 use Rattle.base.proofs.Rules.{none_left, passes, later_decide, first_decides}
 use Rattle.blocks.specs.Blocks.{length_ok, sums_ok, heads_ok}
@@ -55,12 +58,45 @@ refused_taken q z n f o = record {
   one_reading = o;
 }
 
+-- a refusal by name has a number
+pub number_some : (e : Refusal) → number_of e ≢ 0
+number_some ModelLength z = omega (arith, z)
+number_some BlockSum z = omega (arith, z)
+number_some BlockHead z = omega (arith, z)
+number_some Counts z = omega (arith, z)
+number_some Fields z = omega (arith, z)
+number_some Trees z = omega (arith, z)
+number_some Types z = omega (arith, z)
+number_some Owners z = omega (arith, z)
+number_some OrdersLength z = omega (arith, z)
+number_some AnswersLength z = omega (arith, z)
+number_some UnknownOrder z = omega (arith, z)
+number_some NoProcess z = omega (arith, z)
+number_some NotReady z = omega (arith, z)
+number_some StillReady z = omega (arith, z)
+number_some Stopped z = omega (arith, z)
+number_some DeltaLimit z = omega (arith, z)
+number_some NeverDue z = omega (arith, z)
+number_some TooLate z = omega (arith, z)
+number_some NoSignal z = omega (arith, z)
+number_some NullOnPlain z = omega (arith, z)
+number_some NoRoom z = omega (arith, z)
+number_some NothingDueNow z = omega (arith, z)
+number_some DueNow z = omega (arith, z)
+number_some NotSymmetric z = omega (arith, z)
+number_some NotAssociative z = omega (arith, z)
+number_some NoSentence z = omega (arith, z)
+number_some UnknownName z = omega (arith, z)
+
 -- 26
 pub unread_taken : {text g model : List ℕ} {number x y m i b : ℕ} {r s t u : List ℕ} {k : ℕ} → Read text k x y r s t u → k ≢ 0 → (number ≡ 26) × (m ≡ 0) × (i ≡ 0) × (b ≡ 0)
     → Taken text g number m i b model model
 unread_taken r n q =
     let none = (r.refused (r.one_number n)).no_sentence in
     refused_taken q (λ e. omega (arith, e)) (λ h. refl) (λ p s l. absurd (omega (arith, none p s, l))) r.one_reading
+
+pub unread : {text g model : List ℕ} (e : Refusal) {x y : ℕ} {r s t u : List ℕ} → Read text (number_of e) x y r s t u → Taken text g (number_of e) 0 0 0 model model
+unread e r = unread_taken r (number_some e) (r.one_number (number_some e), refl, refl, refl)
 
 -- bytes stored at the front
 pub front_stored : (old vs : List ℕ) (n : ℕ) {new : List ℕ} → new ≡ sets old 0 vs → length vs ≡ n → n ≤ length old → take n new ≡ vs

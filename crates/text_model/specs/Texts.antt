@@ -1,6 +1,8 @@
 -- What a text comes to with the records that are given with it (document 02, item 12).
-use Rattle.std.specs.Prelude.{◌≡◌, true, List, ◌≢◌, ℕ, ◌*◌, ◌≤◌, ◌<◌, length}
+use Rattle.std.specs.Prelude.{◌≡◌, true, Result, Ok, Err, List, ◌≢◌, ℕ, ◌*◌, ◌≤◌, ◌<◌, length}
 use Rattle.std.proofs.lemmas.List.Edits.{sets}
+use Rattle.base.specs.declared.refusal.Refusal.{Refusal}
+use Rattle.text_model.specs.declared.Report.{Report}
 use Rattle.base.specs.Rules.{first_failing}
 use Rattle.blocks.specs.Records.{model_of}
 use Rattle.model.specs.Rules.{refusal_of}
@@ -64,3 +66,16 @@ pub record Taken (text g : List ℕ) (number m i b : ℕ) (old new : List ℕ) :
   pub accepted : number ≡ 0 → Accepted text g m i b old new
   pub refused : number ≢ 0 → Refused m i b old new
   pub one_reading : OneReading text
+
+-- how many nodes, statements and blocks are told: none of a refused text
+abbrev pub nodes_taken : Result Report Refusal → ℕ
+nodes_taken (Ok r) = r.nodes
+nodes_taken (Err e) = 0
+
+abbrev pub statements_taken : Result Report Refusal → ℕ
+statements_taken (Ok r) = r.statements
+statements_taken (Err e) = 0
+
+abbrev pub blocks_taken : Result Report Refusal → ℕ
+blocks_taken (Ok r) = r.blocks
+blocks_taken (Err e) = 0

@@ -9,8 +9,10 @@ ghost use Rattle.grammar.specs.Made.{made_nodes, made_statements};
 ghost use Rattle.writing.specs.Written.{node_bytes, statement_bytes};
 ghost use Rattle.packing.specs.Packed.{PackedIn};
 ghost use Rattle.given.specs.Given.{given_rules, parts_from};
-ghost use Rattle.text_model.specs.Texts.{text_room, records_room, model_room, GivenFits, Taken};
+ghost use Rattle.text_model.specs.Texts.{text_room, records_room, model_room, GivenFits, Taken, nodes_taken, statements_taken, blocks_taken};
+ghost use Rattle.base.specs.Refusals.{told};
 
+use base::refusal::Refusal;
 use blocks::blocks::totals_ok;
 use blocks::index::Totals;
 use given::{names_ok, whole_ok};
@@ -50,34 +52,22 @@ pub fn model_room() -> [u8; MODEL_BYTES]
     [0; MODEL_BYTES]
 }
 
-// What a text comes to: 0 or the number of its refusal, how many nodes and statements it makes, and how many blocks the model has.
+// A text that is taken: how many nodes and statements it makes, and how many blocks the model has.
 #[derive(Clone, Copy)]
 pub struct Report {
-    pub number: usize,
     pub nodes: usize,
     pub statements: usize,
     pub blocks: usize,
 }
 
-fn refused(number: usize) -> Report
-    ensures { (result.number ≡ number) × (result.nodes ≡ 0) × (result.statements ≡ 0) × (result.blocks ≡ 0) }
-{
-    Report {
-        number: number,
-        nodes: 0,
-        statements: 0,
-        blocks: 0,
-    }
-}
-
-// 27, 4 or 0, of a text that makes so many nodes and statements.
-fn given_refusal(text: &[u8], given: &[u8], nodes: usize, statements: usize) -> usize
-    ensures { (p : Statement) → nodes ≡ length (made_nodes p) → statements ≡ length (made_statements p) → result ≡ first_failing (given_rules text.now given.now p) }
+// Judges the names of a text that makes so many nodes and statements, and the records that are given with it.
+fn check_given(text: &[u8], given: &[u8], nodes: usize, statements: usize) -> Result<(), Refusal>
+    ensures { (p : Statement) → nodes ≡ length (made_nodes p) → statements ≡ length (made_statements p) → told result ≡ first_failing (given_rules text.now given.now p) }
 {
     let signals = byte_or_zero(given, 0);
     let variables = byte_or_zero(given, 1);
     if !names_ok(text, signals, variables) {
-        return 27;
+        return Err(Refusal::UnknownName);
     }
     let t = Totals {
         signals: signals,
@@ -89,9 +79,9 @@ fn given_refusal(text: &[u8], given: &[u8], nodes: usize, statements: usize) -> 
         rows: 0,
     };
     if whole_ok(given) & totals_ok(t) {
-        return 0;
+        return Ok(());
     }
-    4
+    Err(Refusal::Counts)
 }
 
 // Writes the model's blocks, and answers how many there are.
@@ -120,44 +110,28 @@ fn put_model(given: &[u8], nodes: &[u8], statements: &[u8], out: &mut [u8]) -> u
 fn store(bytes: &[u8], out: &mut [u8])
     ensures { out.new ≡ sets out.old 0 bytes.now }
 {
-    let mut i = 0;
-    while i < bytes.len() {
-        if i < out.len() {
-            out[i] = bytes[i];
-        }
-        i += 1;
-    }
+    let n = bytes.len().min(out.len());
+    out[..n].copy_from_slice(&bytes[..n]);
 }
 
-// Makes a text and its given records into a model: 0, and the blocks in the buffer as far as it reaches; or the number of the refusal, and
-// nothing.
-pub fn make(text: &[u8], given: &[u8], model: &mut [u8]) -> Report
-    ensures { Taken text.now given.now result.number result.nodes result.statements result.blocks model.old model.new }
+// Makes a text and its given records into a model, whose blocks are in the buffer as far as it reaches; or it is refused, and nothing is written.
+pub fn make(text: &[u8], given: &[u8], model: &mut [u8]) -> Result<Report, Refusal>
+    ensures { Taken text.now given.now (told result) (nodes_taken result) (statements_taken result) (blocks_taken result) model.old model.new }
 {
     let mut nodes = [0u8; NODE_BYTES];
     let mut statements = [0u8; STATEMENT_BYTES];
-    let r = read(text, &mut nodes, &mut statements);
-    if r.number != 0 {
-        return refused(26);
-    }
-    let early = given_refusal(text, given, r.nodes, r.statements);
-    if early != 0 {
-        return refused(early);
-    }
+    let r = read(text, &mut nodes, &mut statements)?;
+    check_given(text, given, r.nodes, r.statements)?;
     let mut out = [0u8; MODEL_BYTES];
     let n = 12 * r.nodes;
     let s = 12 * r.statements;
     let blocks = put_model(given, &nodes[..n], &statements[..s], &mut out);
     let end = 512 * blocks;
-    let number = judge(&out[..end]);
-    if number != 0 {
-        return refused(number);
-    }
+    judge(&out[..end])?;
     store(&out[..end], model);
-    Report {
-        number: 0,
+    Ok(Report {
         nodes: r.nodes,
         statements: r.statements,
         blocks: blocks,
-    }
+    })
 }

@@ -8,26 +8,25 @@ use text_model::{make, model_room, records_room, text_room};
 
 fn main(rt: HostRuntime) {
     let mut text = text_room();
-    let t = take_file(&rt, b"text", &mut text);
-    if !t.ok {
+    let Some(text_length) = take_file(&rt, b"text", &mut text) else {
         return;
-    }
+    };
     let mut records = records_room();
-    let g = take_file(&rt, b"records", &mut records);
-    if !g.ok {
+    let Some(records_length) = take_file(&rt, b"records", &mut records) else {
         return;
-    }
-    let a = t.count;
-    let b = g.count;
+    };
     let mut model = model_room();
-    let made = make(&text[..a], &records[..b], &mut model);
-    if made.number == 0 {
-        let n = 512 * made.blocks;
-        if !give_file(&rt, b"model", &model[..n]) {
-            return;
+    let number = match make(&text[..text_length], &records[..records_length], &mut model) {
+        Ok(made) => {
+            let n = 512 * made.blocks;
+            if !give_file(&rt, b"model", &model[..n]) {
+                return;
+            }
+            0
         }
-    }
+        Err(refusal) => refusal.number(),
+    };
     let mut line = [0u8; 128];
-    let n = put_refusal(made.number, &mut line);
+    let n = put_refusal(number, &mut line);
     print_bytes(&rt, &line[..n]);
 }

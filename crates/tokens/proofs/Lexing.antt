@@ -1,23 +1,29 @@
 -- The laws of the token at the front of a text. Assumes nothing.
 use mathlib.Core.Path.{◌≡◌, refl, sym, ap, ◌∙◌}
-use mathlib.Core.Bool.{Bool, true, false, ◌&&◌, ◌||◌, true≢false}
+use mathlib.Core.Bool.{Bool, true, false, cond, not, ◌&&◌, ◌||◌, true≢false}
 use mathlib.Core.List.{List, [], ◌∷◌}
 use mathlib.Core.Logic.{⊎_elim, ◌≢◌}
 use Prim.Native.Nat.{ℕ, zero, suc, ◌+◌, ◌*◌, ◌-◌, ◌≤◌, ◌<◌}
 use native.Mathlib.Nat.{not-suc-le-zero}
-use native.Mathlib.Numerals.{add-one}
+use native.Mathlib.Numerals.{one-add}
 use native.Mathlib.Omega.{arith}
-use borrow.Author.Tests.{leb-true, eqb-true, eqb-false, eq-eqb}
-use lib.Dec.{leb, eqb}
+use borrow.Author.Tests.{eqb-true, le-leb, ltb-true, ltb-false, not-true}
+use lib.Dec.{leb, eqb, ltb}
 use lib.ListN.{length, take, drop, drop_of_length-le, length-drop, get_or-eq_default}
-use lib.Seq.{length-take-le, drop-cons, drop-drop}
+use lib.Seq.{length-take-le, drop-cons, drop-drop, get_or-drop}
+use Rattle.std.specs.Prelude.{Option, Some, None}
+use Rattle.std.specs.List.{position_or_len}
+use Rattle.std.proofs.lemmas.List.Sums.{passes_at_first}
+use Rattle.std.proofs.lemmas.Option.{cond_some, none-some}
 use Rattle.base.specs.Below.{every}
-use Rattle.base.specs.Bytes.{byte_at, ByteIs}
-use Rattle.base.proofs.Below.{split, and_true_false, and_right, every_at}
-use Rattle.base.proofs.Cases.{by_test}
-use Rattle.grammar.specs.Tokens.{Token, tok, word, number_code, signal_code, variable_code, logic_code, end_code, is_space, is_digit, in_run, run_length, in_base, is_numeral, numbered, word_of, run_of, most_word, logic_of, is_quoted, is_pair, token_at, width_at, tokens_past, tokens, from, NoWord}
-use Rattle.tokens.specs.Answers.{Tells, PastSpaces, Word, FirstToken, Answer, FoundWord}
-use Rattle.tokens.proofs.Runs.{tested, rest, rest_dropped}
+use Rattle.base.specs.Bytes.{byte_at}
+use Rattle.base.proofs.Below.{split, and_left, and_true_false, or_cases}
+use Rattle.base.proofs.Cases.{either_way}
+use Rattle.grammar.specs.Tokens.{Token, tok, word, signal_code, end_code, is_space, in_run, run_length, run_of, logic_of, is_quoted, is_pair, token_at, width_at, tokens_past, tokens, from}
+use Rattle.tokens.specs.declared.Lexeme.{Lexeme}
+use Rattle.tokens.specs.declared.Lexeme.TheVariants.{Number, Signal, Variable, Logic, Word as Spelled, End}
+use Rattle.tokens.specs.Answers.{meant, Word, Fits, Stands, QuotedIs, AtFront, PastSpaces, FirstToken}
+use Rattle.tokens.proofs.Runs.{rest, rest_dropped, word_below, word_above, word_stands}
 
 -- a logic value between quotes and a sign of two bytes: a text that has one is so long
 module _ (t : List ℕ) where
@@ -28,16 +34,26 @@ module _ (t : List ℕ) where
       let e : eqb (byte_at t 2) 39 ≡ false = rw (get_or-eq_default t 0 g) in
       and_true_false (eqb (byte_at t 0) 39 && leb (logic_of (byte_at t 1)) 8) _ e
 
-  pub quoted_by : {a b d c : ℕ} → ByteIs t 0 a → ByteIs t 1 b → c ≡ logic_of b → ByteIs t 2 d → ((eqb a 39 && leb c 8) && eqb d 39) ≡ is_quoted t
+  -- no logic value has this letter
+  pub no_letter : 9 ≡ logic_of (byte_at t 1) → is_quoted t ≡ false
   unfolding is_quoted every
-  quoted_by p q e r = rw (p.value, e, q.value, r.value)
+  no_letter e =
+      let f : (eqb (byte_at t 0) 39 && leb (logic_of (byte_at t 1)) 8) ≡ false = and_true_false (eqb (byte_at t 0) 39) (leb (logic_of (byte_at t 1)) 8) (rw (← e)) in
+      rw f
 
-  pub quoted_long : is_quoted t ≡ true → 3 ≤ length t
-  quoted_long e = ⊎_elim (λ (l : length t < 3). absurd (true≢false (sym e ∙ short_quoted l))) (λ (l : 3 ≤ length t). l) (split (length t) 3)
+  -- q is what was found of the quotes
+  pub letter_quoted : {v : ℕ} {q : Bool} → v ≡ logic_of (byte_at t 1) → v < 9 → (eqb (byte_at t 0) 39 && eqb (byte_at t 2) 39) ≡ q → is_quoted t ≡ q
+  unfolding is_quoted every
+  letter_quoted {v} e l h =
+      let f : leb (logic_of (byte_at t 1)) 8 ≡ true = rw (← e) (le-leb v 8 (omega arith)) in
+      rw f (between (eqb (byte_at t 0) 39) _ ∙ h)
+    where
+      between : (a c : Bool) → ((a && true) && c) ≡ (a && c)
+      between true c = refl
+      between false c = refl
 
-  quoted_logic : is_quoted t ≡ true → logic_of (byte_at t 1) ≤ 8
-  unfolding is_quoted
-  quoted_logic e = leb-true _ _ (every_at _ 1 e)
+  pub quoted_is : {v : ℕ} → 3 ≤ length t → (v ≡ logic_of (byte_at t 1)) × (v < 9) → (eqb (byte_at t 0) 39 && eqb (byte_at t 2) 39) ≡ true → QuotedIs t v
+  quoted_is g (e, l) h = record { stands = letter_quoted e l h; value = e; small = l; long = g }
 
   pub short_pair : length t < 2 → is_pair t ≡ false
   unfolding is_pair
@@ -46,58 +62,65 @@ module _ (t : List ℕ) where
       let e : eqb (byte_at t 1) 61 ≡ false = rw (get_or-eq_default t 0 g) in
       and_true_false (eqb (byte_at t 0) 58 || eqb (byte_at t 0) 60) _ e
 
-  pub pair_by : {a b : ℕ} → ByteIs t 0 a → ByteIs t 1 b → ((eqb a 58 || eqb a 60) && eqb b 61) ≡ is_pair t
-  unfolding is_pair
-  pair_by p q = rw (p.value, q.value)
-
   pub pair_long : is_pair t ≡ true → 2 ≤ length t
   pair_long e = ⊎_elim (λ (l : length t < 2). absurd (true≢false (sym e ∙ short_pair l))) (λ (l : 2 ≤ length t). l) (split (length t) 2)
+
+  pair_apart : is_pair t ≡ true → 260 < 256 * byte_at t 0 + byte_at t 1
+  unfolding is_pair
+  pair_apart e = ⊎_elim (λ a. let b = eqb-true (byte_at t 0) 58 a in omega (arith, b)) (λ a. let b = eqb-true (byte_at t 0) 60 a in omega (arith, b))
+      (or_cases (eqb (byte_at t 0) 58) (eqb (byte_at t 0) 60) (and_left _ (eqb (byte_at t 1) 61) e))
 
 run_begun : (t : List ℕ) → 1 ≤ length t → in_run (byte_at t 0) ≡ true → 1 ≤ run_length t
 unfolding run_length
 run_begun [] h e = absurd (not-suc-le-zero h)
 run_begun (b ∷ bs) h e = rw e (omega arith)
 
-pub run_taken : (t : List ℕ) (n : ℕ) → 1 ≤ length t → in_run (byte_at t 0) ≡ true → (n ≡ run_length t) × (n ≤ length t) → 1 ≤ length (take n t)
-run_taken t n h e (m, l) = omega (arith, run_begun t h e, length-take-le n t l)
+-- the run at the front of a text begins with the text's first byte
+first_taken : (n : ℕ) (t : List ℕ) → 1 ≤ n → byte_at (take n t) 0 ≡ byte_at t 0
+first_taken zero t h = absurd (not-suc-le-zero h)
+first_taken (suc n) [] h = refl
+first_taken (suc n) (b ∷ bs) h = refl
 
--- the token at the front, and how many bytes it has
-abbrev pub AtFront : List ℕ → (code value next : ℕ) → Type 0
-AtFront t code value next = Tells (token_at t) code value × (next ≡ width_at t) × (1 ≤ next) × (next ≤ length t)
+pub run_taken : (t : List ℕ) (n : ℕ) → 1 ≤ length t → in_run (byte_at t 0) ≡ true → (n ≡ run_length t) × (n ≤ length t) → (1 ≤ length (take n t)) × (in_run (byte_at (take n t) 0) ≡ true)
+run_taken t n h e (m, l) =
+    let g : 1 ≤ n = omega (arith, run_begun t h e) in
+    (omega (arith, length-take-le n t l), ap in_run (first_taken n t g) ∙ e)
 
 -- the token by its first bytes, each test being what was found of it
-module _ (t : List ℕ) (b : ℕ) (l : 1 ≤ length t) (r : ByteIs t 0 b) {q : Bool} (e : q ≡ in_run b) where
-  pub at_run : (n code value : ℕ) → q ≡ true → (n ≡ run_length t) × (n ≤ length t) → Tells (run_of (take n t)) code value → AtFront t code value n
+module _ (t : List ℕ) (l : 1 ≤ length t) {q : Bool} (e : q ≡ in_run (byte_at t 0)) where
+  pub at_run : {r : Lexeme} (n : ℕ) → q ≡ true → (n ≡ run_length t) × (n ≤ length t) → meant r ≡ run_of (take n t) → Stands r → AtFront t r n
   unfolding token_at width_at
-  at_run n code value h (m, s) k =
-      let g = tested in_run r e h in
-      let f : 1 ≤ n = omega (arith, run_begun t l g) in
-      (rw (g, ← m) k, rw g m, f, s)
+  at_run n h (m, s) k f =
+      let g : in_run (byte_at t 0) ≡ true = sym e ∙ h in
+      let begun : 1 ≤ n = omega (arith, run_begun t l g) in
+      record { told = rw (g, ← m) k; width = rw g m; stands = f; within = (begun, s) }
 
-  module _ (h : q ≡ false) {q' : Bool} (e' : q' ≡ is_quoted t) where
-    pub at_quoted : (d c : ℕ) → q' ≡ true → ByteIs t 1 d → c ≡ logic_of d → AtFront t logic_code c 3
+  module _ (h : q ≡ false) where
+    pub at_quoted : {v : ℕ} → QuotedIs t v → AtFront t (Logic v) 3
     unfolding token_at width_at
-    at_quoted d c h' r' k =
-        let g = tested in_run r e h in
-        let g' : is_quoted t ≡ true = sym e' ∙ h' in
-        (rw (g, g', k, r'.value), rw (g, g'), omega arith, quoted_long t g')
+    at_quoted r =
+        let g : in_run (byte_at t 0) ≡ false = sym e ∙ h in
+        record { told = rw (g, r.stands, r.value); width = rw (g, r.stands); stands = (r.small, λ e. cc); within = (omega arith, r.long) }
 
-    module _ (h' : q' ≡ false) {q'' : Bool} (e'' : q'' ≡ is_pair t) where
-      pub at_pair : (d : ℕ) → q'' ≡ true → ByteIs t 1 d → AtFront t (256 * b + d) 0 2
+    module _ (h' : is_quoted t ≡ false) {b : ℕ} (s : b ≡ byte_at t 0) {q' : Bool} (e' : q' ≡ is_pair t) where
+      pub at_pair : {d : ℕ} → d ≡ byte_at t 1 → q' ≡ true → AtFront t (Spelled (256 * b + d)) 2
       unfolding token_at width_at
-      at_pair d h'' r' =
-          let g = tested in_run r e h in
-          let g' : is_quoted t ≡ false = sym e' ∙ h' in
-          let g'' : is_pair t ≡ true = sym e'' ∙ h'' in
-          (rw (g, g', g'', r.value, r'.value), rw (g, g', g''), omega arith, pair_long t g'')
+      at_pair {d} s' h'' =
+          let g : in_run (byte_at t 0) ≡ false = sym e ∙ h in
+          let g' : is_pair t ≡ true = sym e' ∙ h'' in
+          record {
+            told = rw (g, h', g', s, s');
+            width = rw (g, h', g');
+            stands = word_stands _ (word_above (256 * b + d) (rw (s, s') (pair_apart t g')));
+            within = (omega arith, pair_long t g');
+          }
 
-      pub at_sign : q'' ≡ false → AtFront t b 0 1
+      pub at_sign : b < 256 → q' ≡ false → AtFront t (Spelled b) 1
       unfolding token_at width_at
-      at_sign h'' =
-          let g = tested in_run r e h in
-          let g' : is_quoted t ≡ false = sym e' ∙ h' in
-          let g'' : is_pair t ≡ false = sym e'' ∙ h'' in
-          (rw (g, g', g'', r.value), rw (g, g', g''), omega arith, l)
+      at_sign small h'' =
+          let g : in_run (byte_at t 0) ≡ false = sym e ∙ h in
+          let g' : is_pair t ≡ false = sym e' ∙ h'' in
+          record { told = rw (g, h', g', s); width = rw (g, h', g'); stands = word_stands b (word_below b small); within = (omega arith, l) }
 
 -- bytes left out by number are left out of the text
 past_dropped : (n : ℕ) (bs : List ℕ) → tokens_past n bs ≡ tokens (drop n bs)
@@ -114,134 +137,85 @@ front_token (b ∷ bs) h e w =
     let k : width_at (b ∷ bs) ≡ suc (width_at (b ∷ bs) - 1) = omega arith in
     rw e (ap (λ r. token_at (b ∷ bs) ∷ r) (past_dropped (width_at (b ∷ bs) - 1) bs ∙ ap (λ n. tokens (drop n (b ∷ bs))) (sym k)))
 
-from_space : (text : List ℕ) (i : ℕ) → i < length text → is_space (byte_at text i) ≡ true → from text i ≡ from text (i + 1)
-unfolding tokens_past tokens
-from_space text i h e = rw (add-one, drop-cons text i 0 h, tokens_past, e)
-
 from_token : (text : List ℕ) (i : ℕ) → i < length text → is_space (byte_at text i) ≡ false → 1 ≤ width_at (drop i text)
     → from text i ≡ token_at (drop i text) ∷ from text (i + width_at (drop i text))
 from_token text i h e w =
     let f : is_space (byte_at (drop i text) 0) ≡ false = rw (drop-cons text i 0 h) e in
     front_token (drop i text) (omega (arith, length-drop i text)) f w ∙ rw (drop-drop (width_at (drop i text)) i text)
 
-from_end : (text : List ℕ) (i : ℕ) → length text ≤ i → from text i ≡ word end_code ∷ []
+-- the spaces at the front are left out
+abbrev pub no_space : ℕ → Bool
+no_space b = not (is_space b)
+
+spaces_left : (t : List ℕ) → tokens t ≡ tokens (drop (position_or_len no_space t) t)
 unfolding tokens_past tokens
-from_end text i h = rw (drop_of_length-le text h, tokens_past)
+spaces_left [] = refl
+spaces_left (b ∷ bs) = either_way (is_space b) (λ e. rw (e, one-add) (spaces_left bs)) (λ e. rw (e, e) refl)
 
--- a turn over spaces, r being what the test said of the byte b, and the two ways out
-module _ (text : List ℕ) (at i b : ℕ) {r : Bool} (l : at ≤ i) (h : i < length text) (s : from text at ≡ from text i) (v : ByteIs text i b) (e : r ≡ is_space b) where
-  pub space_again : r ≡ true → (at ≤ i + 1) × (i + 1 ≤ length text) × (from text at ≡ from text (i + 1))
-  space_again t = (omega arith, omega arith, s ∙ from_space text i h (tested is_space v e t))
+-- what a search for a byte that is no space answers, r
+module _ (text : List ℕ) (at : ℕ) {r : Option ℕ} (e : r ≡ cond (ltb (position_or_len no_space (rest at text)) (length (rest at text))) (Some (position_or_len no_space (rest at text))) None) where
+  pub spaces_over : r ≡ None → from text at ≡ word end_code ∷ []
+  unfolding tokens_past tokens
+  spaces_over n =
+      let f = rw (rest_dropped at text) at e in
+      let l : length (drop at text) ≤ position_or_len no_space (drop at text) =
+      either_way (ltb (position_or_len no_space (drop at text)) (length (drop at text))) (λ g. absurd (none-some _ (sym n ∙ rw g at f))) (λ g. ltb-false _ _ g) in
+      spaces_left (drop at text) ∙ rw (drop_of_length-le (drop at text) l, tokens_past)
 
-  pub space_found : r ≡ false → PastSpaces text at i
-  space_found t = record { within = (l, omega arith); same = s; found = λ g. tested is_space v e t }
+  pub space_found : at ≤ length text → (n : ℕ) → r ≡ Some n → PastSpaces text at (at + n)
+  space_found h n s =
+      let f = rw (rest_dropped at text) at e in
+      let (less, same) = cond_some (ltb (position_or_len no_space (drop at text)) (length (drop at text))) _ _ (sym f ∙ s) in
+      let l = ltb-true _ _ less in
+      let here : no_space (byte_at (drop at text) n) ≡ true = rw same at (passes_at_first no_space (drop at text) 0 l) in
+      record {
+        within = (omega arith, omega (arith, l, same, length-drop at text));
+        same = spaces_left (drop at text) ∙ rw (same, drop-drop n at text);
+        found = not-true _ (rw (get_or-drop at text n 0) at here);
+      }
 
-pub spaces_over : (text : List ℕ) (at i : ℕ) → at ≤ i → i ≤ length text → length text ≤ i → from text at ≡ from text i → PastSpaces text at i
-spaces_over text at i l m h s = record { within = (l, m); same = s; found = λ g. absurd (omega arith) }
-
--- what is known of a token's value
-record Bounded (code value : ℕ) : Type 0 where
-  plain : code ≢ number_code → code ≢ signal_code → code ≢ variable_code → code ≢ logic_code → value ≡ 0
-  small : value < 2147483648
-  name : code ≡ signal_code → value < 32
-  variable : code ≡ variable_code → value < 64
-  logic : code ≡ logic_code → value < 9
-
-abbrev BoundedToken : Token → Type 0
-BoundedToken (tok code value) = Bounded code value
-
-bounded_word : (c : ℕ) → Bounded c 0
-bounded_word c = record { plain = λ n s v l. refl; small = omega arith; name = λ e. omega arith; variable = λ e. omega arith; logic = λ e. omega arith }
-
-bounded_number : (v : ℕ) → v ≤ 2147483647 → Bounded number_code v
-bounded_number v h = record { plain = λ n s w l. absurd (n refl); small = omega arith; name = λ e. absurd (omega arith); variable = λ e. absurd (omega arith); logic = λ e. absurd (omega arith) }
-
-bounded_signal : (v : ℕ) → v ≤ 31 → Bounded signal_code v
-bounded_signal v h = record { plain = λ n s w l. absurd (s refl); small = omega arith; name = λ e. omega arith; variable = λ e. absurd (omega arith); logic = λ e. absurd (omega arith) }
-
-bounded_variable : (v : ℕ) → v ≤ 63 → Bounded variable_code v
-bounded_variable v h = record { plain = λ n s w l. absurd (w refl); small = omega arith; name = λ e. absurd (omega arith); variable = λ e. omega arith; logic = λ e. absurd (omega arith) }
-
-bounded_logic : (v : ℕ) → v ≤ 8 → Bounded logic_code v
-bounded_logic v h = record { plain = λ n s w l. absurd (l refl); small = omega arith; name = λ e. absurd (omega arith); variable = λ e. absurd (omega arith); logic = λ e. omega arith }
-
-bounded_numeral : (code most : ℕ) (r : List ℕ) → ((v : ℕ) → v ≤ most → Bounded code v) → BoundedToken (numbered code most r)
-unfolding numbered
-bounded_numeral code most r f =
-    by_test BoundedToken (is_numeral r && leb (in_base 10 48 0 r) most) _ _
-    (λ e. f _ (leb-true _ _ (and_right (is_numeral r) _ e))) (λ e. bounded_word 0)
-
-bounded_run : (r : List ℕ) → BoundedToken (run_of r)
-unfolding run_of word_of
-bounded_run r =
-    by_test BoundedToken (is_digit (byte_at r 0)) _ _ (λ e. bounded_numeral _ _ _ bounded_number)
-    (λ e. by_test BoundedToken (eqb (byte_at r 0) 115) _ _ (λ e. bounded_numeral _ _ _ bounded_signal)
-    (λ e. by_test BoundedToken (eqb (byte_at r 0) 118) _ _ (λ e. bounded_numeral _ _ _ bounded_variable)
-    (λ e. by_test BoundedToken (leb (in_base 256 0 0 r) most_word) _ _ (λ e. bounded_word _) (λ e. bounded_word 0))))
-
-bounded_token : (t : List ℕ) → BoundedToken (token_at t)
-unfolding token_at
-bounded_token t =
-    by_test BoundedToken (in_run (byte_at t 0)) _ _ (λ e. bounded_run _)
-    (λ e. by_test BoundedToken (is_quoted t) _ _ (λ e. bounded_logic _ (quoted_logic t e))
-    (λ e. by_test BoundedToken (is_pair t) _ _ (λ e. bounded_word _) (λ e. bounded_word _)))
-
-told : {t : Token} {code value : ℕ} → Tells t code value → BoundedToken t → Bounded code value
-told e b = rw (← e) at b
-
-pub first_token : (text : List ℕ) (at i code value n : ℕ) → PastSpaces text at i → i < length text → AtFront (rest i text) code value n → FirstToken text at code value (i + n)
-first_token text at i code value n p h f =
-    let (t, w, l, m) : AtFront (drop i text) code value n = rw (← rest_dropped i text) f in
-    let b = told t (bounded_token (drop i text)) in
+pub first_token : (text : List ℕ) (at i n : ℕ) {r : Lexeme} → PastSpaces text at i → AtFront (rest i text) r n → FirstToken text at r (i + n)
+first_token text at i n {r} p h =
+    let f : AtFront (drop i text) r n = rw (rest_dropped i text) at h in
     let (q, s) = p.within in
-    let g : 1 ≤ width_at (drop i text) = omega arith in
-    let k : i + n ≤ length text = omega (arith, length-drop i text) in
+    let g : 1 ≤ width_at (drop i text) = omega (arith, f.width, f.within) in
+    let k : i + n ≤ length text = omega (arith, length-drop i text, f.within) in
     record {
       rest = from text (i + n);
-      begins = p.same ∙ from_token text i h (p.found h) g ∙ rw (t, w);
-      goes_on = λ e. (refl, omega arith);
-      plain = b.plain;
+      begins = p.same ∙ from_token text i s p.found g ∙ rw (f.told, f.width);
+      goes_on = λ e. (refl, omega (arith, f.within));
       within = (omega arith, k);
-      small = b.small;
-      name = b.name;
-      variable = b.variable;
-      logic = b.logic;
+      fits = f.stands.0;
     }
 
-pub first_end : (text : List ℕ) (at i : ℕ) → PastSpaces text at i → length text ≤ i → FirstToken text at end_code 0 i
-first_end text at i p h =
-    let b = bounded_word end_code in
-    record {
-      rest = [];
-      begins = p.same ∙ from_end text i h;
-      goes_on = λ e. absurd (e refl);
-      plain = b.plain;
-      within = p.within;
-      small = b.small;
-      name = b.name;
-      variable = b.variable;
-      logic = b.logic;
-    }
+pub first_end : (text : List ℕ) (at : ℕ) → at ≤ length text → from text at ≡ word end_code ∷ [] → FirstToken text at End (length text)
+first_end text at h e = record { rest = []; begins = e; goes_on = λ n. absurd (n refl); within = (h, omega arith); fits = tt }
 
--- the code of a first token decides whether a word stands there
-pub word_answer : (text : List ℕ) (at code value next c : ℕ) (ok : Bool) → Word c
-    → FirstToken text at code value next → ok ≡ eqb code c → Answer ok (FoundWord text at c next) (NoWord (from text at) c)
-word_answer text at code value next c ok k t e = record {
-  found = λ y.
-      let same : code ≡ c = eqb-true code c (sym e ∙ y) in
-      let (goes, less) = t.goes_on (λ z. k.not_end (sym same ∙ z)) in
-      let none : value ≡ 0 = t.plain (λ z. k.not_number (sym same ∙ z)) (λ z. k.not_signal (sym same ∙ z)) (λ z. k.not_variable (sym same ∙ z)) (λ z. k.not_logic (sym same ∙ z)) in
-      record { begins = t.begins ∙ rw (same, none, goes); within = (less, t.within.1) };
-  nothing = λ y r z. let same : code ≡ c = cc t.begins in eqb-false code c (sym e ∙ y) same;
-}
+-- the codes of equal tokens
+code_same : {c d v x : ℕ} {s r : List Token} → tok c v ∷ s ≡ tok d x ∷ r → c ≡ d
+code_same e = cc
 
--- the first token is the word c
-pub first_word : {text : List ℕ} {at code value next c : ℕ} → Word c → FirstToken text at code value next → code ≡ c → FoundWord text at c next
-first_word {text} {at} {code} {value} {next} {c} k t e = (word_answer text at code value next c (eqb code c) k t refl).found (eq-eqb code c e)
+-- a token that is another
+pub other_word : {c : ℕ} {s r : List Token} (token : Lexeme) → Word c → token ≢ Spelled c → meant token ∷ s ≡ word c ∷ r → ⊥
+other_word (Number n) w h e = w.not_number (cc)
+other_word (Signal n) w h e = w.not_signal (cc)
+other_word (Variable n) w h e = w.not_variable (cc)
+other_word (Logic v) w h e = w.not_logic (cc)
+other_word (Spelled d) w h e = h (cc)
+other_word End w h e = w.not_end (cc)
 
--- answers
-pub yes_answer : {A B : Type 0} → A → Answer true A B
-yes_answer a = record { found = λ e. a; nothing = λ e. absurd (true≢false e) }
+pub other_signal : {n : ℕ} {s r : List Token} (token : Lexeme) → Fits token → ((k : ℕ) → token ≢ Signal k) → meant token ∷ s ≡ tok signal_code n ∷ r → ⊥
+other_signal (Number k) f h e = omega (arith, code_same e)
+other_signal (Signal k) f h e = h k refl
+other_signal (Variable k) f h e = omega (arith, code_same e)
+other_signal (Logic v) f h e = omega (arith, code_same e)
+other_signal (Spelled c) f h e = f.not_signal (code_same e)
+other_signal End f h e = omega (arith, code_same e)
 
-pub no_answer : {A B : Type 0} {ok : Bool} → ok ≡ false → B → Answer ok A B
-no_answer n b = record { found = λ e. absurd (true≢false (sym e ∙ n)); nothing = λ e. b }
+pub other_end : {s r : List Token} (token : Lexeme) → Fits token → token ≢ End → meant token ∷ s ≡ word end_code ∷ r → ⊥
+other_end (Number k) f h e = omega (arith, code_same e)
+other_end (Signal k) f h e = omega (arith, code_same e)
+other_end (Variable k) f h e = omega (arith, code_same e)
+other_end (Logic v) f h e = omega (arith, code_same e)
+other_end (Spelled c) f h e = f.not_end (code_same e)
+other_end End f h e = h refl

@@ -1,17 +1,23 @@
 -- What the functions for tokens answer.
-use Rattle.std.specs.Prelude.{◌≡◌, Bool, true, false, List, ◌∷◌, ◌≢◌, ℕ, ◌≤◌, ◌<◌, length}
+use Rattle.std.specs.Prelude.{◌≡◌, List, ◌∷◌, true, false, ◌≢◌, ℕ, ◌≤◌, ◌<◌, length, Option, Some, None}
 use Rattle.base.specs.Bytes.{byte_at}
-use Rattle.grammar.specs.Tokens.{Token, tok, word, number_code, signal_code, variable_code, logic_code, end_code, is_space, from}
+use Rattle.grammar.specs.Tokens.{Token, tok, word, unknown, number_code, signal_code, variable_code, logic_code, end_code, logic_of, is_space, is_quoted, token_at, width_at, from}
+use Rattle.tokens.specs.declared.Lexeme.{Lexeme}
+use Rattle.tokens.specs.declared.Lexeme.TheVariants.{Number, Signal, Variable, Logic, Word as Spelled, End}
 
--- the token that a function tells
-abbrev pub Tells : Token → (code value : ℕ) → Type 0
-Tells t code value = tok code value ≡ t
+-- the token of the grammar that a function tells
+abbrev pub meant : Lexeme → Token
+meant (Number n) = tok number_code n
+meant (Signal n) = tok signal_code n
+meant (Variable n) = tok variable_code n
+meant (Logic v) = tok logic_code v
+meant (Spelled c) = word c
+meant End = word end_code
 
--- the first place from `at` on that has no space
-pub record PastSpaces (text : List ℕ) (at r : ℕ) : Type 0 where
-  pub within : (at ≤ r) × (r ≤ length text)
-  pub same : from text at ≡ from text r
-  pub found : r < length text → is_space (byte_at text r) ≡ false
+-- the token of a number that was read, or of none
+abbrev pub number_as : ℕ → Option ℕ → Token
+number_as code (Some v) = tok code v
+number_as code None = unknown
 
 -- the code of a word or sign: none of those above
 pub record Word (c : ℕ) : Type 0 where
@@ -21,23 +27,46 @@ pub record Word (c : ℕ) : Type 0 where
   pub not_logic : c ≢ logic_code
   pub not_end : c ≢ end_code
 
--- the first token from a place on, and the place after it; nothing is said of what follows the end mark
-pub record FirstToken (text : List ℕ) (at code value next : ℕ) : Type 0 where
-  pub rest : List Token
-  pub begins : from text at ≡ tok code value ∷ rest
-  pub goes_on : code ≢ end_code → (rest ≡ from text next) × (at < next)
-  -- a word or a sign has no value
-  pub plain : code ≢ number_code → code ≢ signal_code → code ≢ variable_code → code ≢ logic_code → value ≡ 0
-  pub within : (at ≤ next) × (next ≤ length text)
-  pub small : value < 2147483648
-  pub name : code ≡ signal_code → value < 32
-  pub variable : code ≡ variable_code → value < 64
-  pub logic : code ≡ logic_code → value < 9
+-- how large a token's value can be; and the code of a word is none of the others'
+abbrev pub Fits : Lexeme → Type 0
+Fits (Number n) = n < 2147483648
+Fits (Signal n) = n < 32
+Fits (Variable n) = n < 64
+Fits (Logic v) = v < 9
+Fits (Spelled c) = Word c
+Fits End = Unit {0}
 
--- what holds if the answer is yes, and what if it is no
-pub record Answer (b : Bool) (Found Nothing : Type 0) : Type 0 where
-  pub found : b ≡ true → Found
-  pub nothing : b ≡ false → Nothing
+-- a token that stands in a text, and not its end
+abbrev pub Stands : Lexeme → Type 0
+Stands token = Fits token × (token ≢ End)
+
+-- the logic value v stands between quotes at the front
+pub record QuotedIs (t : List ℕ) (v : ℕ) : Type 0 where
+  pub stands : is_quoted t ≡ true
+  pub value : v ≡ logic_of (byte_at t 1)
+  pub small : v < 9
+  pub long : 3 ≤ length t
+
+-- the token at the front, and how many bytes it has
+pub record AtFront (t : List ℕ) (token : Lexeme) (next : ℕ) : Type 0 where
+  pub told : meant token ≡ token_at t
+  pub width : next ≡ width_at t
+  pub stands : Stands token
+  pub within : (1 ≤ next) × (next ≤ length t)
+
+-- the first place from `at` on that has no space
+pub record PastSpaces (text : List ℕ) (at r : ℕ) : Type 0 where
+  pub within : (at ≤ r) × (r < length text)
+  pub same : from text at ≡ from text r
+  pub found : is_space (byte_at text r) ≡ false
+
+-- the first token from a place on, and the place after it; nothing is said of what follows the end mark
+pub record FirstToken (text : List ℕ) (at : ℕ) (token : Lexeme) (next : ℕ) : Type 0 where
+  pub rest : List Token
+  pub begins : from text at ≡ meant token ∷ rest
+  pub goes_on : token ≢ End → (rest ≡ from text next) × (at < next)
+  pub within : (at ≤ next) × (next ≤ length text)
+  pub fits : Fits token
 
 -- the word c stands at a place
 pub record FoundWord (text : List ℕ) (at c next : ℕ) : Type 0 where

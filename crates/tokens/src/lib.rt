@@ -1,113 +1,80 @@
 // The tokens of a text: the first one from a place on, and the place after it.
 #![tactic(auto)]
 
-ghost use Rattle.std.specs.Prelude.{◌≡◌, ◌+◌, ◌-◌, ◌≤◌, ◌<◌, leb, length};
+ghost use Rattle.std.specs.Prelude.{◌≡◌, ℕ, true, false, Some, None, [], ◌∷◌, ◌≤◌, ◌<◌, leb, length, MatchOption, IfSome, unwrap_or};
+ghost use Rattle.base.specs.Bytes.{byte_at};
 ghost use Rattle.base.specs.Cases.{◌∣◌, ◌⇒◌};
-ghost use Rattle.grammar.specs.Tokens.{is_space, is_digit, in_run, run_length, in_base, all_digits, is_numeral, numbered, word_of, run_of, logic_of, is_quoted, is_pair, token_at, width_at, from, NoWord};
-ghost use Rattle.tokens.specs.Answers.{Tells, PastSpaces, Word, FirstToken, Answer, FoundWord};
+ghost use Rattle.grammar.specs.Tokens.{is_space, is_digit, in_run, run_length, in_base, all_digits, is_numeral, numbered, word_of, run_of, logic_of, is_quoted, is_pair, from, end_code, NoWord, word as a_word};
+ghost use Rattle.tokens.specs.Answers.{meant, number_as, Stands, QuotedIs, AtFront, PastSpaces, Word, FirstToken, FoundWord};
 
-use base::byte;
-
-pub const NUMBER: usize = 256;
-
-pub const SIGNAL: usize = 257;
-
-pub const VARIABLE: usize = 258;
-
-pub const LOGIC: usize = 259;
-
-pub const END: usize = 260;
-
-// A token's code and its value.
-#[derive(Clone, Copy)]
-pub struct Lexeme {
-    pub code: usize,
-    pub value: usize,
+// A token. A word or a sign is told by its code, its bytes put together in base 256; what is no token is told as the word with code 0.
+#[derive(Clone, Copy, PartialEq, Eq)]
+pub enum Lexeme {
+    Number(u32),
+    Signal(usize),
+    Variable(usize),
+    Logic(u32),
+    Word(usize),
+    End,
 }
 
-// The same, and the place after it.
+const UNKNOWN: Lexeme = Lexeme::Word(0);
+
+// A token, and the place after it.
 #[derive(Clone, Copy)]
 pub struct Found {
-    pub code: usize,
-    pub value: usize,
+    pub token: Lexeme,
     pub next: usize,
 }
 
-// Whether a word stands at a place, and the place after it.
-#[derive(Clone, Copy)]
-pub struct Place {
-    pub ok: bool,
-    pub next: usize,
-}
-
-fn is_space(b: usize) -> bool
+#[tactic(auto, unfolding(grammar::specs::Tokens::is_space))]
+fn is_space(b: u8) -> bool
     ensures { result ≡ is_space b }
 {
-    (b == 32) | (b == 10)
+    (b == b' ') | (b == b'\n')
 }
 
-fn is_digit(b: usize) -> bool
+#[tactic(auto, unfolding(grammar::specs::Tokens::is_digit))]
+fn is_digit(b: u8) -> bool
     ensures { result ≡ is_digit b }
 {
-    (48 <= b) & (b <= 57)
+    (b'0' <= b) & (b <= b'9')
 }
 
-fn in_run(b: usize) -> bool
+#[tactic(auto, unfolding(grammar::specs::Tokens::in_run, grammar::specs::Tokens::is_small))]
+fn in_run(b: u8) -> bool
     ensures { result ≡ in_run b }
 {
-    is_digit(b) | ((97 <= b) & (b <= 122))
+    is_digit(b) | ((b'a' <= b) & (b <= b'z'))
 }
 
 // How many letters and digits stand at the front.
 fn run_length(t: &[u8]) -> usize
     ensures { (result ≡ run_length t.now) × (result ≤ length t.now) }
 {
-    let mut i = 0;
-    while i < t.len() {
-        if !in_run(byte(t, i)) {
-            return i;
-        }
-        i += 1;
-    }
-    i
+    t.iter().position(|b| !in_run(*b)).unwrap_or(t.len())
 }
 
 // Whether all bytes are digits.
 fn all_digits(t: &[u8]) -> bool
     ensures { result ≡ all_digits t.now }
 {
-    let mut i = 0;
-    while i < t.len() {
-        if !is_digit(byte(t, i)) {
-            return false;
-        }
-        i += 1;
-    }
-    true
+    t.iter().all(|b| is_digit(*b))
 }
 
-// What a byte says as a digit; `origin` is the byte of the digit 0.
-fn digit(b: usize, origin: usize) -> usize
-    ensures { result ≡ b - origin }
-{
-    if origin <= b { b - origin } else { 0 }
-}
-
-// The number that the bytes say in a base, or `most` + 1 where it is larger than `most`.
-fn in_base(t: &[u8], base: usize, origin: usize, most: usize) -> usize
+// The number that the bytes say in a base, if it is at most `most`; `origin` is the byte of the digit 0.
+fn in_base(t: &[u8], base: usize, origin: usize, most: usize) -> Option<usize>
     requires { (1 ≤ base) × (base ≤ 256) × (most ≤ 72057594037927935) }
-    ensures { result ≡ (leb (in_base base origin 0 t.now) most ⇒ in_base base origin 0 t.now ∣ most + 1) }
+    ensures { result ≡ (leb (in_base base origin 0 t.now) most ⇒ Some (in_base base origin 0 t.now) ∣ None) }
 {
     let mut v = 0;
-    let mut i = 0;
-    while i < t.len() {
-        v = base * v + digit(byte(t, i), origin);
+    for b in t {
+        v = base * v + usize::from(*b).saturating_sub(origin);
         if most < v {
-            return most + 1;
+            return None;
         }
-        i += 1;
     }
-    v
+    Some(v)
 }
 
 // Whether the bytes are digits without a leading zero.
@@ -117,81 +84,81 @@ fn is_numeral(t: &[u8]) -> bool
     if t.len() == 0 {
         return false;
     }
-    all_digits(t) & ((t.len() == 1) | (byte(t, 0) != 48))
+    all_digits(t) & ((t.len() == 1) | (t[0] != b'0'))
 }
 
-// The number of a numeral, with a code, or 0 where it is none or larger than `most`.
-fn numbered_by(t: &[u8], code: usize, most: usize) -> Lexeme
+// The number of a numeral, if it is at most `most`.
+fn numeral(t: &[u8], most: usize) -> Option<usize>
     requires { most ≤ 2147483647 }
-    ensures { Tells (numbered code most t.now) result.code result.value }
+    ensures token { (code : ℕ) → numbered code most t.now ≡ number_as code result }
+    ensures bound { IfSome result (λ v. v ≤ most) }
 {
     if is_numeral(t) {
-        let v = in_base(t, 10, 48, most);
-        if v <= most {
-            return Lexeme {
-                code: code,
-                value: v,
-            };
-        }
+        in_base(t, 10, 48, most)
+    } else {
+        None
     }
-    Lexeme { code: 0, value: 0 }
 }
 
-// The word that the bytes are, or 0 where it has more than seven letters.
+// The word that the bytes are, if it has at most seven letters.
 fn word_of(t: &[u8]) -> Lexeme
-    ensures { Tells (word_of t.now) result.code result.value }
+    ensures token { meant result ≡ word_of t.now }
+    ensures stands { in_run (byte_at t.now 0) ≡ true → Stands result }
 {
-    let c = in_base(t, 256, 0, 72057594037927935);
-    if c <= 72057594037927935 {
-        return Lexeme { code: c, value: 0 };
-    }
-    Lexeme { code: 0, value: 0 }
+    in_base(t, 256, 0, 72057594037927935).map_or(UNKNOWN, Lexeme::Word)
 }
 
 // The token that a run of letters and digits is.
 fn run_of(t: &[u8]) -> Lexeme
-    requires { 1 ≤ length t.now }
-    ensures { Tells (run_of t.now) result.code result.value }
+    requires { (1 ≤ length t.now) × (in_run (byte_at t.now 0) ≡ true) }
+    ensures token { meant result ≡ run_of t.now }
+    ensures stands { Stands result }
 {
-    let b = byte(t, 0);
+    let b = t[0];
     if is_digit(b) {
-        return numbered_by(t, NUMBER, 2147483647);
+        return numeral(t, 2147483647).map_or(UNKNOWN, |n| Lexeme::Number(n as u32));
     }
-    if b == 115 {
-        return numbered_by(&t[1..], SIGNAL, 31);
+    if b == b's' {
+        return numeral(&t[1..], 31).map_or(UNKNOWN, Lexeme::Signal);
     }
-    if b == 118 {
-        return numbered_by(&t[1..], VARIABLE, 63);
+    if b == b'v' {
+        return numeral(&t[1..], 63).map_or(UNKNOWN, Lexeme::Variable);
     }
     word_of(t)
 }
 
-// The code of a logic value by its letter, or 9.
-fn logic_of(b: usize) -> usize
-    ensures { result ≡ logic_of b }
+// The code of a logic value by its letter.
+#[tactic(auto, unfolding(grammar::specs::Tokens::logic_of))]
+fn logic_of(b: u8) -> Option<u32>
+    ensures { (unwrap_or result 9 ≡ logic_of b) × IfSome result (λ v. v < 9) }
 {
     match b {
-        85 => 0,
-        88 => 1,
-        48 => 2,
-        49 => 3,
-        90 => 4,
-        87 => 5,
-        76 => 6,
-        72 => 7,
-        45 => 8,
-        _ => 9,
+        b'U' => Some(0),
+        b'X' => Some(1),
+        b'0' => Some(2),
+        b'1' => Some(3),
+        b'Z' => Some(4),
+        b'W' => Some(5),
+        b'L' => Some(6),
+        b'H' => Some(7),
+        b'-' => Some(8),
+        _ => None,
     }
 }
 
-// Whether a logic value between quotes stands at the front.
-fn is_quoted(t: &[u8]) -> bool
-    ensures { result ≡ is_quoted t.now }
+// The logic value between quotes at the front.
+fn quoted(t: &[u8]) -> Option<u32>
+    ensures { MatchOption result (is_quoted t.now ≡ false) (QuotedIs t.now) }
 {
     if t.len() < 3 {
-        return false;
+        return None;
     }
-    ((byte(t, 0) == 39) & (logic_of(byte(t, 1)) <= 8)) & (byte(t, 2) == 39)
+    let v = logic_of(t[1])?;
+    if (t[0] == b'\'') & (t[2] == b'\'') {
+        Some(v)
+    } else {
+        None
+    }
 }
 
 // Whether := or <= stands at the front.
@@ -201,91 +168,77 @@ fn is_pair(t: &[u8]) -> bool
     if t.len() < 2 {
         return false;
     }
-    let b = byte(t, 0);
-    ((b == 58) | (b == 60)) & (byte(t, 1) == 61)
+    ((t[0] == b':') | (t[0] == b'<')) & (t[1] == b'=')
 }
 
 // The token at the front, which is no space; `next` is how many bytes it has.
 fn token_at(t: &[u8]) -> Found
     requires { 1 ≤ length t.now }
-    ensures { Tells (token_at t.now) result.code result.value × (result.next ≡ width_at t.now) × (1 ≤ result.next) × (result.next ≤ length t.now) }
+    ensures { AtFront t.now result.token result.next }
 {
-    let b = byte(t, 0);
+    let b = t[0];
     if in_run(b) {
         let n = run_length(t);
-        let l = run_of(&t[..n]);
         return Found {
-            code: l.code,
-            value: l.value,
+            token: run_of(&t[..n]),
             next: n,
         };
     }
-    if is_quoted(t) {
+    if let Some(v) = quoted(t) {
         return Found {
-            code: LOGIC,
-            value: logic_of(byte(t, 1)),
+            token: Lexeme::Logic(v),
             next: 3,
         };
     }
+    let sign = usize::from(b);
     if is_pair(t) {
         return Found {
-            code: 256 * b + byte(t, 1),
-            value: 0,
+            token: Lexeme::Word(256 * sign + usize::from(t[1])),
             next: 2,
         };
     }
     Found {
-        code: b,
-        value: 0,
+        token: Lexeme::Word(sign),
         next: 1,
     }
 }
 
-// The first place from `at` on that has no space.
-fn past_spaces(text: &[u8], at: usize) -> usize
+// The first place from `at` on that has no space, if there is one.
+fn past_spaces(text: &[u8], at: usize) -> Option<usize>
     requires { at ≤ length text.now }
-    ensures { PastSpaces text.now at result }
+    ensures { MatchOption result (from text.now at ≡ a_word end_code ∷ []) (PastSpaces text.now at) }
 {
-    let mut i = at;
-    while i < text.len() {
-        if !is_space(byte(text, i)) {
-            return i;
-        }
-        i += 1;
-    }
-    i
+    let n = text[at..].iter().position(|b| !is_space(*b))?;
+    Some(at + n)
 }
 
 // The first token from `at` on.
 pub fn token(text: &[u8], at: usize) -> Found
     requires { at ≤ length text.now }
-    ensures { FirstToken text.now at result.code result.value result.next }
+    ensures { FirstToken text.now at result.token result.next }
 {
-    let i = past_spaces(text, at);
-    if i < text.len() {
-        let t = token_at(&text[i..]);
+    if let Some(i) = past_spaces(text, at) {
+        let found = token_at(&text[i..]);
         return Found {
-            code: t.code,
-            value: t.value,
-            next: i + t.next,
+            token: found.token,
+            next: i + found.next,
         };
     }
     Found {
-        code: END,
-        value: 0,
-        next: i,
+        token: Lexeme::End,
+        next: text.len(),
     }
 }
 
 // The place past the word c, if it stands at `at`.
-pub fn word(text: &[u8], at: usize, c: usize) -> Place
+pub fn word(text: &[u8], at: usize, c: usize) -> Option<usize>
     requires at_in_bounds { at ≤ length text.now }
     requires word { Word c }
-    ensures { Answer result.ok (FoundWord text.now at c result.next) (NoWord (from text.now at) c) }
+    ensures { MatchOption result (NoWord (from text.now at) c) (FoundWord text.now at c) }
 {
-    let t = token(text, at);
-    Place {
-        ok: t.code == c,
-        next: t.next,
+    let found = token(text, at);
+    match found.token {
+        Lexeme::Word(w) if w == c => Some(found.next),
+        _ => None,
     }
 }

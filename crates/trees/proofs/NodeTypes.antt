@@ -34,7 +34,7 @@ abbrev pub less_type : ℕ → ℕ → ℕ
 less_type p q = eqb p integer && eqb q integer ⇒ boolean ∣ mistyped
 
 -- every kind from 11 on but the two relations
-arithmetic_by : (M : Model) (d : NodeRecord) (p q : ℕ) → 11 ≤ d.kind → (d.kind ≡ 13 → ⊥) → (d.kind ≡ 14 → ⊥) → arithmetic_type p q ≡ type_by M d p q
+pub arithmetic_by : (M : Model) (d : NodeRecord) (p q : ℕ) → 11 ≤ d.kind → (d.kind ≡ 13 → ⊥) → (d.kind ≡ 14 → ⊥) → arithmetic_type p q ≡ type_by M d p q
 unfolding type_by
 arithmetic_by M d p q l e f =
     let k = d.kind in
@@ -50,9 +50,6 @@ arithmetic_by M d p q l e f =
       ne_eqb k 14 f,
       lt-leb k 9 (omega arith),
     )
-
-pub arithmetic_high : (M : Model) (d : NodeRecord) (p q : ℕ) → 13 ≤ d.kind → (d.kind ≡ 13 → ⊥) → (d.kind ≡ 14 → ⊥) → arithmetic_type p q ≡ type_by M d p q
-arithmetic_high M d p q l = arithmetic_by M d p q (omega arith)
 
 module _ (M : Model) (n : ℕ) where
   -- what is said of node m where those below n are known

@@ -30,8 +30,8 @@ module _ {M : Model} {n : ℕ} (h : Measurable M n) where
   size_most {k} l = leb-true _ 64 (and_right (lower_ok (node_at M k) k) _ (h.below k l))
 
 -- what a call on a lower node asks, from what the function is given
-pub recur : {M : Model} {S : Type 0} {n t k : ℕ} → (n ≡ t) × (S × Measurable M n) → k < n → (k < t) × (S × Measurable M k)
-recur h l = (rw h.0 at l, (h.1.0, measurable h.1.1 l))
+pub recur : {M : Model} {n t k : ℕ} → n ≡ t → Measurable M n → k < n → (k < t) × Measurable M k
+recur e h l = (rw e at l, measurable h l)
 
 -- d being its record and o how many operands it has
 module _ {M : Model} {n : ℕ} (h : Measurable M n) {d : NodeRecord} (e : d ≡ node_at M n) {o : ℕ} (k : o ≡ operands_of d.kind) where

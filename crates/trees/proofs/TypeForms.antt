@@ -2,12 +2,14 @@
 use mathlib.Core.Path.{◌≡◌}
 use mathlib.Core.Bool.{Bool, true, ◌&&◌, ◌||◌}
 use mathlib.Core.Logic.{◌⊎◌, inl, inr, ⊎_elim}
-use Prim.Native.Nat.{ℕ}
+use Prim.Native.Nat.{ℕ, ◌<◌}
 use lib.Dec.{eqb}
+use lib.ListN.{length}
 use borrow.Author.Tests.{ne_eqb}
-use Rattle.blocks.specs.Records.{Model, signal_at, variable_at}
+use Rattle.blocks.specs.Records.{Model, signal_at, variable_at, statement_at}
 use Rattle.blocks.specs.declared.records.StatementRecord.{StatementRecord}
-use Rattle.fields.specs.Fields.{absent}
+use Rattle.fields.specs.Fields.{absent, statement_ok, fields_ok}
+use Rattle.fields.proofs.StatementFields.{statement_ok_lem}
 use Rattle.trees.specs.Trees.{integer, boolean, type_of, statement_typed}
 
 -- s is statement u, as it was read
@@ -38,3 +40,7 @@ module _ (M : Model) (s u : StatementRecord) (e : s ≡ u) where
   other_typed f g h i j =
       let k = s.kind in
       rw (← e, ne_eqb k 1 f, ne_eqb k 2 (λ x. g (inl x)), ne_eqb k 7 (λ x. g (inr x)), ne_eqb k 3 h, ne_eqb k 5 i, ne_eqb k 6 j)
+
+-- statement n, as it was read, passes rule 5
+pub read_ok : (M : Model) (n : ℕ) (s : StatementRecord) → s ≡ statement_at M n → fields_ok M ≡ true → n < length M.statements → statement_ok M n s ≡ true
+read_ok M n s e ok h = rw e (statement_ok_lem M n ok h)

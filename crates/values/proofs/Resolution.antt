@@ -2,18 +2,14 @@
 -- Assumes nothing.
 use mathlib.Core.Path.{◌≡◌, refl, sym, ap, ◌∙◌}
 use mathlib.Core.Logic.{∥∥₁_elim}
-use mathlib.Core.List.{List, [], ◌∷◌, ◌++◌, foldl, foldl-append, Permᴰ}
-use mathlib.Core.Bool.{Bool, true, false}
-use Prim.Native.Nat.{ℕ, zero, suc, ◌+◌, ◌<◌, ◌≤◌}
-use native.Mathlib.Nat.{ℕ_set, not-suc-le-zero}
-use native.Mathlib.Numerals.{add-one}
+use mathlib.Core.List.{List, [], ◌∷◌, foldl, Permᴰ}
+use mathlib.Core.Bool.{true}
+use Prim.Native.Nat.{ℕ, ◌<◌}
+use native.Mathlib.Nat.{ℕ_set}
 use native.Mathlib.Omega.{arith}
-use lib.Dec.{ltb, lit<}
-use lib.ListN.{length, get_or, take}
-use lib.Seq.{take_all, take-suc}
-use borrow.Author.Tests.{lt-ltb}
+use lib.Dec.{lit<}
+use lib.ListN.{length, get_or}
 use Rattle.base.specs.Below.{all_below, list_below}
-use Rattle.base.specs.Cases.{◌∣◌, ◌⇒◌}
 use Rattle.values.specs.Nine.{code_of}
 use Rattle.values.specs.Resolve.{standard_rows, entry_of, table_by, standard, pair_in, pair_of, resolution_by, closed, row_symmetric, symmetric, pair_associative, row_associative, associative, PairLaws, ResolutionLaws, TableLaws}
 use Rattle.values.proofs.Tables.{pair_laws}
@@ -74,36 +70,3 @@ standard_associative = refl
 pub standard_resolution : ResolutionLaws pair_of
 unfolding pair_of
 standard_resolution = (table_laws standard).resolutions standard_closed standard_symmetric standard_associative
-
--- there is a value
-abbrev pub some : List ℕ → Bool
-some [] = false
-some (v ∷ vs) = true
-
-pub some_more : (vs : List ℕ) (x : ℕ) → some (vs ++ (x ∷ [])) ≡ true
-some_more [] x = refl
-some_more (v ∷ vs) x = refl
-
--- one value more
-module _ (f : ℕ → ℕ → ℕ) where
-  pub resolution_more : (vs : List ℕ) (x : ℕ) → resolution_by f (vs ++ (x ∷ [])) ≡ (some vs ⇒ f (resolution_by f vs) x ∣ x)
-  unfolding resolution_by
-  resolution_more [] x = refl
-  resolution_more (v ∷ vs) x = foldl-append f v vs (x ∷ [])
-
-  -- a loop over the values: it has resolved the first i
-  some_of_lem : (xs : List ℕ) (i : ℕ) → i ≤ length xs → some (take i xs) ≡ ltb 0 i
-  some_of_lem [] zero h = refl
-  some_of_lem [] (suc i) h = absurd (not-suc-le-zero h)
-  some_of_lem (x ∷ xs) zero h = refl
-  some_of_lem (x ∷ xs) (suc i) h = sym (lt-ltb 0 (suc i) (omega arith))
-
-  pub resolved_none : (xs : List ℕ) → 4 ≡ resolution_by f (take 0 xs)
-  unfolding resolution_by
-  resolved_none xs = refl
-
-  pub resolved_next : (xs : List ℕ) (i v : ℕ) → i < length xs → v ≡ resolution_by f (take i xs) → (ltb 0 i ⇒ f v (get_or xs i 0) ∣ get_or xs i 0) ≡ resolution_by f (take (i + 1) xs)
-  resolved_next xs i v h e = rw (add-one, take-suc xs i 0 h, resolution_more, some_of_lem xs i (omega arith), e)
-
-  pub resolved_all : (xs : List ℕ) (i v : ℕ) → i ≤ length xs → length xs ≤ i → v ≡ resolution_by f (take i xs) → v ≡ resolution_by f xs
-  resolved_all xs i v h l e = e ∙ ap (resolution_by f) (take_all i xs l)

@@ -3,17 +3,16 @@
 use mathlib.Core.Path.{◌≡◌, sym, ◌∙◌}
 use mathlib.Core.Bool.{Bool, true}
 use mathlib.Core.List.{List}
-use Prim.Native.Nat.{ℕ, ◌+◌, ◌*◌, ◌≤◌, ◌<◌}
-use native.Mathlib.Nat.{not-suc-le-zero}
+use Prim.Native.Nat.{ℕ, ◌+◌, ◌*◌, ◌<◌}
 use native.Mathlib.Omega.{arith}
 use lib.Dec.{eqb, ltb, lit<}
-use lib.ListN.{length, get_or, set, length-set}
+use lib.ListN.{get_or}
 use borrow.Author.Tests.{ltb-true, lt-ltb, eqb-true}
 use Rattle.base.specs.Below.{all_below}
-use Rattle.base.proofs.Below.{all_at, list_is, each_next}
+use Rattle.base.proofs.Below.{all_at}
 use Rattle.base.proofs.Cases.{by_test}
 use Rattle.values.specs.Nine.{code_of}
-use Rattle.values.specs.Resolve.{entries, entry_of, table_by, pair_in, closed, row_symmetric, symmetric, pair_associative, row_associative, associative, PairLaws}
+use Rattle.values.specs.Resolve.{entries, pair_in, closed, row_symmetric, symmetric, pair_associative, row_associative, associative, PairLaws}
 
 pub code_below : (x : ℕ) → code_of x < 9
 unfolding code_of
@@ -85,23 +84,3 @@ module _ (t : List ℕ) where
 
   pub pair_laws : closed t ≡ true → symmetric t ≡ true → associative t ≡ true → PairLaws (pair_in t)
   pair_laws c s a = record { code = in_code c; commutes = commute s; associates = associate a }
-
--- the first n entries of an array of 81 are those of rows
-pub record Written (rows : List (List ℕ)) (xs : List ℕ) (n : ℕ) : Type 0 where
-  pub room : length xs ≡ entries
-  pub at : (k : ℕ) → k < n → entry_of rows k ≡ get_or xs k 0
-
-module _ (rows : List (List ℕ)) where
-  pub written_none : (xs : List ℕ) → length xs ≡ entries → Written rows xs 0
-  written_none xs e = record { room = e; at = λ k h. absurd (not-suc-le-zero h) }
-
-  pub written_next : (xs : List ℕ) (n v : ℕ) → n < entries → v ≡ entry_of rows n → Written rows xs n → Written rows (set xs n v) (n + 1)
-  written_next xs n v h e w =
-      record {
-        room = rw length-set w.room;
-        at = each_next (λ k x. entry_of rows k ≡ x) xs n v (rw w.room h) w.at (sym e);
-      }
-
-  pub written_all : (xs : List ℕ) (n : ℕ) → n ≤ entries → entries ≤ n → Written rows xs n → xs ≡ table_by rows
-  unfolding table_by
-  written_all xs n h l w = sym (list_is (entry_of rows) xs 0 entries w.room (λ k q. w.at k (omega arith)))

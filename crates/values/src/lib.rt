@@ -9,9 +9,11 @@ ghost use Rattle.values.specs.Resolve.{standard_rows, entries, entry_of, standar
 ghost use Rattle.values.specs.Operators.{not_of, and_of, or_of, xor_of};
 ghost use Rattle.values.specs.Bench.{rows, Holds};
 
-use base::choose32;
+use base::choose;
+use std::array;
 
 // The codes that the functions name.
+// Stays: numbers, since any word is a value here (one above 8 is read as X), and specs/Nine and the exported functions speak of numbers.
 const U: u32 = 0;
 
 const X: u32 = 1;
@@ -48,12 +50,6 @@ fn code(x: u32) -> usize
     if x < 9 { x as usize } else { 1 }
 }
 
-fn wide(x: u16) -> u32
-    ensures { result ≡ x }
-{
-    x as u32
-}
-
 // Entry n of nine rows, one behind the other.
 fn entry(rows: &[[u16; 9]; 9], n: usize) -> u16
     requires { n < entries }
@@ -78,15 +74,7 @@ pub fn pair(table: &[u16], x: u32, y: u32) -> u32
 {
     let i = code(x);
     let j = code(y);
-    wide(table[9 * i + j])
-}
-
-// The resolution v of the values so far, if there are any, with one value more.
-fn joined(table: &[u16], some: bool, v: u32, x: u32) -> u32
-    requires { length table.now ≡ entries }
-    ensures { result ≡ (some ⇒ pair_in table.now v x ∣ x) }
-{
-    if some { pair(table, v, x) } else { x }
+    u32::from(table[9 * i + j])
 }
 
 // The resolution of all of the values, by the table given.
@@ -94,26 +82,17 @@ pub fn resolve_by(table: &[u16], values: &[u32]) -> u32
     requires { length table.now ≡ entries }
     ensures { result ≡ resolution_by (pair_in table.now) values.now }
 {
-    let mut result = Z;
-    let mut i = 0;
-    while i < values.len() {
-        result = joined(table, 0 < i, result, values[i]);
-        i += 1;
+    match values.split_first() {
+        Some((first, rest)) => rest.iter().fold(*first, |v, x| pair(table, v, *x)),
+        None => Z,
     }
-    result
 }
 
 // The standard's table, its rows one behind the other.
 fn standard_table() -> [u16; ENTRIES]
     ensures { result ≡ standard }
 {
-    let mut r = [0u16; ENTRIES];
-    let mut n = 0;
-    while n < ENTRIES {
-        r[n] = standard(n);
-        n += 1;
-    }
-    r
+    array::from_fn(standard)
 }
 
 // The resolution of all of the values, by the standard's table.
@@ -130,13 +109,7 @@ fn row_symmetric(table: &[u16], x: u32) -> bool
     requires { length table.now ≡ entries }
     ensures { result ≡ row_symmetric table.now x }
 {
-    let mut ok = true;
-    let mut y = 0;
-    while y < 9 {
-        ok = ok & (pair(table, x, y) == pair(table, y, x));
-        y += 1;
-    }
-    ok
+    (0..9).all(|y| pair(table, x, y) == pair(table, y, x))
 }
 
 // Whether a table is symmetric.
@@ -144,13 +117,7 @@ pub fn symmetric(table: &[u16]) -> bool
     requires { length table.now ≡ entries }
     ensures { result ≡ symmetric table.now }
 {
-    let mut ok = true;
-    let mut x = 0;
-    while x < 9 {
-        ok = ok & row_symmetric(table, x);
-        x += 1;
-    }
-    ok
+    (0..9).all(|x| row_symmetric(table, x))
 }
 
 // Whether x, y and each third value may be grouped either way.
@@ -158,14 +125,7 @@ fn pair_associative(table: &[u16], x: u32, y: u32) -> bool
     requires { length table.now ≡ entries }
     ensures { result ≡ pair_associative table.now x y }
 {
-    let xy = pair(table, x, y);
-    let mut ok = true;
-    let mut z = 0;
-    while z < 9 {
-        ok = ok & (pair(table, xy, z) == pair(table, x, pair(table, y, z)));
-        z += 1;
-    }
-    ok
+    (0..9).all(|z| pair(table, pair(table, x, y), z) == pair(table, x, pair(table, y, z)))
 }
 
 // Whether x and each two values may be grouped either way.
@@ -173,13 +133,7 @@ fn row_associative(table: &[u16], x: u32) -> bool
     requires { length table.now ≡ entries }
     ensures { result ≡ row_associative table.now x }
 {
-    let mut ok = true;
-    let mut y = 0;
-    while y < 9 {
-        ok = ok & pair_associative(table, x, y);
-        y += 1;
-    }
-    ok
+    (0..9).all(|y| pair_associative(table, x, y))
 }
 
 // Whether a table is associative.
@@ -187,29 +141,25 @@ pub fn associative(table: &[u16]) -> bool
     requires { length table.now ≡ entries }
     ensures { result ≡ associative table.now }
 {
-    let mut ok = true;
-    let mut x = 0;
-    while x < 9 {
-        ok = ok & row_associative(table, x);
-        x += 1;
-    }
-    ok
+    (0..9).all(|x| row_associative(table, x))
 }
 
 // The class of a value, as the code that IEEE 1164's To_UX01 gives: 0 for 0 and L; 1 for 1 and H; U; X for the rest.
+// Stays: here and below choices of a value. With a `match` the operators of two operands took twice to three times as long, with `if` 0.7 to 1.8
+// times (bench/README.md).
 fn class(x: u32) -> u32
     ensures { result ≡ (low x ⇒ ‘0’ ∣ high x ⇒ ‘1’ ∣ is_u x ⇒ U ∣ X) }
 {
     let low = (x == ZERO) | (x == L);
     let high = (x == ONE) | (x == H);
-    choose32(low, ZERO, choose32(high, ONE, choose32(x == U, U, X)))
+    choose(low, ZERO, choose(high, ONE, choose(x == U, U, X)))
 }
 
 pub fn not(x: u32) -> u32
     ensures { result ≡ not_of x }
 {
     let a = class(x);
-    choose32(a == ZERO, ONE, choose32(a == ONE, ZERO, a))
+    choose(a == ZERO, ONE, choose(a == ONE, ZERO, a))
 }
 
 // `and` of two classes: zero if either is; else U if either is; else one if both are; else X. With 0 and 1 exchanged it is `or`.
@@ -219,7 +169,7 @@ fn gate(a: u32, b: u32, zero: u32, one: u32) -> u32
     let either = (a == zero) | (b == zero);
     let unset = (a == U) | (b == U);
     let both = (a == one) & (b == one);
-    choose32(either, zero, choose32(unset, U, choose32(both, one, X)))
+    choose(either, zero, choose(unset, U, choose(both, one, X)))
 }
 
 pub fn and(x: u32, y: u32) -> u32
@@ -241,7 +191,7 @@ pub fn xor(x: u32, y: u32) -> u32
     let b = class(y);
     let unset = (a == U) | (b == U);
     let unknown = (a == X) | (b == X);
-    choose32(unset, U, choose32(unknown, X, choose32(a != b, ONE, ZERO)))
+    choose(unset, U, choose(unknown, X, choose(a != b, ONE, ZERO)))
 }
 
 // How many rows the proved table of the bench has of this layer.

@@ -1,13 +1,13 @@
 // A value change dump: the lines of a run's rows. A row has 32 entries, the value of signal s at s.
 #![tactic(auto)]
 
-ghost use Rattle.std.specs.Prelude.{not, ◌≡◌, ◌+◌, ◌*◌, ◌-◌, ◌≤◌, ◌<◌, length};
+ghost use Rattle.std.specs.Prelude.{not, ◌≡◌, ◌+◌, ◌*◌, ◌≤◌, ◌<◌, length};
 ghost use Rattle.base.specs.Below.{any_below, join_below, list_below};
 ghost use Rattle.numerals.specs.Puts.{far, Puts};
 ghost use Rattle.vcd.specs.Lines.{same_word, spaced, text_of};
 ghost use Rattle.vcd.specs.ReadBack.{DumpsReadBack};
 ghost use Rattle.vcd.specs.Vcd.{character_of, written_of, value_line, time_line, shown_lines, differs, declared, width_of, var_line, header_lines, row_lines, dump_text};
-ghost use Rattle.vcd.specs.Writing.{value_most, time_most, row_most, var_most, header_most, front_of, row_with, shown_by, lines_by, rows_of};
+ghost use Rattle.vcd.specs.Writing.{value_most, time_most, row_most, var_most, header_most, row_with, shown_by, lines_by, rows_of};
 
 use numerals::put::{put, put_bits, put_byte, put_decimal};
 
@@ -65,115 +65,86 @@ fn put_time(t: u64, out: &mut [u8], at: usize) -> usize
 // The lines of the signals whose written value differs from that of the row before, or of all.
 fn put_shown(
     all: bool,
-    types: &[usize; 32],
-    n: usize,
+    types: &[usize],
     before: &[u32],
     row: &[u32],
     out: &mut [u8],
     at: usize,
 ) -> usize
-    requires n_bound { n ≤ 32 }
+    requires types_len { length types.now ≤ 32 }
     requires before_len { length before.now ≡ 32 }
     requires row_len { length row.now ≡ 32 }
     requires value_most_bound { at + 32 * value_most ≤ far }
-    ensures upper_bound { result ≤ at + n * value_most }
-    ensures puts { Puts (text_of (shown_lines (front_of n types.now) (shown_by all (front_of n types.now) (row_with 0 n before.now) (row_with 0 n row.now)) (row_with 0 n row.now))) out.old out.new at result }
+    ensures upper_bound { result ≤ at + length types.now * value_most }
+    ensures puts { Puts (text_of (shown_lines types.now (shown_by all types.now (row_with 0 (length types.now) before.now) (row_with 0 (length types.now) row.now)) (row_with 0 (length types.now) row.now))) out.old out.new at result }
 {
     let mut end = at;
-    let mut s = 0;
-    while s < n {
+    for s in 0..types.len() {
         let ty = types[s];
         let v = row[s];
         if all | differ(ty, before[s], v) {
             end = put_value(ty, v, s, out, end);
         }
-        s += 1;
     }
     end
 }
 
 // Some signal's written value differs from that of the row before.
-fn any_differ(types: &[usize; 32], n: usize, before: &[u32], row: &[u32]) -> bool
-    requires n_bound { n ≤ 32 }
+fn any_differ(types: &[usize], before: &[u32], row: &[u32]) -> bool
+    requires types_len { length types.now ≤ 32 }
     requires before_len { length before.now ≡ 32 }
     requires row_len { length row.now ≡ 32 }
-    ensures { result ≡ any_below (differs (front_of n types.now) (row_with 0 n before.now) (row_with 0 n row.now)) n }
+    ensures { result ≡ any_below (differs types.now (row_with 0 (length types.now) before.now) (row_with 0 (length types.now) row.now)) (length types.now) }
 {
-    let mut found = false;
-    let mut s = 0;
-    while s < n {
-        found = found | differ(types[s], before[s], row[s]);
-        s += 1;
-    }
-    found
+    (0..types.len()).any(|s| differ(types[s], before[s], row[s]))
 }
 
 // The lines of a row: of the first all signals, of a later one those that differ, and nothing where none does.
 fn put_row(
     first: bool,
-    types: &[usize; 32],
-    n: usize,
+    types: &[usize],
     before: &[u32],
     row: &[u32],
     time: u64,
     out: &mut [u8],
     at: usize,
 ) -> usize
-    requires n_bound { n ≤ 32 }
+    requires types_len { length types.now ≤ 32 }
     requires before_len { length before.now ≡ 32 }
     requires row_len { length row.now ≡ 32 }
     requires row_most_bound { at + row_most ≤ far }
     ensures upper_bound { result ≤ at + row_most }
-    ensures puts { Puts (text_of (lines_by first (front_of n types.now) (row_with 0 n before.now) (row_with time n row.now))) out.old out.new at result }
+    ensures puts { Puts (text_of (lines_by first types.now (row_with 0 (length types.now) before.now) (row_with time (length types.now) row.now))) out.old out.new at result }
 {
-    if first | any_differ(types, n, before, row) {
+    if first | any_differ(types, before, row) {
         let b = put_time(time, out, at);
-        return put_shown(first, types, n, before, row, out, b);
+        return put_shown(first, types, before, row, out, b);
     }
     at
 }
 
-// The number before k, or 0.
-fn before(k: usize) -> usize
-    ensures { result ≡ k - 1 }
-{
-    if k == 0 { 0 } else { k - 1 }
-}
-
 // The lines of all rows.
-fn put_rows(
-    types: &[usize; 32],
-    n: usize,
-    times: &[u64],
-    values: &[u32],
-    count: usize,
-    out: &mut [u8],
-    at: usize,
-) -> usize
-    requires n_bound { n ≤ 32 }
-    requires count_bound { count ≤ 65536 }
-    requires count_in_bounds { count ≤ length times.now }
-    requires count_in_bounds_2 { 32 * count ≤ length values.now }
+fn put_rows(types: &[usize], times: &[u64], values: &[u32], out: &mut [u8], at: usize) -> usize
+    requires types_len { length types.now ≤ 32 }
+    requires times_len { length times.now ≤ 65536 }
+    requires values_len { 32 * length times.now ≤ length values.now }
     requires at_le_header_most { at ≤ header_most }
-    ensures upper_bound { result ≤ at + count * row_most }
-    ensures puts { Puts (text_of (join_below (row_lines (front_of n types.now) (rows_of n times.now values.now count)) count)) out.old out.new at result }
+    ensures upper_bound { result ≤ at + length times.now * row_most }
+    ensures puts { Puts (text_of (join_below (row_lines types.now (rows_of (length types.now) times.now values.now (length times.now))) (length times.now))) out.old out.new at result }
 {
     let mut end = at;
-    let mut k = 0;
-    while k < count {
-        let last = 32 * before(k);
+    for k in 0..times.len() {
+        let last = 32 * k.saturating_sub(1);
         let from = 32 * k;
         end = put_row(
             k == 0,
             types,
-            n,
             &values[last..last + 32],
             &values[from..from + 32],
             times[k],
             out,
             end,
         );
-        k += 1;
     }
     end
 }
@@ -201,50 +172,40 @@ fn width(ty: usize) -> u64
 }
 
 // The lines that declare the signals.
-fn put_vars(types: &[usize; 32], n: usize, out: &mut [u8], at: usize) -> usize
-    requires n_bound { n ≤ 32 }
+fn put_vars(types: &[usize], out: &mut [u8], at: usize) -> usize
+    requires types_len { length types.now ≤ 32 }
     requires at_bound { at ≤ 46 }
-    ensures upper_bound { result ≤ at + n * var_most }
-    ensures puts { Puts (text_of (list_below (var_line (front_of n types.now)) n)) out.old out.new at result }
+    ensures upper_bound { result ≤ at + length types.now * var_most }
+    ensures puts { Puts (text_of (list_below (var_line types.now) (length types.now))) out.old out.new at result }
 {
     let mut end = at;
-    let mut s = 0;
-    while s < n {
+    for s in 0..types.len() {
         end = put_var(types[s], s, out, end);
-        s += 1;
     }
     end
 }
 
 // The header.
-fn put_header(types: &[usize; 32], n: usize, out: &mut [u8]) -> usize
-    requires { n ≤ 32 }
+fn put_header(types: &[usize], out: &mut [u8]) -> usize
+    requires { length types.now ≤ 32 }
     ensures upper_bound { result ≤ header_most }
-    ensures puts { Puts (text_of (header_lines (front_of n types.now))) out.old out.new 0 result }
+    ensures puts { Puts (text_of (header_lines types.now)) out.old out.new 0 result }
 {
     let a = put(b"$timescale 1 ns $end\n$scope module model $end\n", out, 0);
-    let b = put_vars(types, n, out, a);
+    let b = put_vars(types, out, a);
     put(b"$upscope $end\n$enddefinitions $end\n", out, b)
 }
 
-// The dump of count rows of n signals, from the front of the buffer on; answers how many bytes it has. Where the buffer does not hold
+// The dump of rows of signals of those types: row k has the time k, and the values from 32 * k on. It is put from the front of the buffer on; answers how many bytes it has. Where the buffer does not hold
 // them all, they are only counted.
-pub fn put_dump(
-    types: &[usize; 32],
-    n: usize,
-    times: &[u64],
-    values: &[u32],
-    count: usize,
-    out: &mut [u8],
-) -> usize
-    requires n_bound { n ≤ 32 }
-    requires count_bound { count ≤ 65536 }
-    requires count_in_bounds { count ≤ length times.now }
-    requires count_in_bounds_2 { 32 * count ≤ length values.now }
-    ensures upper_bound { result ≤ header_most + count * row_most }
-    ensures puts { Puts (dump_text (front_of n types.now) (rows_of n times.now values.now count)) out.old out.new 0 result }
+pub fn put_dump(types: &[usize], times: &[u64], values: &[u32], out: &mut [u8]) -> usize
+    requires types_len { length types.now ≤ 32 }
+    requires times_len { length times.now ≤ 65536 }
+    requires values_len { 32 * length times.now ≤ length values.now }
+    ensures upper_bound { result ≤ header_most + length times.now * row_most }
+    ensures puts { Puts (dump_text types.now (rows_of (length types.now) times.now values.now (length times.now))) out.old out.new 0 result }
     ensures dumps_read_back { DumpsReadBack }
 {
-    let a = put_header(types, n, out);
-    put_rows(types, n, times, values, count, out, a)
+    let a = put_header(types, out);
+    put_rows(types, times, values, out, a)
 }

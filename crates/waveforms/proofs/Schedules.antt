@@ -10,6 +10,7 @@ use lib.Dec.{ltb}
 use lib.ListN.{length, get_or, drop, set, length-append, length-drop}
 use lib.Seq.{get_or-set_same, get_or-set_other}
 use borrow.Author.Tests.{lt-ltb, le-ltb}
+use Rattle.std.specs.Prelude.{Some, None}
 use Rattle.base.specs.Cases.{◌∣◌, ◌⇒◌}
 use Rattle.base.specs.Below.{list_below}
 use Rattle.base.proofs.Below.{list_more, list_same}
@@ -156,10 +157,10 @@ module _ (d e k : Driver) (delay : ℕ) (v : Driven) (m : Mechanism) (b : Before
           held,
         )
 
-    pub scheduled_in : ScheduledTo d delay v m (record { driver = with x; full = false })
+    pub scheduled_in : ScheduledTo d delay v m (Some (with x))
     unfolding driver_after
     scheduled_in = record { driver = λ t y. rw (room l t, with_listed t ∙ left_are t); full = λ t. sym (room l t); few = omega arith }
 
-  pub scheduled_ninth : d.count ≤ 8 → 8 ≤ k.count → ScheduledTo d delay v m (record { driver = d; full = true })
+  pub scheduled_ninth : d.count ≤ 8 → 8 ≤ k.count → ScheduledTo d delay v m None
   unfolding driver_after
   scheduled_ninth few l = record { driver = λ t y. rw (over l t); full = λ t. sym (over l t); few = few }

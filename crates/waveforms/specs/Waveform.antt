@@ -1,12 +1,11 @@
 -- What a driver's functions promise of its waveform.
-use Rattle.std.specs.Prelude.{◌≡◌, true, false, List, ◌++◌, ℕ, ◌+◌, suc, ◌≤◌, ◌<◌, get_or, drop}
+use Rattle.std.specs.Prelude.{◌≡◌, true, false, List, ◌++◌, ℕ, ◌+◌, suc, ◌≤◌, ◌<◌, get_or, drop, Option, Some, None, is_none}
 use Rattle.rules.specs.declared.driven.Driven.{Driven}
 use Rattle.rules.specs.declared.mechanism.Mechanism.{Mechanism}
 use Rattle.rules.specs.Configuration.{Transaction, DriverState}
 use Rattle.rules.specs.Statements.{before, only, equal_value, left_by, scheduled, overflows, driver_after}
 use Rattle.waveforms.specs.Pending.{driven_of, NoneBefore, pending_of}
 use Rattle.waveforms.specs.declared.driver.Driver.{Driver}
-use Rattle.waveforms.specs.declared.driver.Scheduled.{Scheduled}
 
 -- "a waveform of at most eight pending transactions (time, value), rising in time"
 pub record Waveform (d : Driver) : Type 0 where
@@ -54,11 +53,16 @@ pub record LeftBy (m : Mechanism) (v : Driven) (d r : Driver) : Type 0 where
   pub pending : (t at : ℕ) → pending_of t r ++ only at v ≡ left_by m (pending_of t d ++ only at v)
   pub few : r.count ≤ 8
 
+-- the driver that a schedule leaves: d where it was refused
+abbrev pub left_or : Driver → Option Driver → Driver
+left_or d (Some r) = r
+left_or d None = d
+
 -- a schedule of v, a value or null, in some units: whatever the time and the current value are, the driver is what the rules make of it
-pub record ScheduledTo (d : Driver) (delay : ℕ) (v : Driven) (m : Mechanism) (r : Scheduled) : Type 0 where
-  pub driver : (t : ℕ) (x : Driven) → driving t x r.driver ≡ driver_after m (t + delay) v (driving t x d)
-  pub full : (t : ℕ) → r.full ≡ overflows (scheduled m (pending_of t d) (t + delay) v)
-  pub few : r.driver.count ≤ 8
+pub record ScheduledTo (d : Driver) (delay : ℕ) (v : Driven) (m : Mechanism) (r : Option Driver) : Type 0 where
+  pub driver : (t : ℕ) (x : Driven) → driving t x (left_or d r) ≡ driver_after m (t + delay) v (driving t x d)
+  pub full : (t : ℕ) → is_none r ≡ overflows (scheduled m (pending_of t d) (t + delay) v)
+  pub few : (left_or d r).count ≤ 8
 
 -- at most eight are pending, each in n units or later
 pub record Ahead (n : ℕ) (d : Driver) : Type 0 where

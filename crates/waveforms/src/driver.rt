@@ -10,23 +10,19 @@ use rules::driven::Driven;
 use rules::mechanism::Mechanism;
 
 // Later than any time: stands for no transaction and no deadline.
+// Stays: the earliest of times is then their minimum, none included; Option's own order has None first.
 pub const NEVER: u64 = 18446744073709551615;
 
 // The word that stands for null: no value has it.
+// Stays: a Driven takes two words, and fixed memory has a configuration hold 576 of them, copied as a whole by its callers.
 pub const NULL: u32 = 2147483648;
 
+// Stays: two arrays and a count, since there is no heap, and each search below reads one of the arrays alone.
 #[derive(Clone, Copy)]
 pub struct Driver {
     pub times: [u32; 8],
     pub values: [u32; 8],
     pub count: usize,
-}
-
-// A driver, and whether a ninth transaction was refused.
-#[derive(Clone, Copy)]
-pub struct Scheduled {
-    pub driver: Driver,
-    pub full: bool,
 }
 
 fn word_for(v: Driven) -> u32
@@ -54,14 +50,10 @@ fn kept(times: [u32; 8], count: usize, at: u32) -> usize
     requires { count ≤ 8 }
     ensures { Kept times count at result }
 {
-    let mut n: usize = 0;
-    while n < count {
-        if times[n] >= at {
-            return n;
-        }
-        n += 1;
-    }
-    n
+    times[..count]
+        .iter()
+        .position(|time| *time >= at)
+        .unwrap_or(count)
 }
 
 // Of the first count words, where the run of those with the value of v begins that is last.
@@ -70,14 +62,12 @@ fn run_start(values: [u32; 8], count: usize, v: Driven) -> usize
     requires v_value { driven_of (word_for v) ≡ v }
     ensures { RunStart values count v result }
 {
-    let mut first = count;
-    while first > 0 {
-        if !holds(values[first - 1], v) {
-            return first;
+    for last in (0..count).rev() {
+        if !holds(values[last], v) {
+            return last + 1;
         }
-        first -= 1;
     }
-    first
+    0
 }
 
 // The first count times, n units later.
@@ -86,14 +76,13 @@ fn nearer(mut times: [u32; 8], count: usize, n: u64) -> [u32; 8]
     requires none_before { NoneBefore n times count }
     ensures { Nearer times count n result }
 {
-    let mut i = 0;
-    while i < count {
-        times[i] = times[i] - n as u32;
-        i += 1;
+    for i in 0..count {
+        times[i] -= n as u32;
     }
     times
 }
 
+// Stays: copy_within leaves the last element twice, and moves them in a loop.
 fn drop_first(a: [u32; 8]) -> [u32; 8]
     ensures { result ≡ drop 1 a ++ 0 ∷ [] }
 {
@@ -129,10 +118,8 @@ impl Driver {
         requires count_bound { self.count ≤ 8 }
         ensures { Without n self result }
     {
-        let mut i = 0;
-        while i < n {
+        for _ in 0..n {
             self = self.without_first();
-            i += 1;
         }
         self
     }
@@ -153,8 +140,8 @@ impl Driver {
     }
 
     // Removes the pending transactions in delay units or later and what the delay removes of those before, and adds one. A ninth is
-    // refused: the driver stays.
-    pub fn schedule(self, delay: u32, value: Driven, mechanism: Mechanism) -> Scheduled
+    // refused.
+    pub fn schedule(self, delay: u32, value: Driven, mechanism: Mechanism) -> Option<Driver>
         requires waveform { Waveform self }
         requires value_value { driven_of (word_for value) ≡ value }
         ensures { ScheduledTo self delay value mechanism result }
@@ -166,15 +153,9 @@ impl Driver {
             d.times[n] = delay;
             d.values[n] = word_for(value);
             d.count = n + 1;
-            Scheduled {
-                driver: d,
-                full: false,
-            }
+            Some(d)
         } else {
-            Scheduled {
-                driver: self,
-                full: true,
-            }
+            None
         }
     }
 
@@ -205,7 +186,7 @@ impl Driver {
         if n == 0 {
             return NEVER;
         }
-        now + self.times[0] as u64
+        now + u64::from(self.times[0])
     }
 
     // The same transactions, n units later.

@@ -25,6 +25,7 @@ fn put_word(out: &mut [u8], at: usize, w: usize)
 }
 
 // Record n, of a kind, three numbers and 32 bits.
+// Stays: a kind is a number, the one that stands in the record (`nodes_of` and `statements_of`, which the contracts of reader and text_model name).
 pub fn put_record(out: &mut [u8], n: usize, kind: usize, a: usize, b: usize, c: usize, l: u32)
     requires { (n < 65536) × (kind < 65536) × (a < 65536) × (b < 65536) × (c < 65536) }
     ensures { out.new ≡ sets out.old (12 * n) (record_bytes kind a b c l) }

@@ -1,15 +1,7 @@
-use borrow.Author.Rules.{rules}
-use Rattle.chains.proofs.Sought.{none_begun, none_next, sought, not_there, joined}
+use Rattle.std.proofs.Common.{rules, tests, ◌&&◌, ◌∙◌}
+use Rattle.sets.specs.Sets.{in_set}
+use Rattle.base.proofs.Iterators.{find_from_range}
 use Rattle.chains.proofs.lowest.Goals as goal
 
-pub loop-w-init : goal.loop-w-init
-loop-w-init c = (search rules, none_begun _)
-
-pub returns-then-has : goal.returns-then-has
-returns-then-has c = sought _ _ _ (search rules) c.loop-w.invariant.1 (joined _ _ _ _ _ c.has.ensures c.has-in-loop-w.ensures c.if-has.true)
-
-pub loop-w-preserved : goal.loop-w-preserved
-loop-w-preserved c = (search rules, none_next _ _ c.loop-w.invariant.1 (joined _ _ _ _ _ c.has.ensures c.has-in-loop-w.ensures c.if-has.false))
-
 pub returns : goal.returns
-returns c = not_there _ _ _ c.loop-w.invariant.0 c.loop-w-test.false c.loop-w.invariant.1
+returns c = c.unwrap_or.ensures ∙ find_from_range _ c.args.n (λ w. in_set c.args.a w && in_set c.args.b w) c.find.result c.find.ensures.ran (λ x b q k. search (rules, tests))

@@ -1,10 +1,6 @@
 -- `relation`: the rows of the processes passed are made. Assumes nothing.
-use Prim.Native.Nat.{◌-◌}
 use Rattle.chains.proofs.RowsMade.{Rowed}
 use Rattle.chains.proofs.relation.Given as goal
 
 abbrev pub invariant-loop-a : goal.invariant-loop-a
 invariant-loop-a l = Rowed l.assigned l.waited l.n l.rows l.a
-
-abbrev pub decreases-loop-a : goal.decreases-loop-a
-decreases-loop-a l = l.n - l.a

@@ -1,5 +1,5 @@
 -- `round`: none of the numbers of edges passed leads back. Assumes nothing.
-use Prim.Native.Nat.{◌≤◌, ◌-◌}
+use Prim.Native.Nat.{◌≤◌}
 use Rattle.sets.specs.Sets.{SetOf}
 use Rattle.chains.specs.Rows.{arrow, leads_back}
 use Rattle.chains.proofs.Sought.{NoneOf}
@@ -8,6 +8,3 @@ use Rattle.chains.proofs.round.Given as goal
 
 abbrev pub invariant-loop-l : goal.invariant-loop-l
 invariant-loop-l l = (l.l ≤ l.n) × NoneOf (closing (arrow l.rows) l.n l.s) l.l × SetOf (leads_back l.rows l.n l.s l.l) l.set
-
-abbrev pub decreases-loop-l : goal.decreases-loop-l
-decreases-loop-l l = l.n - l.l

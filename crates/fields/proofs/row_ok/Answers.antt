@@ -1,17 +1,14 @@
-use mathlib.Core.Path.{refl}
-use Prim.Native.Nat.{zero-le}
-use native.Mathlib.Nat.{le_antisymm}
-use borrow.Author.Rules.{rules}
-use Rattle.base.proofs.Turns.{turn_most, all_begun, all_turn}
+use Rattle.std.proofs.Common.{rules, tests, ◌≡◌, ◌∙◌, ap, ◌&&◌, leb, length, get_or}
+use Rattle.std.proofs.lemmas.Iterator.{YieldsList-from_slice}
+use Rattle.std.proofs.lemmas.Iterator.Search.{all_from_yields_List}
+use Rattle.base.specs.Below.{all_below}
+use Rattle.base.proofs.Ranges.{all_below-list}
 use Rattle.fields.specs.Fields.{row_ok}
 use Rattle.fields.proofs.row_ok.Goals as goal
 
-pub loop-i-init : goal.loop-i-init
-loop-i-init c = (zero-le, all_begun _)
-
-pub loop-i-preserved : goal.loop-i-preserved
-loop-i-preserved c = (turn_most _ _ (search rules), all_turn _ _ _ _ c.loop-i.invariant.1 refl)
-
 pub returns : goal.returns
 unfolding row_ok
-returns c = rw (c.loop-i.invariant.1, le_antisymm c.loop-i.invariant.0 c.loop-i-test.false)
+returns c =
+    let coded = all_from_yields_List (λ x. leb x 8) _ _ _ c.all.ensures.ran (YieldsList-from_slice c.args.d.codes (search rules)) (λ x b q k. search (rules, tests)) in
+    let len : length c.args.d.codes ≡ 9 = search rules in
+    ap (λ b. b && c.args.d.zeros) (coded ∙ all_below-list (λ x. leb x 8) c.args.d.codes ∙ ap (all_below (λ i. leb (get_or c.args.d.codes i 0) 8)) len)

@@ -1,3 +1,4 @@
+use native.Mathlib.Omega.{arith}
 use borrow.Author.Tests.{ne_eqb}
 use Rattle.fields.specs.Fields.{value_ok}
 use Rattle.fields.proofs.value_ok.Goals as goal
@@ -16,6 +17,4 @@ returns-in-2 c = rw c.in-2.is
 
 pub returns-in_default : goal.returns-in_default
 unfolding value_ok
-returns-in_default c =
-    let x = c.args.ty in
-    rw (ne_eqb x 0 c.in_default.in_default-own.rest.0.0.1, ne_eqb x 1 c.in_default.in_default-own.rest.0.1, ne_eqb x 2 c.in_default.in_default-own.rest.1)
+returns-in_default c = let x = c.args.ty in rw (ne_eqb x 0 (λ e. omega arith), ne_eqb x 1 (λ e. omega arith), ne_eqb x 2 (λ e. omega arith))

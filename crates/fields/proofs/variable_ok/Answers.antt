@@ -2,4 +2,4 @@ use Rattle.fields.proofs.FieldForms.{variable_form}
 use Rattle.fields.proofs.variable_ok.Goals as goal
 
 pub returns : goal.returns
-returns c M h = variable_form M _ h c.args.d _ c.value_ok.ensures
+returns c = variable_form _ _ c.args.records.now.totals_of c.args.d _ c.value_ok.ensures

@@ -1,12 +1,16 @@
--- The code decides. Assumes nothing.
-use Rattle.given.proofs.NameLaws.{name_signal, name_variable, no_name}
+-- The form decides. Assumes nothing.
+use Rattle.std.proofs.Common.{rules}
+use Rattle.given.specs.Names.{name_ok}
+use Rattle.given.proofs.NameLaws.{no_name}
 use Rattle.given.proofs.name_ok.Goals as goal
 
-pub returns-then-code-eq-SIGNAL : goal.returns-then-code-eq-SIGNAL
-returns-then-code-eq-SIGNAL c = name_signal _ _ _ _ c.if-code-eq-SIGNAL.true
+pub returns-in-Signal : goal.returns-in-Signal
+unfolding name_ok
+returns-in-Signal c = search rules
 
-pub returns-then-code-eq-VARIABLE : goal.returns-then-code-eq-VARIABLE
-returns-then-code-eq-VARIABLE c = name_variable _ _ _ _ c.if-code-eq-VARIABLE.true
+pub returns-in-Variable : goal.returns-in-Variable
+unfolding name_ok
+returns-in-Variable c = search rules
 
-pub returns : goal.returns
-returns c = no_name _ _ _ _ c.if-code-eq-SIGNAL.false c.if-code-eq-VARIABLE.false
+pub returns-in_default : goal.returns-in_default
+returns-in_default c = no_name _ _ _ c.requires c.in_default.not-Signal c.in_default.not-Variable

@@ -1,25 +1,19 @@
-use mathlib.Core.Path.{refl}
-use native.Mathlib.Omega.{arith}
+use Rattle.std.proofs.Common.{rules, arith, refl}
 use Rattle.given.specs.Names.{named}
 use Rattle.given.proofs.NameLaws.{names_end, names_broken, names_again}
 use Rattle.given.proofs.names_ok.Goals as goal
 
-pub loop-t-init : goal.loop-t-init
+pub loop-found-init : goal.loop-found-init
 unfolding named
-loop-t-init c = (omega arith, refl)
+loop-found-init c = (omega arith, refl)
 
-pub returns-then-code-eq-END : goal.returns-then-code-eq-END
-returns-then-code-eq-END c = names_end _ _ c.loop-t.invariant.1 c.token-t.ensures c.if-code-eq-END.true
+pub returns-then-eq : goal.returns-then-eq
+returns-then-eq c = names_end _ _ c.loop-found.invariant.1 c.token-found.ensures (search rules)
 
 pub returns-then-not-name_ok : goal.returns-then-not-name_ok
-returns-then-not-name_ok c = names_broken _ _ c.loop-t.invariant.1 c.token-t.ensures c.if-code-eq-END.false c.name_ok.ensures (c.if-not-name_ok.true)
+returns-then-not-name_ok c = names_broken _ _ c.loop-found.invariant.1 c.token-found.ensures (λ e. search rules) c.name_ok.ensures c.if-not-name_ok.true
 
-pub loop-t-smaller : goal.loop-t-smaller
-loop-t-smaller c =
-    let t = c.token-t.ensures in
-    omega (arith, t.within, (t.goes_on c.if-code-eq-END.false).1)
-
-pub loop-t-preserved : goal.loop-t-preserved
-loop-t-preserved c =
-    let t = c.token-t.ensures in
-    (t.within.1, names_again _ _ c.loop-t.invariant.1 t c.if-code-eq-END.false c.name_ok.ensures (c.if-not-name_ok.false))
+pub loop-found-preserved : goal.loop-found-preserved
+loop-found-preserved c =
+    let t = c.token-found.ensures in
+    (t.within.1, names_again _ _ c.loop-found.invariant.1 t (λ e. search rules) c.name_ok.ensures c.if-not-name_ok.false)

@@ -8,4 +8,4 @@ use Rattle.leads.proofs.constant_above_0.Goals as goal
 
 pub returns : goal.returns
 unfolding constant_above0
-returns c = ap (λ (d : NodeRecord). eqb d.kind 1 && (ltb 0 d.k && ltb d.k 2147483648)) c.node_at-d.ensures
+returns c = ap (λ (d : NodeRecord). eqb d.kind 1 && (ltb 0 d.k && ltb d.k 2147483648)) c.node-d.ensures

@@ -1,24 +1,17 @@
-use borrow.Author.Count.{falls}
-use Rattle.leads.proofs.RelationLaws.{none_seen, one_seen, all_seen, statement_there, place_fits, turn_fits}
+use Rattle.leads.proofs.RelationLaws.{none_seen, one_seen, all_seen, statement_there, place_fits}
 use Rattle.leads.proofs.sides_of.Goals as goal
 
 pub loop-i-init : goal.loop-i-init
-loop-i-init c = none_seen _ _ _ c.process_at-d.ensures
+loop-i-init c = none_seen _ _ _ c.process-d.ensures
 
 pub overflow_add-d : goal.overflow_add-d
-overflow_add-d c = place_fits _ c.requires.facts _ c.requires.p_in_bounds _ c.process_at-d.ensures _ c.loop-i-test.true
+overflow_add-d c = place_fits _ c.requires.facts _ c.requires.p_in_bounds _ c.process-d.ensures _ c.loop-i-test.true
 
 pub with_statement-sides-requires : goal.with_statement-sides-requires
-with_statement-sides-requires c = record { starts = c.requires.starts; facts = c.requires.facts; n_in_bounds = statement_there _ c.requires.facts _ c.requires.p_in_bounds _ c.process_at-d.ensures _ c.loop-i-test.true }
-
-pub overflow_add-i : goal.overflow_add-i
-overflow_add-i c = turn_fits _ c.requires.facts _ c.requires.p_in_bounds _ c.process_at-d.ensures _ c.loop-i-test.true
-
-pub loop-i-smaller : goal.loop-i-smaller
-loop-i-smaller c = falls _ _ c.loop-i-test.true
+with_statement-sides-requires c = record { facts = c.requires.facts; n_in_bounds = statement_there _ c.requires.facts _ c.requires.p_in_bounds _ c.process-d.ensures _ c.loop-i-test.true }
 
 pub loop-i-preserved : goal.loop-i-preserved
-loop-i-preserved c = one_seen _ _ _ c.process_at-d.ensures _ _ _ c.loop-i-test.true c.loop-i.invariant c.with_statement-sides.ensures
+loop-i-preserved c = one_seen _ _ _ c.process-d.ensures _ _ _ c.loop-i-test.true c.loop-i.invariant c.with_statement-sides.ensures
 
 pub returns : goal.returns
-returns c = all_seen _ _ _ c.process_at-d.ensures _ _ c.loop-i-test.false c.loop-i.invariant
+returns c = all_seen _ _ _ c.process-d.ensures _ _ c.loop-i-test.false c.loop-i.invariant

@@ -1,29 +1,10 @@
-use Prim.Native.Nat.{zero-le}
-use borrow.Author.Count.{falls}
-use Rattle.base.proofs.Turns.{turn_next, turn_most, all_begun, all_turn, all_ended}
-use Rattle.leads.specs.Leads.{waits_later}
+use Rattle.std.proofs.Common.{rules, tests}
+use Rattle.base.proofs.Ranges.{all_from_range}
+use Rattle.blocks.specs.Records.{statement_at}
+use Rattle.blocks.specs.Lent.{model_in}
+use Rattle.leads.specs.Leads.{wait_later, waits_later}
 use Rattle.leads.proofs.waits_later.Goals as goal
-
-pub loop-n-init : goal.loop-n-init
-unfolding waits_later
-loop-n-init c = (zero-le, all_begun _)
-
-pub wait_later-ok-requires : goal.wait_later-ok-requires
-unfolding waits_later
-wait_later-ok-requires c = record { starts = c.requires.starts; facts = c.requires.facts; n_in_bounds = rw c.requires.totals_of.statements at c.loop-n-test.true }
-
-pub overflow_add-n : goal.overflow_add-n
-unfolding waits_later
-overflow_add-n c = turn_next 200 _ _ _ c.requires.totals_of.statements c.requires.facts.totals.statements c.loop-n-test.true tt
-
-pub loop-n-smaller : goal.loop-n-smaller
-unfolding waits_later
-loop-n-smaller c = falls _ _ c.loop-n-test.true
-
-pub loop-n-preserved : goal.loop-n-preserved
-unfolding waits_later
-loop-n-preserved c = (turn_most _ _ c.loop-n-test.true, all_turn _ _ _ _ c.loop-n.invariant.1 c.wait_later-ok.ensures)
 
 pub returns : goal.returns
 unfolding waits_later
-returns c = all_ended _ _ _ _ _ c.loop-n.invariant.1 c.loop-n.invariant.0 c.loop-n-test.false c.requires.totals_of.statements
+returns c = all_from_range (λ n. wait_later (model_in c.args.records.now) (statement_at (model_in c.args.records.now) n)) c.all.ensures.ran c.args.records.now.totals_of.statements (λ x b q k. search (rules, tests))

@@ -3,16 +3,16 @@ use Rattle.leads.proofs.RelationLaws.{assignment_seen, wait_seen, nothing_seen, 
 use Rattle.leads.proofs.with_statement.Goals as goal
 
 pub constant_above_0-later-requires : goal.constant_above_0-later-requires
-constant_above_0-later-requires c = record { starts = c.requires.starts; n_in_bounds = delay_there _ c.requires.facts _ c.requires.n_in_bounds _ c.statement_at-s.ensures c.if-s.true }
+constant_above_0-later-requires c = record { n_in_bounds = delay_there _ c.requires.facts _ c.requires.n_in_bounds _ c.statement-s.ensures c.if-s.true }
 
 pub with-requires : goal.with-requires
-with-requires c = signal_below _ c.requires.facts _ c.requires.n_in_bounds _ c.statement_at-s.ensures c.if-s.true
+with-requires c = signal_below _ c.requires.facts _ c.requires.n_in_bounds _ c.statement-s.ensures c.if-s.true
 
 pub returns-then-s : goal.returns-then-s
-returns-then-s c = assignment_seen _ _ _ c.statement_at-s.ensures _ c.if-s.true _ _ c.constant_above_0-later.ensures c.with.ensures
+returns-then-s c = assignment_seen _ _ _ c.statement-s.ensures _ c.if-s.true _ _ c.constant_above_0-later.ensures c.with.ensures
 
 pub returns-then-s-eq5 : goal.returns-then-s-eq5
-returns-then-s-eq5 c = wait_seen _ _ _ c.statement_at-s.ensures _ c.if-s.false c.if-s-eq5.true _ c.join.ensures
+returns-then-s-eq5 c = wait_seen _ _ _ c.statement-s.ensures _ c.if-s.false c.if-s-eq5.true _ c.join.ensures
 
 pub returns : goal.returns
-returns c = nothing_seen _ _ _ c.statement_at-s.ensures _ c.if-s.false c.if-s-eq5.false
+returns c = nothing_seen _ _ _ c.statement-s.ensures _ c.if-s.false c.if-s-eq5.false

@@ -1,5 +1,6 @@
+use mathlib.Core.Path.{sym, ◌∙◌}
 use native.Mathlib.Omega.{arith}
-use Rattle.loop_exports.proofs.WordLaws.{none_written, one_written, written_length, room_left, all_written}
+use Rattle.loop_exports.proofs.WordLaws.{none_written, one_written, written_length, room_left, all_written, truth_is}
 use Rattle.loop_exports.proofs.put_words.Goals as goal
 
 pub loop-i-init : goal.loop-i-init
@@ -18,4 +19,4 @@ pub bounds-out-17 : goal.bounds-out-17
 bounds-out-17 c = room_left _ _ _ _ c.loop-i.invariant _
 
 pub returns : goal.returns
-returns c = rw (← c.truth.ensures) (all_written _ _ _ _ c.loop-i-test.false c.loop-i.invariant _ _)
+returns c = rw (sym (c.from.ensures ∙ truth_is c.args.later)) (all_written _ _ _ _ c.loop-i-test.false c.loop-i.invariant _ _)

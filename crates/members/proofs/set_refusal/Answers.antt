@@ -22,4 +22,4 @@ loop-p-preserved c =
     ]
 
 pub returns : goal.returns
-returns c = looked_all _ _ _ c.loop-p.invariant c.loop-p-test.false
+returns c = looked_all _ _ _ c.loop-p.invariant c.loop-p.auto.p-end c.loop-p-test.false

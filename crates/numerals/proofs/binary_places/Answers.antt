@@ -1,15 +1,5 @@
-use native.Mathlib.Omega.{arith}
-use Rattle.numerals.proofs.Bits.{one_place, next_place_lem, all_places}
+use Rattle.numerals.proofs.Bits.{places_of_log}
 use Rattle.numerals.proofs.binary_places.Goals as goal
 
-pub loop-limit-init : goal.loop-limit-init
-loop-limit-init c = one_place _
-
-pub loop-limit-smaller : goal.loop-limit-smaller
-loop-limit-smaller c = omega (arith, c.loop-limit.invariant.most)
-
-pub loop-limit-preserved : goal.loop-limit-preserved
-loop-limit-preserved c = next_place_lem c.loop-limit.invariant c.ranges.x.fits c.loop-limit-test.true
-
 pub returns : goal.returns
-returns c = all_places c.loop-limit.invariant c.ranges.x.fits c.loop-limit-test.false
+returns c = places_of_log _ _ _ c.ranges.x.fits c.max.ensures c.ilog2.ensures.power_le c.ilog2.ensures.next_power_gt

@@ -2,7 +2,15 @@
 use native.Mathlib.Omega.{arith}
 use borrow.Author.Tests.{ne_eqb}
 use Rattle.packing.specs.Packed.{block_byte}
+use Rattle.packing.specs.Packed.{Page}
+use mathlib.Core.Path.{◌≡◌}
+use Prim.Native.Nat.{ℕ, ◌-◌}
+use Rattle.base.specs.Bytes.{byte_at}
 use Rattle.packing.proofs.block_byte.Goals as goal
+
+record_byte : (b : ℕ) (p : Page) (i : ℕ) → (i ≡ 0 → ⊥) → (i ≡ 1 → ⊥) → (i ≡ 2 → ⊥) → (i ≡ 3 → ⊥) → block_byte b p i ≡ byte_at p.bytes (i - 4)
+unfolding block_byte
+record_byte b p i w x y z = rw (ne_eqb i 0 w, ne_eqb i 1 x, ne_eqb i 2 y, ne_eqb i 3 z)
 
 pub returns-in-0 : goal.returns-in-0
 unfolding block_byte
@@ -21,8 +29,4 @@ unfolding block_byte
 returns-in-3 c = (rw c.in-3.is, omega arith)
 
 pub returns-in_default : goal.returns-in_default
-unfolding block_byte
-returns-in_default c =
-    let r = c.in_default.in_default-own.rest in
-    let b = c.byte_or_zero.ensures in
-    (rw (ne_eqb _ 0 r.0.0.0.1, ne_eqb _ 1 r.0.0.1, ne_eqb _ 2 r.0.1, ne_eqb _ 3 r.1) b.value, b.small)
+returns-in_default c = (rw (record_byte _ _ c.args.i (λ e. omega (arith, e)) (λ e. omega (arith, e)) (λ e. omega (arith, e)) (λ e. omega (arith, e))) c.byte_or_zero.ensures.value, c.byte_or_zero.ensures.small)

@@ -1,5 +1,4 @@
 use mathlib.Core.Path.{refl}
-use Prim.Native.Nat.{zero-le}
 use native.Mathlib.Nat.{le_antisymm}
 use native.Mathlib.Omega.{arith}
 use lib.ListN.{length-set}
@@ -8,12 +7,12 @@ use Rattle.packing.proofs.BlockLaws.{begun, begun_next, block_put}
 use Rattle.packing.proofs.put_block.Goals as goal
 
 pub loop-i-init : goal.loop-i-init
-loop-i-init c = (zero-le, begun _ _, search rules)
+loop-i-init c = (begun _ _, search rules)
 
 pub loop-i-preserved : goal.loop-i-preserved
 loop-i-preserved c =
     let inv = c.loop-i.invariant in
-    (omega (arith, c.loop-i-test.true), rw c.block_byte.ensures.0 (begun_next _ _ _ _ (omega (arith, c.loop-i-test.true, c.requires.out_len, c.requires.b_bound)) inv.1), rw length-set inv.2)
+    (rw c.block_byte.ensures.0 (begun_next _ _ _ _ (omega (arith, c.loop-i-test.true, c.requires.out_len)) inv.0), rw length-set inv.1)
 
 pub returns : goal.returns
-returns c = block_put _ _ c.args.out.now c.loop-i.out c.words.result _ c.requires.out_len (rw (le_antisymm c.loop-i.invariant.0 c.loop-i-test.false) at c.loop-i.invariant.1) c.words.ensures refl refl refl
+returns c = block_put _ _ c.args.out.now c.loop-i.out c.words.result _ c.requires.out_len (rw (le_antisymm c.loop-i.auto.i-end c.loop-i-test.false) at c.loop-i.invariant.0) c.words.ensures refl refl refl

@@ -1,12 +1,9 @@
 -- The loop keeps the sum of the words so far. Assumes nothing.
 use mathlib.Core.Path.{◌≡◌}
-use Prim.Native.Nat.{◌*◌, ◌-◌, ◌≤◌}
+use Prim.Native.Nat.{◌*◌, ◌≤◌}
 use Rattle.base.specs.Below.{sum_below}
 use Rattle.base.specs.Bytes.{word_at}
 use Rattle.packing.proofs.words.Given as goal
 
 abbrev pub invariant-loop-i : goal.invariant-loop-i
-invariant-loop-i l = (l.i ≤ 255) × (l.sum ≤ 65536 * l.i) × (l.sum ≡ sum_below (λ j. word_at l.block (2 * j)) l.i)
-
-abbrev pub decreases-loop-i : goal.decreases-loop-i
-decreases-loop-i l = 255 - l.i
+invariant-loop-i l = (l.sum ≤ 65536 * l.i) × (l.sum ≡ sum_below (λ j. word_at l.block (2 * j)) l.i)

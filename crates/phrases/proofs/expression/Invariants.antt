@@ -8,7 +8,7 @@ use Rattle.phrases.proofs.expression.Given as goal
 
 abbrev pub invariant-loop-wanted : goal.invariant-loop-wanted
 invariant-loop-wanted l =
-    (l.at ≤ l.i) × (l.i ≤ length l.text) × (length l.text ≤ 65535) × (l.n ≤ l.i) × (l.depth ≤ l.i) × (l.nodes ≤ l.n) × (length l.out ≡ length l.initial.out) × (length l.stack ≡ length l.initial.stack) × (length l.stack ≡ 65536)
+    (l.at ≤ l.i) × (l.i ≤ length l.text) × (length l.text ≤ 65535) × (l.n ≤ l.i) × (l.depth ≤ l.i) × (l.nodes ≤ l.n) × (length l.out ≡ length l.initial.out) × (length l.stack ≡ 65536)
     × Reads l.text l.at l.nodes l.initial.out l.i l.n l.set l.depth l.wanted l.stack l.out
 
 abbrev pub decreases-loop-wanted : goal.decreases-loop-wanted

@@ -1,8 +1,7 @@
 -- The code of the first token decides.
 -- Assumes nothing.
-use mathlib.Core.Path.{refl}
-use Rattle.phrases.proofs.Operands.{operator_answer}
+use Rattle.phrases.proofs.Operands.{no_operator_token}
 use Rattle.phrases.proofs.operator.Goals as goal
 
-pub returns : goal.returns
-returns c = operator_answer c.token-t.ensures c.operator_of-kind.ensures refl
+pub returns-in_default : goal.returns-in_default
+returns-in_default c = no_operator_token c.token-found.ensures c.in_default.not-Word

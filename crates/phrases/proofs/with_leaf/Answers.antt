@@ -1,14 +1,7 @@
 -- A bit more, or none.
 -- Assumes nothing.
-use native.Mathlib.Omega.{arith}
 use Rattle.phrases.proofs.Operands.{leaf_signal, leaf_none}
 use Rattle.phrases.proofs.with_leaf.Goals as goal
-
-pub overflow_cast-result : goal.overflow_cast-result
-overflow_cast-result c = let l = c.requires c.if-kind.true in omega (arith, l)
-
-pub overflow_shl-result : goal.overflow_shl-result
-overflow_shl-result c = let l = c.requires c.if-kind.true in omega (arith, l)
 
 pub returns-then-kind : goal.returns-then-kind
 returns-then-kind c = leaf_signal _ c.args.kind _ c.if-kind.true (c.requires c.if-kind.true)

@@ -22,8 +22,7 @@ decreases-statement l = 2 * (length l.text.now - l.at)
 
 abbrev pub invariant-list-loop-s : goal.invariant-list-loop-s
 invariant-list-loop-s l =
-    (l.at ≤ l.i) × (l.i ≤ length l.text) × (l.m ≤ l.i) × (l.j ≤ l.i) × (length l.nodes ≡ length l.initial.nodes) × (length l.out ≡ length l.initial.out)
-    × (length l.stack ≡ length l.initial.stack) × Onward l.text l.at l.room l.stop l.n l.k l.i l.m l.j l.initial.nodes l.nodes l.initial.out l.out
+    (l.at ≤ l.i) × (l.i ≤ length l.text) × (l.m ≤ l.i) × (l.j ≤ l.i) × (length l.nodes ≡ length l.initial.nodes) × (length l.out ≡ length l.initial.out) × Onward l.text l.at l.room l.stop l.n l.k l.i l.m l.j l.initial.nodes l.nodes l.initial.out l.out
 
 abbrev pub decreases-list-loop-s : goal.decreases-list-loop-s
 decreases-list-loop-s l = length l.text - l.i

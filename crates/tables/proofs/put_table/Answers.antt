@@ -1,5 +1,4 @@
 use mathlib.Core.Path.{sym}
-use Prim.Native.Nat.{zero-le}
 use native.Mathlib.Nat.{le_antisymm}
 use borrow.Author.Rules.{rules}
 use Rattle.base.proofs.Below.{list_none}
@@ -11,11 +10,11 @@ use Rattle.tables.specs.Tables.{table_of}
 use Rattle.tables.proofs.put_table.Goals as goal
 
 pub loop-n-init : goal.loop-n-init
-loop-n-init c = (zero-le, c.requires.index_len, c.requires.starts, rw list_none (sym (placed_none _ _)))
+loop-n-init c = (c.requires.index_len, c.requires.starts, rw list_none (sym (placed_none _ _)))
 
 pub loop-n-preserved : goal.loop-n-preserved
-loop-n-preserved c = (search rules, search rules, starts_set _ _ _ _ (past table_at tt _) c.loop-n.invariant.2, rw (c.table_entry-x.ensures, c.loop-n.invariant.3) (placed_next _ _ table_at _ (search rules)))
+loop-n-preserved c = (search rules, starts_set _ _ _ _ (past table_at tt _) c.loop-n.invariant.1, rw (c.table_entry-x.ensures, c.loop-n.invariant.2) (placed_next _ _ table_at _ (search rules)))
 
 pub returns : goal.returns
 unfolding table_of table_by
-returns c = rw (le_antisymm c.loop-n.invariant.0 (search rules)) at c.loop-n.invariant.3
+returns c = rw (le_antisymm c.loop-n.auto.n-end c.loop-n-test.false) at c.loop-n.invariant.2

@@ -1,5 +1,4 @@
 use mathlib.Core.Path.{◌≡◌}
-use Prim.Native.Nat.{◌-◌, ◌≤◌}
 use lib.ListN.{length}
 use Rattle.base.specs.Below.{list_below}
 use Rattle.values.specs.Resolve.{entry_of}
@@ -9,7 +8,4 @@ use Rattle.tables.specs.Tables.{rows_of}
 use Rattle.tables.proofs.put_table.Given as goal
 
 abbrev pub invariant-loop-n : goal.invariant-loop-n
-invariant-loop-n l = (l.n ≤ 81) × (length l.index ≡ index_size) × Starts l.m l.index × (l.index ≡ placed l.initial.index table_at (list_below (entry_of (rows_of (model_of l.m))) l.n))
-
-abbrev pub decreases-loop-n : goal.decreases-loop-n
-decreases-loop-n l = 81 - l.n
+invariant-loop-n l = (length l.index ≡ index_size) × Starts l.m l.index × (l.index ≡ placed l.initial.index table_at (list_below (entry_of (rows_of (model_of l.m))) l.n))

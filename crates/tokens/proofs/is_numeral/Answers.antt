@@ -6,4 +6,4 @@ pub returns-then-t-eq0 : goal.returns-then-t-eq0
 returns-then-t-eq0 c = no_numeral _ c.if-t-eq0.true
 
 pub returns : goal.returns
-returns c = numeral_by _ _ c.if-t-eq0.false c.all_digits.ensures c.byte.ensures
+returns c = numeral_by _ c.if-t-eq0.false c.all_digits.ensures

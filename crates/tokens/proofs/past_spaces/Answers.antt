@@ -1,31 +1,14 @@
-use mathlib.Core.Path.{refl}
-use native.Mathlib.Omega.{arith}
-use Rattle.tokens.proofs.Lexing.{space_again, space_found, spaces_over}
+-- The first byte that is no space, if there is one. Assumes nothing.
+use Rattle.std.proofs.Common.{rules}
+use borrow.Author.Tests.{tests}
+use Rattle.std.proofs.lemmas.Iterator.{YieldsList-from_slice}
+use Rattle.std.proofs.lemmas.Iterator.Search.{position_from_yields_List}
+use Rattle.tokens.proofs.Lexing.{no_space, spaces_over, space_found}
+use Rattle.tokens.proofs.Runs.{rest}
 use Rattle.tokens.proofs.past_spaces.Goals as goal
 
-pub loop-i-init : goal.loop-i-init
-loop-i-init c = (omega arith, omega arith, refl)
-
-pub byte-requires : goal.byte-requires
-byte-requires c = omega arith
-
-pub returns-then-not-is_space : goal.returns-then-not-is_space
-returns-then-not-is_space c =
-    let inv = c.loop-i.invariant in
-    space_found _ _ _ _ inv.0 c.loop-i-test.true inv.2 c.byte.ensures c.is_space.ensures (c.if-not-is_space.true)
-
-pub overflow_add-i : goal.overflow_add-i
-overflow_add-i c = omega arith
-
-pub loop-i-smaller : goal.loop-i-smaller
-loop-i-smaller c = omega arith
-
-pub loop-i-preserved : goal.loop-i-preserved
-loop-i-preserved c =
-    let inv = c.loop-i.invariant in
-    space_again _ _ _ _ inv.0 c.loop-i-test.true inv.2 c.byte.ensures c.is_space.ensures (c.if-not-is_space.false)
+pub returns-in_err-n : goal.returns-in_err-n
+returns-in_err-n c = rw c.from_residual.ensures (spaces_over c.args.text.now c.args.at (position_from_yields_List no_space _ _ _ c.position.ensures.ran (YieldsList-from_slice (rest c.args.at c.args.text.now) cc) (λ x b q k. search (rules, tests))) c.in_err-n.was)
 
 pub returns : goal.returns
-returns c =
-    let inv = c.loop-i.invariant in
-    spaces_over _ _ _ inv.0 inv.1 c.loop-i-test.false inv.2
+returns c = space_found c.args.text.now c.args.at (position_from_yields_List no_space _ _ _ c.position.ensures.ran (YieldsList-from_slice (rest c.args.at c.args.text.now) cc) (λ x b q k. search (rules, tests))) c.requires _ c.in_ok-n.was

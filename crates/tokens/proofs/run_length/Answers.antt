@@ -1,25 +1,15 @@
-use native.Mathlib.Omega.{arith}
-use Rattle.grammar.specs.Tokens.{in_run}
-use Rattle.tokens.proofs.Runs.{tested, run_again, run_ends, run_over}
+-- The place of the first byte that is no letter or digit, or the end. Assumes nothing.
+use Rattle.std.proofs.Common.{rules, arith, refl, sym, ◌∙◌, true, false, ◌≡◌}
+use borrow.Author.Tests.{tests}
+use Rattle.std.proofs.lemmas.Iterator.{YieldsList-from_slice, IsFirst-from_position, index_from_first}
+use Rattle.grammar.specs.Tokens.{in_run, run_length}
+use Rattle.tokens.proofs.Runs.{run_within}
 use Rattle.tokens.proofs.run_length.Goals as goal
 
-pub loop-i-init : goal.loop-i-init
-loop-i-init c = (omega arith, omega arith)
-
-pub byte-requires : goal.byte-requires
-byte-requires c = omega arith
-
-pub returns-then-not-in_run : goal.returns-then-not-in_run
-returns-then-not-in_run c = run_ends _ _ c.loop-i-test.true c.loop-i.invariant.1 (tested in_run c.byte.ensures c.in_run.ensures (c.if-not-in_run.true))
-
-pub overflow_add-i : goal.overflow_add-i
-overflow_add-i c = omega arith
-
-pub loop-i-smaller : goal.loop-i-smaller
-loop-i-smaller c = omega arith
-
-pub loop-i-preserved : goal.loop-i-preserved
-loop-i-preserved c = run_again _ _ c.loop-i-test.true c.loop-i.invariant.1 (tested in_run c.byte.ensures c.in_run.ensures (c.if-not-in_run.false))
-
 pub returns : goal.returns
-returns c = run_over _ _ c.loop-i-test.false c.loop-i.invariant.0 c.loop-i.invariant.1
+unfolding run_length
+returns c =
+    let first = IsFirst-from_position _ _ _ (λ b. in_run b ≡ false) (λ b. in_run b ≡ true) c.position.ensures.ran (YieldsList-from_slice c.args.t.now cc) (λ x q k. search (rules, tests)) (λ x q k. search (rules, tests)) in
+    let e = index_from_first run_length (λ b. in_run b ≡ false) (λ b. in_run b ≡ true) refl (λ x xs h. rw h) (λ x xs h. rw h (omega arith)) c.args.t.now c.position.result first in
+    let same : c.unwrap_or.result ≡ run_length c.args.t.now = c.unwrap_or.ensures ∙ sym e in
+    (same, rw same (run_within c.args.t.now))

@@ -2,8 +2,8 @@
 use Rattle.tokens.proofs.Lexing.{first_token, first_end}
 use Rattle.tokens.proofs.token.Goals as goal
 
-pub returns-then-i-text : goal.returns-then-i-text
-returns-then-i-text c = first_token _ _ _ _ _ _ c.past_spaces-i.ensures c.if-i-text.true c.token_at-t.ensures
+pub returns-in-Some : goal.returns-in-Some
+returns-in-Some c = first_token _ _ _ _ c.in-Some.ensures c.token_at-found.ensures
 
 pub returns : goal.returns
-returns c = first_end _ _ _ c.past_spaces-i.ensures c.if-i-text.false
+returns c = first_end _ _ c.requires c.in_default.ensures

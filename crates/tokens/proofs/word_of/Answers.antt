@@ -1,9 +1,12 @@
 -- A word that was kept is told, and no other. Assumes nothing.
-use Rattle.tokens.proofs.Runs.{word_told, word_long}
+use Rattle.std.proofs.Common.{rules}
+use Rattle.grammar.specs.Tokens.{word_of}
+use Rattle.tokens.proofs.Runs.{code_token, code_stands, run_word}
 use Rattle.tokens.proofs.word_of.Goals as goal
 
-pub returns-then-c-le72057594037927935 : goal.returns-then-c-le72057594037927935
-returns-then-c-le72057594037927935 c = word_told _ _ c.in_base-c.ensures c.if-c-le72057594037927935.true
+pub returns-clause-token : goal.returns-clause-token
+unfolding word_of
+returns-clause-token c = code_token _ _ _ c.in_base.ensures c.map_or.ensures (λ v k. search rules)
 
-pub returns : goal.returns
-returns c = word_long _ _ c.in_base-c.ensures c.if-c-le72057594037927935.false
+pub returns-clause-stands : goal.returns-clause-stands
+returns-clause-stands c h = code_stands _ _ _ c.in_base.ensures c.map_or.ensures (λ v k. search rules) (run_word _ h)

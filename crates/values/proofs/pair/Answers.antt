@@ -1,3 +1,4 @@
+use Rattle.std.proofs.Common.{rules}
 use Rattle.values.specs.Resolve.{pair_in}
 use Rattle.values.proofs.Resolution.{table_laws}
 use Rattle.values.proofs.pair.Goals as goal
@@ -7,4 +8,4 @@ unfolding pair_in
 returns c =
     let j = c.code-j.ensures.0 in
     let i = c.code-i.ensures.0 in
-    record { value = rw (← i, ← j) c.wide.ensures; table_laws = table_laws _ }
+    record { value = rw (← i, ← j) (search rules); table_laws = table_laws _ }

@@ -1,12 +1,13 @@
-use borrow.Author.Rules.{rules}
-use Rattle.values.proofs.Resolution.{resolved_none, resolved_next, resolved_all}
+use Rattle.std.proofs.Common.{rules}
+use Rattle.std.proofs.lemmas.List.{nil_from_length}
+use Rattle.base.proofs.Iterators.{fold_from_slice}
+use Rattle.values.specs.Resolve.{pair_in, resolution_by}
 use Rattle.values.proofs.resolve_by.Goals as goal
 
-pub loop-i-init : goal.loop-i-init
-loop-i-init c = (search rules, resolved_none _ c.args.values.now)
+pub returns-in-Some : goal.returns-in-Some
+unfolding resolution_by
+returns-in-Some c = rw c.in-Some.ensures.cases.0 (fold_from_slice (pair_in c.args.table.now) c.fold.ensures.ran c.iter.ensures.rest (λ b x r q k. search rules))
 
-pub loop-i-preserved : goal.loop-i-preserved
-loop-i-preserved c = (search rules, rw c.joined-result.ensures (resolved_next _ _ c.loop-i.i _ (search rules) c.loop-i.invariant.1))
-
-pub returns : goal.returns
-returns c = resolved_all _ _ _ _ c.loop-i.invariant.0 (search rules) c.loop-i.invariant.1
+pub returns-in-None : goal.returns-in-None
+unfolding resolution_by
+returns-in-None c = rw (nil_from_length _ c.in-None.ensures.cases)

@@ -3,5 +3,5 @@ use Rattle.values.proofs.xor.Goals as goal
 
 pub returns : goal.returns
 returns c =
-    rw (c.choose32-3.ensures, c.choose32-2.ensures, c.choose32.ensures)
+    rw (c.choose-3.ensures, c.choose-2.ensures, c.choose.ensures)
     (rw (c.class-a.ensures, c.class-b.ensures) (xor_by_classes _ _))

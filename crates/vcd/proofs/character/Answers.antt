@@ -1,4 +1,5 @@
 -- Each arm is a case of the definition. Assumes nothing.
+use borrow.Author.Rules.{rules}
 use Rattle.vcd.proofs.ValueLaws.{zero_is, one_is, high_is, unknown_is}
 use Rattle.vcd.proofs.character.Goals as goal
 
@@ -12,4 +13,4 @@ pub returns-in-4 : goal.returns-in-4
 returns-in-4 c = high_is _ c.in-4.is
 
 pub returns-in_default : goal.returns-in_default
-returns-in_default c = unknown_is _ c.in_default.in_default-own.rest.0.0.1 c.in_default.in_default-own.rest.0.1 c.in_default.in_default-own.rest.1
+returns-in_default c = unknown_is _ (search rules) (search rules) (search rules)

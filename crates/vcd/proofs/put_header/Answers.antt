@@ -1,5 +1,6 @@
 -- What opens the header, the signals' lines and what closes it, one behind the other. Assumes nothing.
-use mathlib.Core.Path.{◌∙◌}
+use mathlib.Core.Path.{refl, ◌∙◌}
+use lib.ListN.{length}
 use native.Mathlib.Omega.{arith}
 use Rattle.vcd.specs.Lines.{text_of}
 use Rattle.vcd.specs.Vcd.{opening, closing}
@@ -21,4 +22,4 @@ pub returns : goal.returns
 returns c =
     let p = c.put-a.ensures in
     let r = c.put.ensures in
-    let k = c.put-a.auto.out in record { upper_bound = omega (arith, p.place, c.put_vars-b.ensures.upper_bound, r.place, c.requires); puts = said (header_text c.args.types.now c.args.n) (behind (behind (opened-text c) k c.put_vars-b.ensures.puts) (c.put_vars-b.auto.out ∙ k) (closed-text c)) }
+    let k = c.put-a.auto.out in record { upper_bound = omega (arith, p.place, c.put_vars-b.ensures.upper_bound, r.place, c.requires); puts = said (header_text c.args.types.now (length c.args.types.now) refl) (behind (behind (opened-text c) k c.put_vars-b.ensures.puts) (c.put_vars-b.auto.out ∙ k) (closed-text c)) }

@@ -1,6 +1,7 @@
 use mathlib.Core.Path.{refl}
+use lib.ListN.{length}
 use Rattle.vcd.specs.Vcd.{row_lines}
-use Rattle.vcd.specs.Writing.{front_of, rows_of}
+use Rattle.vcd.specs.Writing.{rows_of}
 use Rattle.numerals.proofs.PutLaws.{putting_none, putting_next, putting_all, said}
 use Rattle.vcd.proofs.WalkLaws.{text_joined, row_put}
 use Rattle.vcd.proofs.put_rows.Goals as goal
@@ -11,11 +12,11 @@ loop-k-init c = putting_none _ _ _ _ _
 pub loop-k-preserved : goal.loop-k-preserved
 loop-k-preserved c =
     putting_next c.loop-k.invariant c.loop-k-test.true c.put_row-end.auto.out c.put_row-end.ensures.upper_bound
-    (row_put c.args.types.now c.args.n c.requires.n_bound c.args.times.now c.args.values.now c.args.count c.loop-k.k c.loop-k-test.true
-    refl c.before-last.ensures refl c.put_row-end.ensures.puts)
+    (row_put c.args.types.now (length c.args.types.now) c.requires.types_len c.args.times.now c.args.values.now (length c.args.times.now) c.loop-k.k c.loop-k-test.true
+    refl c.saturating_sub-last.ensures refl c.put_row-end.ensures.puts)
 
 pub returns : goal.returns
 returns c =
-    let rows = rows_of c.args.n c.args.times.now c.args.values.now c.args.count in
+    let rows = rows_of (length c.args.types.now) c.args.times.now c.args.values.now (length c.args.times.now) in
     let all = putting_all c.loop-k.invariant c.loop-k-test.false in
-    record { upper_bound = all.0; puts = said (text_joined (row_lines (front_of c.args.n c.args.types.now) rows) c.args.count) all.1 }
+    record { upper_bound = all.0; puts = said (text_joined (row_lines c.args.types.now rows) (length c.args.times.now)) all.1 }

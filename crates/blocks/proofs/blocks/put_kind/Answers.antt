@@ -11,7 +11,7 @@ use Rattle.blocks.proofs.Places.{placed_none}
 use Rattle.blocks.proofs.blocks.put_kind.Goals as goal
 
 pub loop-b-init : goal.loop-b-init
-loop-b-init c = (search rules, rw sum_none (omega arith), rw (join_none, placed_none), refl)
+loop-b-init c = (rw sum_none (omega arith), rw (join_none, placed_none), refl)
 
 -- the block's starts fit behind those that are there
 room : (c : goal.After-put_starts-arg-1) → c.loop-b.n + c.count_in-count.result ≤ length c.loop-b.out
@@ -35,12 +35,11 @@ pub loop-b-preserved : goal.loop-b-preserved
 loop-b-preserved c =
     let inv = c.loop-b.invariant in
     let t : c.loop-b.b < length c.args.m.now / 512 = omega arith in (
-      search rules,
       rw sum_more (omega (arith, c.count_in-count.ensures.value)),
-      c.put_starts.ensures ∙ placed_block c.args.m.now c.args.kind c.args.out.now _ _ _ _ _ t c.requires.1 inv.1 inv.2 c.count_in-count.ensures.value,
+      c.put_starts.ensures ∙ placed_block c.args.m.now c.args.kind c.args.out.now _ _ _ _ _ t c.requires.1 inv.0 inv.1 c.count_in-count.ensures.value,
       search rules,
     )
 
 pub returns : goal.returns
 unfolding starts_of
-returns c = rw (le_antisymm c.loop-b.invariant.0 c.loop-b-test.false) at c.loop-b.invariant.2
+returns c = rw (le_antisymm c.loop-b.auto.b-end c.loop-b-test.false) at c.loop-b.invariant.1

@@ -1,5 +1,4 @@
 use mathlib.Core.Path.{◌≡◌}
-use Prim.Native.Nat.{◌-◌, ◌≤◌}
 use lib.ListN.{length}
 use Rattle.base.specs.Below.{list_below}
 use Rattle.blocks.specs.Blocks.{start_at}
@@ -7,7 +6,4 @@ use Rattle.blocks.specs.Index.{placed}
 use Rattle.blocks.proofs.blocks.put_starts.Given as goal
 
 abbrev pub invariant-loop-j : goal.invariant-loop-j
-invariant-loop-j l = (l.j ≤ l.count) × (l.out ≡ placed l.initial.out l.at (list_below (start_at l.b) l.j)) × (length l.out ≡ length l.initial.out)
-
-abbrev pub decreases-loop-j : goal.decreases-loop-j
-decreases-loop-j l = l.count - l.j
+invariant-loop-j l = (l.out ≡ placed l.initial.out l.at (list_below (start_at l.b) l.j)) × (length l.out ≡ length l.initial.out)

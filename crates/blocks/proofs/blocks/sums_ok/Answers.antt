@@ -1,23 +1,8 @@
-use mathlib.Core.Path.{ap, ◌∙◌}
-use Prim.Native.Nat.{◌%◌, zero-le}
-use native.Mathlib.Nat.{le_antisymm}
-use borrow.Author.Count.{falls}
-use lib.Dec.{eqb}
-use Rattle.base.specs.Below.{all_below}
-use Rattle.base.proofs.Turns.{turn_most, all_begun, all_turn}
+use Rattle.std.proofs.Common.{refl, rules, tests}
+use Rattle.base.proofs.Ranges.{all_from_range}
 use Rattle.blocks.specs.Blocks.{sum_ok, sums_ok}
 use Rattle.blocks.proofs.blocks.sums_ok.Goals as goal
 
-pub loop-b-init : goal.loop-b-init
-loop-b-init c = (zero-le, all_begun _)
-
-pub loop-b-smaller : goal.loop-b-smaller
-loop-b-smaller c = falls _ _ c.loop-b-test.true
-
-pub loop-b-preserved : goal.loop-b-preserved
-unfolding sum_ok
-loop-b-preserved c = (turn_most _ _ c.loop-b-test.true, all_turn _ _ _ _ c.loop-b.invariant.1 (ap (λ s. eqb (s % 65536) 1) c.block_sum.ensures))
-
 pub returns : goal.returns
-unfolding sums_ok
-returns c = c.loop-b.invariant.1 ∙ ap (all_below _) (le_antisymm c.loop-b.invariant.0 c.loop-b-test.false)
+unfolding sums_ok sum_ok
+returns c = all_from_range (sum_ok c.args.m.now) c.all.ensures.ran refl (λ x b q k. search (rules, tests))

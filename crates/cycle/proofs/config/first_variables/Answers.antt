@@ -1,31 +1,6 @@
-use mathlib.Core.Path.{ap, refl}
-use Prim.Native.Nat.{zero-le}
-use borrow.Author.Count.{falls}
-use Rattle.base.proofs.Turns.{turn_there, turn_room, turn_fours, turn_next, turn_most}
-use Rattle.blocks.specs.declared.records.VariableRecord.{VariableRecord}
-use Rattle.cycle.proofs.Arrays.{filled_none, filled_more, filled_all}
+-- `first_variables`: what the closure gives. Assumes nothing.
+use borrow.Author.Rules.{rules}
 use Rattle.cycle.proofs.config.first_variables.Goals as goal
 
-pub loop-i-init : goal.loop-i-init
-loop-i-init c = (zero-le, filled_none _ _ _ refl)
-
-pub variable_at-v-requires : goal.variable_at-v-requires
-variable_at-v-requires c = record { starts = c.requires.runs.usable.starts; n_in_bounds = turn_there 64 _ _ _ c.requires.n_value c.requires.runs.facts.totals.variables c.loop-i-test.true }
-
-pub offset_bounds-r-i : goal.offset_bounds-r-i
-offset_bounds-r-i c = turn_fours 64 _ _ _ c.requires.n_value c.requires.runs.facts.totals.variables c.loop-i-test.true tt
-
-pub bounds-r-i : goal.bounds-r-i
-bounds-r-i c = turn_room 64 _ _ _ c.requires.n_value c.requires.runs.facts.totals.variables c.loop-i-test.true
-
-pub overflow_add-i : goal.overflow_add-i
-overflow_add-i c = turn_next 64 _ _ _ c.requires.n_value c.requires.runs.facts.totals.variables c.loop-i-test.true tt
-
-pub loop-i-smaller : goal.loop-i-smaller
-loop-i-smaller c = falls _ _ c.loop-i-test.true
-
-pub loop-i-preserved : goal.loop-i-preserved
-loop-i-preserved c = (turn_most _ _ c.loop-i-test.true, filled_more _ _ _ _ _ (turn_room 64 _ _ _ c.requires.n_value c.requires.runs.facts.totals.variables c.loop-i-test.true) (ap (λ (v : VariableRecord). v.start) c.variable_at-v.ensures) c.loop-i.invariant.1)
-
 pub returns : goal.returns
-returns c = filled_all _ _ _ _ _ c.loop-i-test.false c.loop-i.invariant.1
+returns c = record { at = λ i h. let p = c.entries.ensures i 0 h in search rules }

@@ -6,17 +6,17 @@ use Rattle.exports.proofs.dump.process_word.Goals as goal
 pub returns-then-n-p : goal.returns-then-n-p
 returns-then-n-p c = search (rules, process_none)
 
-pub returns-then-j-eq0 : goal.returns-then-j-eq0
-returns-then-j-eq0 c = search (rules, place_word)
+pub returns-in-0 : goal.returns-in-0
+returns-in-0 c = search (rules, place_word)
 
-pub returns-then-j-eq1 : goal.returns-then-j-eq1
-returns-then-j-eq1 c = search (rules, standing_word)
+pub returns-in-1 : goal.returns-in-1
+returns-in-1 c = search (rules, standing_word)
 
-pub returns-then-j-eq2 : goal.returns-then-j-eq2
-returns-then-j-eq2 c = search (rules, fault_word)
+pub returns-in-2 : goal.returns-in-2
+returns-in-2 c = search (rules, fault_word)
 
-pub returns-then-j-eq3 : goal.returns-then-j-eq3
-returns-then-j-eq3 c = search (rules, node_word)
+pub returns-in-3 : goal.returns-in-3
+returns-in-3 c = search (rules, node_word)
 
 pub returns-then-t : goal.returns-then-t
 returns-then-t c = search (rules, no_deadline)
@@ -24,5 +24,5 @@ returns-then-t c = search (rules, no_deadline)
 pub returns-then-j-eq4 : goal.returns-then-j-eq4
 returns-then-j-eq4 c = search (rules, deadline_set)
 
-pub returns : goal.returns
-returns c = search (rules, deadline_word)
+pub returns-else-j-eq4 : goal.returns-else-j-eq4
+returns-else-j-eq4 c = search (rules, deadline_word)

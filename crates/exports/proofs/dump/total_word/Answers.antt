@@ -1,5 +1,6 @@
 -- The arm that was taken names the total. Assumes nothing.
 use mathlib.Core.Path.{sym, ◌∙◌}
+use borrow.Author.Rules.{rules}
 use Rattle.cycle.specs.View.{view_of}
 use Rattle.cycle.proofs.ViewLaws.{signals_long, variables_long, drivers_long, processes_long}
 use Rattle.exports.specs.Dump.{total_word}
@@ -27,4 +28,4 @@ unfolding total_word
 returns-in-4 c = rw c.in-4.is (sym (drivers_long _))
 
 pub returns-in_default : goal.returns-in_default
-returns-in_default c = sym (processes_long _) ∙ last_total _ _ c.in_default.in_default-own.rest
+returns-in_default c = sym (processes_long _) ∙ last_total _ _ (search rules)

@@ -1,39 +1,8 @@
--- `minus`: the machine's difference fits, and is that of the integers. Assumes nothing.
-use mathlib.Core.Path.{refl, ap, ◌∙◌}
+-- The difference of the two integers. Assumes nothing.
 use borrow.Author.Rules.{rules}
-use Rattle.rules.specs.Evaluation.{ranged, difference_of}
-use Rattle.rules.proofs.Signed.{difference_fits, difference_is}
-use Rattle.expressions.proofs.Pairs.{by_operands}
+use Rattle.rules.specs.Evaluation.{difference_of}
 use Rattle.expressions.proofs.operators.minus.Goals as goal
 
-pub both-requires : goal.both-requires
+pub returns : goal.returns
 unfolding difference_of
-both-requires c = search rules
-
-pub int-requires : goal.int-requires
-unfolding difference_of
-int-requires c = search rules
-
-pub int-requires-in-Values : goal.int-requires-in-Values
-unfolding difference_of
-int-requires-in-Values c = search rules
-
-pub overflow_sub-int : goal.overflow_sub-int
-unfolding difference_of
-overflow_sub-int c =
-    let k = c.in-Values.known_told-in-Values-1-own.given in
-    difference_fits _ k.0.1 c.int.ensures _ k.1.0.1 c.int-in-Values.ensures
-
-pub in_range-requires : goal.in_range-requires
-unfolding difference_of
-in_range-requires c = search rules
-
-pub returns-in-Failed : goal.returns-in-Failed
-unfolding difference_of
-returns-in-Failed c = by_operands c.args.p c.args.q _ c.both.ensures c.in-Failed.is refl
-
-pub returns-in-Values : goal.returns-in-Values
-unfolding difference_of
-returns-in-Values c =
-    by_operands c.args.p c.args.q _ c.both.ensures c.in-Values.is
-    (c.in_range.ensures ∙ ap (ranged _) (difference_is _ c.in-Values.known_told-in-Values-1-own.given.0.1 c.int.ensures _ c.in-Values.known_told-in-Values-1-own.given.1.0.1 c.int-in-Values.ensures))
+returns c = search rules

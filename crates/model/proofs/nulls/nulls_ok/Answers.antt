@@ -1,25 +1,10 @@
-use Prim.Native.Nat.{zero-le}
-use borrow.Author.Count.{falls}
-use Rattle.base.proofs.Turns.{turn_next, turn_most, all_begun, all_turn, all_ended}
-use Rattle.blocks.proofs.Lookup.{statements_most}
-use Rattle.model.specs.Nulls.{nulls_ok}
+use Rattle.std.proofs.Common.{rules, tests}
+use Rattle.base.proofs.Ranges.{all_from_range}
+use Rattle.blocks.specs.Records.{statement_at}
+use Rattle.blocks.specs.Lent.{model_in}
+use Rattle.model.specs.Nulls.{null_ok, nulls_ok}
 use Rattle.model.proofs.nulls.nulls_ok.Goals as goal
-
-pub loop-n-init : goal.loop-n-init
-loop-n-init c = (zero-le, all_begun _)
-
-pub null_ok-ok-requires : goal.null_ok-ok-requires
-null_ok-ok-requires c = record { starts = c.requires.starts; m_value = c.requires.m_value; n_in_bounds = rw c.requires.totals_of.statements at c.loop-n-test.true }
-
-pub overflow_add-n : goal.overflow_add-n
-overflow_add-n c = turn_next 200 _ _ _ c.requires.totals_of.statements (statements_most _ c.requires.starts.totals) c.loop-n-test.true tt
-
-pub loop-n-smaller : goal.loop-n-smaller
-loop-n-smaller c = falls _ _ c.loop-n-test.true
-
-pub loop-n-preserved : goal.loop-n-preserved
-loop-n-preserved c = (turn_most _ _ c.loop-n-test.true, all_turn _ _ _ _ c.loop-n.invariant.1 c.null_ok-ok.ensures)
 
 pub returns : goal.returns
 unfolding nulls_ok
-returns c = all_ended _ _ _ _ _ c.loop-n.invariant.1 c.loop-n.invariant.0 c.loop-n-test.false c.requires.totals_of.statements
+returns c = all_from_range (λ n. null_ok (model_in c.args.records.now) (statement_at (model_in c.args.records.now) n)) c.all.ensures.ran c.args.records.now.totals_of.statements (λ x b q k. search (rules, tests))

@@ -1,14 +1,11 @@
 use mathlib.Core.Path.{◌≡◌}
-use Prim.Native.Nat.{◌-◌, ◌≤◌}
+use Prim.Native.Nat.{◌≤◌}
 use lib.Dec.{eqb}
 use Rattle.base.specs.Below.{sum_below}
 use Rattle.base.specs.Cases.{◌∣◌, ◌⇒◌}
-use Rattle.blocks.specs.Records.{model_of, driver_at}
+use Rattle.blocks.specs.Records.{driver_at}
+use Rattle.blocks.specs.Lent.{model_in}
 use Rattle.model.proofs.owners.drivers_of.Given as goal
 
 abbrev pub invariant-loop-i : goal.invariant-loop-i
-invariant-loop-i l =
-    (l.i ≤ l.t.drivers) × (l.n ≤ l.i) × (l.n ≡ sum_below (λ k. eqb (driver_at (model_of l.m) k).signal l.s ⇒ 1 ∣ 0) l.i)
-
-abbrev pub decreases-loop-i : goal.decreases-loop-i
-decreases-loop-i l = l.t.drivers - l.i
+invariant-loop-i l = (l.n ≤ l.i) × (l.n ≡ sum_below (λ k. eqb (driver_at (model_in l.records) k).signal l.s ⇒ 1 ∣ 0) l.i)

@@ -1,12 +1,8 @@
 -- `model::owners::fill_drivers` meets its contract: the entries of the statements passed are their drivers, and the starts and
 -- the types are kept. Assumes nothing.
-use Prim.Native.Nat.{◌-◌, ◌≤◌}
 use Rattle.trees.specs.Types.{TypesIn}
 use Rattle.model.specs.Index.{DriversBelow}
 use Rattle.model.proofs.owners.fill_drivers.Given as goal
 
 abbrev pub invariant-loop-n : goal.invariant-loop-n
-invariant-loop-n l = (l.n ≤ l.t.statements) × TypesIn l.m l.index × DriversBelow l.m l.index l.n
-
-abbrev pub decreases-loop-n : goal.decreases-loop-n
-decreases-loop-n l = l.t.statements - l.n
+invariant-loop-n l = TypesIn l.m l.index × DriversBelow l.m l.index l.n

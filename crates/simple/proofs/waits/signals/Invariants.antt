@@ -5,8 +5,8 @@ use lib.ListN.{length}
 use Rattle.simple.proofs.SignalLaws.{Collects}
 use Rattle.simple.proofs.waits.signals.Given as goal
 
-abbrev pub invariant-loop-t : goal.invariant-loop-t
-invariant-loop-t l = (l.at ≤ l.i) × (l.i ≤ length l.text) × Collects l.text l.at l.i l.set
+abbrev pub invariant-loop-n : goal.invariant-loop-n
+invariant-loop-n l = (l.at ≤ l.i) × (l.i ≤ length l.text) × Collects l.text l.at l.i l.set
 
-abbrev pub decreases-loop-t : goal.decreases-loop-t
-decreases-loop-t l = length l.text - l.i
+abbrev pub decreases-loop-n : goal.decreases-loop-n
+decreases-loop-n l = length l.text - l.i

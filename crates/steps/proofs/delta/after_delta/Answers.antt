@@ -1,25 +1,16 @@
 -- `after_delta` is `after_delta`: one case after the other. Assumes nothing.
 use mathlib.Core.Path.{sym, ◌∙◌}
-use Rattle.steps.proofs.DeltaProcesses.{at_place, place_there, condition_there, not_waiting, at_deadline, after_change, no_change}
+use Rattle.steps.proofs.DeltaProcesses.{not_waiting, at_deadline, after_change, no_change}
 use Rattle.steps.proofs.delta.after_delta.Goals as goal
 
 pub returns-then-q-ne-WAITING : goal.returns-then-q-ne-WAITING
 returns-then-q-ne-WAITING c = not_waiting _ _ _ _ _ c.args.q c.if-q-ne-WAITING.true
 
-pub woken-requires : goal.woken-requires
-woken-requires c = record { runs = c.requires.runs; p_in_bounds = c.requires.p_in_bounds; spans = at_place _ c.requires.runs.facts _ _ c.requires.p_in_bounds c.args.q c.requires.process_valid }
-
 pub returns-then-q-time : goal.returns-then-q-time
 returns-then-q-time c = at_deadline _ _ _ _ _ c.args.q c.requires.time_le_last_time c.if-q-ne-WAITING.false _ c.if-q-time.true c.woken.ensures
 
-pub statement_at-w-requires : goal.statement_at-w-requires
-statement_at-w-requires c = record { starts = c.requires.runs.usable.starts; n_in_bounds = place_there _ c.requires.runs.facts _ _ c.requires.p_in_bounds c.args.q c.requires.process_valid }
-
-pub woken_if-requires : goal.woken_if-requires
-woken_if-requires c = record { runs = c.requires.runs; p_in_bounds = c.requires.p_in_bounds; spans = at_place _ c.requires.runs.facts _ _ c.requires.p_in_bounds c.args.q c.requires.process_valid; b_in_bounds = condition_there _ c.requires.runs.facts _ _ c.requires.p_in_bounds c.args.q c.requires.process_valid _ c.statement_at-w.ensures c.if-q-ne-WAITING.false }
-
 pub returns-then-meet : goal.returns-then-meet
-returns-then-meet c = after_change _ _ _ _ _ c.args.q c.requires.time_le_last_time c.if-q-ne-WAITING.false c.if-q-time.false _ c.statement_at-w.ensures _ (sym c.meet.ensures ∙ c.if-meet.true) c.woken_if.ensures
+returns-then-meet c = after_change _ _ _ _ _ c.args.q c.requires.time_le_last_time c.if-q-ne-WAITING.false c.if-q-time.false _ c.statement-w.ensures _ (sym c.meet.ensures ∙ c.if-meet.true) c.woken_if.ensures
 
 pub returns : goal.returns
-returns c = no_change _ _ _ _ _ c.args.q c.requires.time_le_last_time c.if-q-ne-WAITING.false c.if-q-time.false _ c.statement_at-w.ensures (sym c.meet.ensures ∙ c.if-meet.false)
+returns c = no_change _ _ _ _ _ c.args.q c.requires.time_le_last_time c.if-q-ne-WAITING.false c.if-q-time.false _ c.statement-w.ensures (sym c.meet.ensures ∙ c.if-meet.false)

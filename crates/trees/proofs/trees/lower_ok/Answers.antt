@@ -1,6 +1,7 @@
-use mathlib.Core.Path.{sym, ◌∙◌}
+use mathlib.Core.Path.{◌≡◌, sym, ◌∙◌}
+use native.Mathlib.Omega.{arith}
 use borrow.Author.Tests.{ne_eqb}
-use Rattle.trees.specs.Trees.{lower_ok}
+use Rattle.trees.specs.Trees.{operands_of, lower_ok}
 use Rattle.trees.proofs.trees.lower_ok.Goals as goal
 
 pub returns-in-0 : goal.returns-in-0
@@ -14,5 +15,4 @@ returns-in-1 c = let e = sym c.operands_of.ensures ∙ c.in-1.is in rw e
 pub returns-in_default : goal.returns-in_default
 unfolding lower_ok
 returns-in_default c =
-    let r = c.in_default.in_default-own.rest in
-    rw (ne_eqb _ 0 (λ e. r.0.1 (c.operands_of.ensures ∙ e)), ne_eqb _ 1 (λ e. r.1 (c.operands_of.ensures ∙ e)))
+    rw (ne_eqb _ 0 (λ (e : operands_of c.args.d.kind ≡ 0). omega (arith, c.operands_of.ensures, e)), ne_eqb _ 1 (λ (e : operands_of c.args.d.kind ≡ 1). omega (arith, c.operands_of.ensures, e)))

@@ -1,4 +1,4 @@
-use mathlib.Core.Logic.{⊎_elim, inl, inr}
+use mathlib.Core.Logic.{⊎_elim}
 use native.Mathlib.Omega.{arith}
 use borrow.Author.Tests.{le-leb, lt-leb, ne_eqb}
 use Rattle.trees.specs.Trees.{operands_of}
@@ -14,7 +14,4 @@ returns-in-0-to-5 c = rw (le-leb c.args.kind 5 (omega arith))
 
 pub returns-in_default : goal.returns-in_default
 unfolding operands_of
-returns-in_default c =
-    let x = c.args.kind in
-    let r = c.in_default.in_default-own.rest.1 in
-    rw (lt-leb x 5 (omega arith), ne_eqb x 6 (λ e. r (inl e)), ne_eqb x 10 (λ e. r (inr e)))
+returns-in_default c = let x = c.args.kind in rw (lt-leb x 5 (omega arith), ne_eqb x 6 (λ e. grind arith), ne_eqb x 10 (λ e. grind arith))

@@ -1,24 +1,19 @@
 -- `model::types::type_by` meets its contract: each arm is a case of `type_by`. Assumes nothing.
-use mathlib.Core.Path.{◌≡◌, refl, ◌∙◌}
-use mathlib.Core.Bool.{Bool, true, false, ◌&&◌}
+use mathlib.Core.Path.{◌≡◌, refl, sym, ◌∙◌}
 use Prim.Native.Nat.{ℕ}
 use native.Mathlib.Omega.{arith}
 use Rattle.base.proofs.Below.{among}
-use Rattle.blocks.specs.Records.{model_of}
-use Rattle.fields.proofs.FieldLaws.{at_least_seven}
-use Rattle.fields.proofs.NodeFields.{kind_least_lem, kind_most_lem, names_variable, signal_at_lem}
+use Rattle.blocks.specs.Lent.{model_in}
+use Rattle.fields.proofs.NodeFields.{kind_least_lem, kind_most_lem, names_variable, names_signal}
 use Rattle.trees.specs.Trees.{type_by}
-use Rattle.trees.proofs.NodeTypes.{arithmetic_high}
+use Rattle.trees.proofs.NodeTypes.{arithmetic_by, arithmetic_type}
 use Rattle.trees.proofs.types.type_by.Goals as goal
 
-pub variable_type-requires : goal.variable_type-requires
-variable_type-requires c = record { starts = c.requires.starts; n_in_bounds = names_variable _ _ c.requires.d_value c.in-3.is }
+pub variable-requires : goal.variable-requires
+variable-requires c = names_variable _ _ c.requires c.in-3.is
 
 pub signal_type-requires : goal.signal_type-requires
-signal_type-requires c = record { starts = c.requires.starts; n_in_bounds = signal_at_lem _ _ c.requires.d_value 4 c.in-4.is tt tt }
-
-pub signal_type-requires-in-5 : goal.signal_type-requires-in-5
-signal_type-requires-in-5 c = record { starts = c.requires.starts; n_in_bounds = signal_at_lem _ _ c.requires.d_value 5 c.in-5.is tt tt }
+signal_type-requires c = names_signal _ _ c.requires (grind arith) (grind arith)
 
 pub returns-in-1 : goal.returns-in-1
 unfolding type_by
@@ -30,57 +25,72 @@ returns-in-2 c = rw c.in-2.is
 
 pub returns-in-3 : goal.returns-in-3
 unfolding type_by
-returns-in-3 c = rw c.in-3.is c.variable_type.ensures
+returns-in-3 c = rw (c.in-3.is, sym c.variable.ensures)
 
 pub returns-in-4 : goal.returns-in-4
 unfolding type_by
-returns-in-4 c = rw c.in-4.is c.signal_type.ensures
-
-pub returns-in-5 : goal.returns-in-5
-unfolding type_by
-returns-in-5 c = rw c.in-5.is c.signal_type-in-5.ensures
-
-pub returns-in-6 : goal.returns-in-6
-unfolding type_by
-returns-in-6 c = rw c.in-6.is c.choose.ensures
-
-pub returns-in-13 : goal.returns-in-13
-unfolding type_by
-returns-in-13 c = rw c.in-13.is c.choose-in-13.ensures
-
-pub returns-in-14 : goal.returns-in-14
-unfolding type_by
-returns-in-14 c = rw c.in-14.is c.choose-in-14.ensures
-
-pub returns-in-7-to-9 : goal.returns-in-7-to-9
-unfolding type_by
-returns-in-7-to-9 c =
+returns-in-4 c =
     let a = c.args in
-    let r = c.in-7-to-9.in_default-own.rest.0.0 in
-    among (λ (k : ℕ). a.d.kind ≡ k → c.choose-in-7-to-9.result ≡ type_by (model_of a.m.now) a.d a.p a.q) 7 3 a.d.kind
-    ((λ e. rw e c.choose-in-7-to-9.ensures), ((λ e. rw e c.choose-in-7-to-9.ensures), ((λ e. rw e c.choose-in-7-to-9.ensures), tt)))
-    (at_least_seven a.d.kind c.in-7-to-9.if-kind-lt1-own.false r.0.0.0.0.0.1 r.0.0.0.0.1 r.0.0.0.1 r.0.0.1 r.0.1 r.1) c.in-7-to-9.if-kind-lt10-own.true refl
+    among (λ (k : ℕ). a.d.kind ≡ k → c.signal_type.result ≡ type_by (model_in a.records.now) a.d a.p a.q) 4 2 a.d.kind
+    ((λ e. rw e c.signal_type.ensures), ((λ e. rw e c.signal_type.ensures), tt)) (omega arith) (omega arith) refl
 
-and-true : (t : Bool) → (t && true) ≡ t
-and-true true = refl
-and-true false = refl
-
-pub returns-in-10-to-12 : goal.returns-in-10-to-12
+pub returns-then-p : goal.returns-then-p
 unfolding type_by
-returns-in-10-to-12 c =
-    let a = c.args in
-    among (λ (k : ℕ). a.d.kind ≡ k → c.choose-in-10-to-12.result ≡ type_by (model_of a.m.now) a.d a.p a.q) 10 3 a.d.kind
-    ((λ e. rw e (rw (e, and-true) at c.choose-in-10-to-12.ensures)), ((λ e. rw e (rw e at c.choose-in-10-to-12.ensures)), ((λ e. rw e (rw e at c.choose-in-10-to-12.ensures)), tt)))
-    c.in-10-to-12.if-kind-lt10-own.false c.in-10-to-12.if-kind-lt13-own.true refl
+returns-then-p c = rw c.in-6.is (grind arith)
 
-pub returns-in-15-to-18 : goal.returns-in-15-to-18
-returns-in-15-to-18 c =
+pub returns-else-p : goal.returns-else-p
+unfolding type_by
+returns-else-p c = rw c.in-6.is (grind arith)
+
+pub returns-then-p-eq-INTEGER : goal.returns-then-p-eq-INTEGER
+unfolding type_by
+returns-then-p-eq-INTEGER c = rw c.in-10.is (grind arith)
+
+pub returns-else-p-eq-INTEGER : goal.returns-else-p-eq-INTEGER
+unfolding type_by
+returns-else-p-eq-INTEGER c = rw c.in-10.is (grind arith)
+
+pub returns-then-p-q : goal.returns-then-p-q
+unfolding type_by
+returns-then-p-q c = rw c.in-13.is (grind arith)
+
+pub returns-else-p-q : goal.returns-else-p-q
+unfolding type_by
+returns-else-p-q c = rw c.in-13.is (grind arith)
+
+pub returns-then-p-q-2 : goal.returns-then-p-q-2
+unfolding type_by
+returns-then-p-q-2 c = rw c.in-14.is (grind arith)
+
+pub returns-else-p-q-2 : goal.returns-else-p-q-2
+unfolding type_by
+returns-else-p-q-2 c = rw c.in-14.is (grind arith)
+
+pub returns-then-p-q-3 : goal.returns-then-p-q-3
+unfolding type_by
+returns-then-p-q-3 c =
     let a = c.args in
-    c.choose-in-15-to-18.ensures ∙ arithmetic_high _ a.d a.p a.q c.in-15-to-18.if-kind-lt13-own.false c.in-15-to-18.in_default-own.rest.0.1 c.in-15-to-18.in_default-own.rest.1
+    among (λ (k : ℕ). a.d.kind ≡ k → a.p ≡ type_by (model_in a.records.now) a.d a.p a.q) 7 3 a.d.kind ((λ e. rw e (grind arith)), ((λ e. rw e (grind arith)), ((λ e. rw e (grind arith)), tt))) (grind arith) (grind arith) refl
+
+pub returns-else-p-q-3 : goal.returns-else-p-q-3
+unfolding type_by
+returns-else-p-q-3 c =
+    let a = c.args in
+    among (λ (k : ℕ). a.d.kind ≡ k → 3 ≡ type_by (model_in a.records.now) a.d a.p a.q) 7 3 a.d.kind ((λ e. rw e (grind arith)), ((λ e. rw e (grind arith)), ((λ e. rw e (grind arith)), tt))) (grind arith) (grind arith) refl
+
+pub returns-then-p-q-4 : goal.returns-then-p-q-4
+returns-then-p-q-4 c =
+    let t : 0 ≡ arithmetic_type c.args.p c.args.q = grind arith in
+    t ∙ arithmetic_by _ c.args.d c.args.p c.args.q (grind arith) (λ e. grind arith) (λ e. grind arith)
+
+pub returns-else-p-q-4 : goal.returns-else-p-q-4
+returns-else-p-q-4 c =
+    let t : 3 ≡ arithmetic_type c.args.p c.args.q = grind arith in
+    t ∙ arithmetic_by _ c.args.d c.args.p c.args.q (grind arith) (λ e. grind arith) (λ e. grind arith)
 
 -- no kind is left: 0, and any past 18
 pub returns-in_default : goal.returns-in_default
-returns-in_default c = absurd (omega (arith, kind_least_lem _ _ c.requires.d_value))
+returns-in_default c = absurd (omega (arith, kind_least_lem _ _ c.requires))
 
 pub returns-in_default-2 : goal.returns-in_default-2
-returns-in_default-2 c = absurd (omega (arith, kind_most_lem _ _ c.requires.d_value, c.in_default.if-kind-lt19-own.false))
+returns-in_default-2 c = absurd (omega (arith, kind_most_lem _ _ c.requires))

@@ -1,12 +1,14 @@
-use Rattle.trees.specs.Trees.{types_ok}
+use Rattle.std.proofs.Common.{rules, tests, leb}
+use Rattle.base.proofs.Ranges.{all_from_range}
+use Rattle.blocks.specs.Records.{model_of, statement_at}
+use Rattle.trees.specs.Trees.{type_of, statement_typed, types_ok}
 use Rattle.trees.proofs.types.types_ok.Goals as goal
 
-pub fill_types-nodes-requires : goal.fill_types-nodes-requires
-fill_types-nodes-requires c = record { index_len = c.requires.index_len; starts = c.requires.starts; totals_of = c.requires.totals_of; m_value = c.requires.m_value }
-
-pub statements_typed-statements-requires : goal.statements_typed-statements-requires
-statements_typed-statements-requires c = record { types_in = c.fill_types-nodes.ensures.types_in; totals_of = c.requires.totals_of; m_value = c.requires.m_value }
-
-pub returns : goal.returns
+pub returns-clause-value : goal.returns-clause-value
 unfolding types_ok
-returns c = record { value = rw (c.fill_types-nodes.ensures.value, c.statements_typed-statements.ensures); types_in = c.fill_types-nodes.ensures.types_in }
+returns-clause-value c =
+    let M = model_of c.args.m.now in
+    rw (
+      all_from_range (λ n. leb (type_of M n) 2) c.all-nodes.ensures.ran c.requires.totals_of.nodes (λ x b q k. search (rules, tests)),
+      all_from_range (λ n. statement_typed M (statement_at M n)) c.all-statements.ensures.ran c.requires.totals_of.statements (λ x b q k. search (rules, tests)),
+    )

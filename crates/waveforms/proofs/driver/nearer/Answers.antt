@@ -1,4 +1,4 @@
-use Prim.Native.Nat.{◌≤◌}
+-- `nearer`: one time after the other. Assumes nothing.
 use native.Mathlib.Nat.{le_refl}
 use native.Mathlib.Omega.{arith}
 use lib.ListN.{get_or}
@@ -9,23 +9,18 @@ use Rattle.waveforms.proofs.Drivers.{nearing_none, nearing_more, nearing_all}
 use Rattle.waveforms.proofs.driver.nearer.Goals as goal
 
 pub loop-i-init : goal.loop-i-init
-loop-i-init c = (search rules, nearing_none _ _ (search rules))
-
--- the time that a turn brings nearer
-small : (c : goal.In-loop-i) → Fits w32 (get_or c.args.times c.loop-i.i 0)
-small c = search rules
-
-far : (c : goal.In-loop-i) → c.args.n ≤ get_or c.args.times c.loop-i.i 0
-far c = c.requires.none_before _ c.loop-i-test.true
+loop-i-init c = nearing_none _ _ (search rules)
 
 pub overflow_cast-times : goal.overflow_cast-times
-overflow_cast-times c = omega (arith, (small c).fits, far c)
+overflow_cast-times c =
+    let small : Fits w32 (get_or c.args.times c.loop-i.i 0) = search rules in
+    omega (arith, small.fits, c.requires.none_before _ c.loop-i-test.true)
 
 pub overflow_sub-times : goal.overflow_sub-times
-overflow_sub-times c = rw (c.loop-i.invariant.1.left _ (le_refl _)) (far c)
+overflow_sub-times c = rw (c.loop-i.invariant.left _ (le_refl _)) (c.requires.none_before _ c.loop-i-test.true)
 
 pub loop-i-preserved : goal.loop-i-preserved
-loop-i-preserved c = (search rules, nearing_more _ _ _ _ c.loop-i.invariant.1 _ (search rules) (omega (arith, overflow_sub-times c)))
+loop-i-preserved c = nearing_more _ _ _ _ c.loop-i.invariant _ (omega (arith, c.loop-i-test.true, c.requires.count_bound)) (omega (arith, overflow_sub-times c))
 
 pub returns : goal.returns
-returns c = nearing_all _ _ _ _ c.loop-i.invariant.1 _ c.loop-i.invariant.0 c.loop-i-test.false
+returns c = nearing_all _ _ _ _ c.loop-i.invariant _ c.loop-i.auto.i-end c.loop-i-test.false

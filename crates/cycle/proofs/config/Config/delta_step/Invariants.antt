@@ -1,11 +1,8 @@
 -- `delta_step`: what is due and the standings decide. The loop takes the due transactions of the drivers passed, and `delta_answers`
 -- puts the parts together. Assumes nothing.
-use Prim.Native.Nat.{◌≤◌, ◌-◌}
+use Prim.Native.Nat.{◌≤◌}
 use Rattle.cycle.proofs.DeltaDrivers.{Taking}
 use Rattle.cycle.proofs.config.Config.delta_step.Given as goal
 
 abbrev pub invariant-loop-k : goal.invariant-loop-k
-invariant-loop-k l = (l.k ≤ l.ndrivers) × (l.ndrivers ≤ 64) × Taking l.initial.self l.k l.self
-
-abbrev pub decreases-loop-k : goal.decreases-loop-k
-decreases-loop-k l = l.ndrivers - l.k
+invariant-loop-k l = (l.ndrivers ≤ 64) × Taking l.initial.self l.k l.self

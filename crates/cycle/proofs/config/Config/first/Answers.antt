@@ -4,14 +4,14 @@ use Rattle.cycle.proofs.config.Config.first.Goals as goal
 
 pub returns : goal.returns
 returns c =
-    begins_first _ c.requires.runs.facts _ c.none-d.result c.first_values-values.result c.histories-signals.result
+    begins_first _ c.args.program.now.runs.facts _ c.none-d.result c.first_values-values.result c.histories-signals.result
     (record {
       time = refl;
       deltas = refl;
-      nsignals = c.requires.totals_of.signals;
-      nvariables = c.requires.totals_of.variables;
-      ndrivers = c.requires.totals_of.drivers;
-      nprocesses = c.requires.totals_of.processes;
+      nsignals = c.args.program.now.records.totals_of.signals;
+      nvariables = c.args.program.now.records.totals_of.variables;
+      ndrivers = c.args.program.now.records.totals_of.drivers;
+      nprocesses = c.args.program.now.records.totals_of.processes;
       variables = c.first_variables-variables.ensures;
       places = c.first_places-places.ensures;
       currents = c.first_currents-currents.ensures;
