@@ -19,6 +19,7 @@ ghost use Rattle.session.specs.SetLaws.{SetLaws};
 
 use crate::play::play;
 use base::refusal::Refusal;
+use blocks::index::Records;
 use cycle::config::Config;
 use expressions::program::Program;
 use model::load::load;
@@ -81,8 +82,15 @@ pub fn session(model: &[u8], orders: &[u8], answers: &mut [u8]) -> Ended
     if let Err(refusal) = check_lengths(orders, answers) {
         return refused(refusal);
     }
+    // The index is moved into a place of its own, whose size keeps the configuration's copies at equal offsets in their cache lines
+    // (bench/README.md).
+    let index = loaded.index;
     let program = Program {
-        records: loaded.records(model),
+        records: Records {
+            bytes: model,
+            index: &index,
+            totals: loaded.totals,
+        },
     };
     let first = Config::first(&program);
     Ended {

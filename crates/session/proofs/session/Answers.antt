@@ -5,7 +5,7 @@ use Prim.Native.Nat.{ℕ}
 use native.Mathlib.Omega.{arith}
 use Rattle.model.specs.Rules.{refusal_of}
 use Rattle.model.proofs.Rules.{number_some}
-use Rattle.expressions.proofs.Runs.{runs_lent}
+use Rattle.expressions.proofs.Runs.{runs}
 use Rattle.session.proofs.SessionLaws.{room, model_refused, model_accepted, refused_session, played_session}
 use Rattle.session.proofs.DelayLaws.{delay_laws}
 use Rattle.session.proofs.Demand3.{determinate}
@@ -39,7 +39,10 @@ returns-in-Err-check_lengths c =
     record { session_is = ended _ _ _ _ c.in-Err-check_lengths.refusal c.refused-in-Err-check_lengths.ensures.number c.refused-in-Err-check_lengths.ensures.config (c.in-Err-check_lengths.ensures ∙ sym (model_accepted _ _ _ a)); determinate = determinate; list_laws = list_laws; fault_laws = fault_laws; delay_laws = delay_laws; set_laws = set_laws; own_table_laws = own_table_laws }
 
 pub invariant_of-program : goal.invariant_of-program
-invariant_of-program c = record { runs = runs_lent c.in-Ok.ensures.loaded.usable c.records.ensures.lent.0 c.records.ensures.lent.1 }
+invariant_of-program c = record { starts = c.in-Ok.ensures.loaded.usable.starts; totals_of = c.in-Ok.ensures.loaded.totals }
+
+pub invariant_of-program-2 : goal.invariant_of-program-2
+invariant_of-program-2 c = record { runs = runs c.in-Ok.ensures.loaded.usable }
 
 pub play-requires-clause-answers_len : goal.play-requires-clause-answers_len
 play-requires-clause-answers_len c = room _ _ (sym c.in_default.ensures)
@@ -48,4 +51,4 @@ pub returns : goal.returns
 returns c =
     let a = sym c.in-Ok.ensures.refusal in
     let played = rw c.first-first.ensures.is at c.play.ensures.played_to in
-    record { session_is = played_session _ _ _ _ _ (model_accepted _ _ _ a ∙ sym c.in_default.ensures) refl (subst (λ b. PlayedTo (model_of b) c.args.orders.now (first (model_of b)) (view_of c.play.result) c.play.new.answers) c.records.ensures.lent.0 played); determinate = determinate; list_laws = list_laws; fault_laws = fault_laws; delay_laws = delay_laws; set_laws = set_laws; own_table_laws = own_table_laws }
+    record { session_is = played_session _ _ _ _ _ (model_accepted _ _ _ a ∙ sym c.in_default.ensures) refl played; determinate = determinate; list_laws = list_laws; fault_laws = fault_laws; delay_laws = delay_laws; set_laws = set_laws; own_table_laws = own_table_laws }
