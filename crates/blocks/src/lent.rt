@@ -2,11 +2,13 @@
 ghost use Rattle.std.specs.Prelude.{◌≡◌, ◌<◌, length, get_or};
 ghost use Rattle.blocks.specs.Blocks.{part_at, starts_of, total_of};
 ghost use Rattle.blocks.specs.Records.{signal_at, variable_at, process_at, driver_at, node_at, statement_at, row_at};
-ghost use Rattle.blocks.specs.Index.{section_of};
+ghost use Rattle.blocks.specs.Index.{section_of, Starts};
 ghost use Rattle.blocks.specs.Lent.{model_in};
 
+use crate::blocks::totals;
 use crate::index::{
-    DRIVERS_AT, NODES_AT, PROCESSES_AT, ROWS_AT, Records, SIGNALS_AT, STATEMENTS_AT, VARIABLES_AT,
+    DRIVERS_AT, Index, NODES_AT, PROCESSES_AT, ROWS_AT, Records, SIGNALS_AT, STATEMENTS_AT,
+    VARIABLES_AT,
 };
 use crate::records::{
     DriverRecord, NodeRecord, ProcessRecord, RowRecord, SignalRecord, StatementRecord,
@@ -15,6 +17,18 @@ use crate::records::{
 };
 
 impl<'a> Records<'a> {
+    // The records of any bytes whose index says where each begins: the totals are asked of nobody.
+    pub fn new(bytes: &'a [u8], index: &'a Index) -> Records<'a>
+        requires { Starts bytes.now index.now }
+        ensures lent { (result.bytes.now ≡ bytes.now) × (result.index.now ≡ index.now) }
+    {
+        Records {
+            bytes: bytes,
+            index: index,
+            totals: totals(bytes),
+        }
+    }
+
     // The 12 bytes of record n of a kind, whose starts stand in the index from `section` on.
     fn part(&self, kind: usize, section: usize, n: usize) -> &[u8]
         requires section_value { section ≡ section_of kind }

@@ -72,12 +72,7 @@ fn check_records(m: &[u8], index: &mut Index, t: Totals) -> Result<(), Refusal>
         return Err(Refusal::NullOnPlain);
     }
     put_table(m, index, t);
-    let records = Records {
-        bytes: m,
-        index: &*index,
-        totals: t,
-    };
-    check_table(&records)
+    check_table(m, index, t)
 }
 
 // The model's totals and index, or the first rule that it breaks.

@@ -1,5 +1,5 @@
 use mathlib.Core.Path.{sym, ◌∙◌}
-use Rattle.model.proofs.Entries.{table_put, table_starts}
+use Rattle.model.proofs.Entries.{table_put}
 use Rattle.model.proofs.Rules.{fields_fail, trees_fail, types_fail, owners_fail, nulls_fail, table_decides}
 use Rattle.model.proofs.load.check_records.Goals as goal
 
@@ -23,11 +23,8 @@ returns-then-not-nulls_ok c =
     nulls_fail _ _ (sym c.fields_ok.ensures ∙ c.if-not-fields_ok.false) (sym c.trees_ok.ensures ∙ c.if-not-trees_ok.false)
     (sym c.types_ok.ensures.value ∙ c.if-not-types_ok.false) (sym c.owners_ok.ensures.value ∙ c.if-not-owners_ok.false) (sym c.nulls_ok.ensures ∙ c.if-not-nulls_ok.true)
 
-pub invariant_of-records-3-clause-starts : goal.invariant_of-records-3-clause-starts
-invariant_of-records-3-clause-starts c = table_starts _ _ _ c.owners_ok.ensures.drivers_in c.put_table.ensures
-
 pub check_table-requires : goal.check_table-requires
-check_table-requires c = record { table_in = table_put _ _ _ c.owners_ok.ensures.drivers_in c.put_table.ensures }
+check_table-requires c = record { table_in = table_put _ _ _ c.owners_ok.ensures.drivers_in c.put_table.ensures; totals_of = c.requires.totals_of }
 
 pub returns : goal.returns
 returns c =
