@@ -25,6 +25,7 @@ peers: setup
 proved: setup tools
 	tools/lib exports dump_exports read_exports
 	KERNEL_LIB_DIR=$(LIB) $(CARGO) test $(BLOCKS) --features library
+	sh tests/archives.sh
 	sh tests/run.sh
 	sh tests/examples.sh
 	$(PROVED) compare models 200000 1
