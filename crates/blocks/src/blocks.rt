@@ -48,7 +48,12 @@ fn trailing_ok(m: &[u8], b: usize) -> bool
     ensures { result ≡ trailing_ok m.now b }
 {
     let end = 4 + 12 * byte(m, 512 * b + 3);
-    (0..510).all(|i| (i < end) | (byte(m, 512 * b + i) == 0))
+    // Stays: no `all`. It ends at the first byte that fails, so the compiler tests one byte after the other.
+    let mut ok = true;
+    for i in 0..510 {
+        ok = ok & ((i < end) | (byte(m, 512 * b + i) == 0));
+    }
+    ok
 }
 
 // Whether block b has its number, a kind, a count, no lower kind than the block before, and zeros behind its records.

@@ -1,6 +1,7 @@
 -- A statement by its first token, lists of statements, and whole texts.
 -- Assumes nothing.
 use mathlib.Core.Path.{◌≡◌, refl, sym, ap, ◌∙◌}
+use mathlib.Core.Bool.{true, false, true≢false, false≢true}
 use mathlib.Core.List.{List, ◌∷◌}
 use mathlib.Core.Logic.{◌≢◌}
 use Prim.Native.Nat.{ℕ, ◌≤◌, ◌<◌}
@@ -8,6 +9,7 @@ use native.Mathlib.Omega.{arith}
 use lib.ListN.{length}
 use Rattle.grammar.specs.Tokens.{Token, from}
 use Rattle.std.specs.Prelude.{Option, Some, None}
+use Rattle.std.specs.Option.{is_some}
 use Rattle.tokens.specs.declared.Lexeme.{Lexeme}
 use Rattle.tokens.specs.declared.Lexeme.TheVariants.{Word, End}
 use Rattle.tokens.specs.Answers.{meant, Fits, Word as IsWord, FirstToken, FoundWord}
@@ -112,6 +114,19 @@ refused text nodes out r = record { one_number = λ n. refl; accepted = λ e. ab
 
 pub too_long : (text nodes out : List ℕ) → 65535 < length text → Read text 26 0 0 nodes nodes out out
 too_long text nodes out h = refused text nodes out (record { no_sentence = λ p s. h; nothing_counted = (refl, refl); nodes_kept = refl; kept = refl })
+
+pub no_text : (text nodes out : List ℕ) → NoList (from text 0) 16 End → Read text 26 0 0 nodes nodes out out
+no_text text nodes out n = refused text nodes out (record { no_sentence = λ p s. absurd (n p s.rest s.spells); nothing_counted = (refl, refl); nodes_kept = refl; kept = refl })
+
+-- what judging a text found
+module _ (text nodes nodes' out out' : List ℕ) where
+  pub judged_none : (o : Option Made) → is_some o ≡ false → AnswerList text 0 16 End 0 0 o nodes nodes' out out' → NoList (from text 0) 16 End
+  judged_none None e n = n
+  judged_none (Some r) e f = absurd (true≢false e)
+
+  pub judged_some : (o : Option Made) → is_some o ≡ true → AnswerList text 0 16 End 0 0 o nodes nodes' out out' → NoList (from text 0) 16 End → ⊥
+  judged_some None e n h = absurd (false≢true e)
+  judged_some (Some r) e f h = h f.tree f.rest f.spells
 
 -- a text that was judged to be a sentence is not found to be none
 pub text_read : {text : List ℕ} {next m i : ℕ} {nodes nodes' out out' : List ℕ} → length text ≤ 65535 → FoundList text 0 16 End 0 0 next m i nodes nodes' out out' → Read text 0 m i nodes nodes' out out'

@@ -13,6 +13,7 @@ use base::refusal::Refusal;
 use phrases::words::{ELSE, END_WORD, IF, LOOP, NULL, SEMICOLON, THEN, WAIT, WHILE};
 use phrases::{GROUPS, Open, phrase};
 use simple::{Made, assigned, driven, waiting};
+use std::array;
 use tokens::{Lexeme, token, word};
 use writing::put_record;
 
@@ -221,7 +222,8 @@ pub fn read(text: &[u8], nodes: &mut [u8], statements: &mut [u8]) -> Result<Coun
     if LONGEST < text.len() {
         return Err(Refusal::NoSentence);
     }
-    let mut stack = [Open::First; GROUPS];
+    // By from_fn the compiler writes the room once, and behind the test above; as `[Open::First; GROUPS]` twice, and before it.
+    let mut stack: [Open; GROUPS] = array::from_fn(|_| Open::First);
     let mut no_nodes = [0u8; 1];
     let mut no_statements = [0u8; 1];
     let judged = list(

@@ -1,9 +1,15 @@
-use Rattle.std.proofs.Common.{refl, rules, tests}
-use Rattle.base.proofs.Ranges.{all_from_range}
-use Rattle.blocks.specs.Blocks.{trailing_at, trailing_ok}
+use native.Mathlib.Nat.{le_antisymm}
+use Rattle.base.proofs.Turns.{all_begun, all_turn}
+use Rattle.blocks.specs.Blocks.{trailing_ok}
 use Rattle.blocks.proofs.BlockForms.{trailing_form}
 use Rattle.blocks.proofs.blocks.trailing_ok.Goals as goal
 
+pub loop-i-init : goal.loop-i-init
+loop-i-init c = all_begun _
+
+pub loop-i-preserved : goal.loop-i-preserved
+loop-i-preserved c = all_turn _ _ _ _ c.loop-i.invariant (trailing_form _ _ _ _ _ c.byte.ensures c.byte-in-loop-i.ensures)
+
 pub returns : goal.returns
 unfolding trailing_ok
-returns c = all_from_range (trailing_at c.args.m.now c.args.b) c.all.ensures.ran refl (λ x b q k. search (rules, tests, trailing_form c.args.m.now c.args.b x, c.byte.ensures))
+returns c = rw (le_antisymm c.loop-i.auto.i-end c.loop-i-test.false) at c.loop-i.invariant
