@@ -5,7 +5,7 @@ use mathlib.Core.List.{List, [], ◌∷◌}
 use Prim.Native.Nat.{ℕ, suc, ◌+◌, ◌*◌, ◌-◌, ◌≤◌, ◌<◌}
 use native.Mathlib.Omega.{arith}
 use lib.Seq.{sets}
-use Rattle.grammar.specs.Tokens.{Token, word, from}
+use Rattle.grammar.specs.Tokens.{Token, word, from, NoWord}
 use Rattle.tokens.specs.declared.Lexeme.TheVariants.{Word}
 use Rattle.tokens.specs.Answers.{FoundWord}
 use Rattle.grammar.specs.Words.{null_word, if_word, then_word, else_word, end_word, while_word, loop_word, semicolon}
@@ -13,13 +13,24 @@ use Rattle.grammar.specs.Grammar.{Expression, Statement, null, while, choice, Sa
 use Rattle.grammar.specs.Made.{statement, nodes_in_body, nodes_of_body, statements_in, statements_of}
 use Rattle.grammar.proofs.Unique.{one_expression, one_statement, spells_at, stops_end, stops_else}
 use Rattle.writing.specs.Written.{node_bytes, statement_bytes}
-use Rattle.phrases.specs.Phrases.{FoundPhrase}
+use Rattle.phrases.specs.Phrases.{FoundPhrase, NoPhrase}
 use Rattle.simple.specs.Statements.{FoundStatement, NoStatement}
 use Rattle.reader.specs.Reading.{FoundEnding, NoEnding, FoundList, NoList}
 use Rattle.reader.proofs.Writing.{nodes_while, statements_while, nodes_choice, statements_choice}
 
 -- null ;
 -- The codes of long words are variables where a statement's form is asked: so antt needs not tell two of them apart by counting.
+null_by : {c d : ℕ} {p : Statement} {u r : List Token} → c ≡ null_word → Spells one d p (word c ∷ u) r → u ≡ word semicolon ∷ r
+null_by h spells_null = refl
+null_by h (spells_assign e) = absurd (omega arith)
+null_by h (spells_drive e f) = absurd (omega arith)
+null_by h (spells_wait e) = absurd (omega arith)
+null_by h (spells_while e q) = absurd (omega arith)
+null_by h (spells_choice e q v) = absurd (omega arith)
+
+no_semicolon_in : {d : ℕ} {p : Statement} {u r : List Token} → NoWord u semicolon → Spells one d p (word null_word ∷ u) r → ⊥
+no_semicolon_in n h = n _ (null_by refl h)
+
 module _ {text : List ℕ} {at x : ℕ} (w : FoundWord text at null_word x) where
   pub null_found : {room m i y : ℕ} (nodes : List ℕ) {out two : List ℕ} → m ≤ at → i ≤ at → FoundWord text x semicolon y
       → two ≡ sets out (12 * i) (statement_bytes (statement 0 0 0 0 0 ∷ [])) → FoundStatement text (from text at) at room m i y m (i + 1) nodes nodes out two
@@ -43,6 +54,17 @@ while_by h (spells_drive e f) = absurd (omega arith)
 while_by h (spells_wait e) = absurd (omega arith)
 while_by h (spells_while e b) = (_, _, _, e, b)
 while_by h (spells_choice e q v) = absurd (omega arith)
+
+no_test_by : {c d : ℕ} {p : Statement} {u r : List Token} → c ≡ while_word → NoPhrase u loop_word → Spells one d p (word c ∷ u) r → ⊥
+no_test_by h n spells_null = absurd (omega arith)
+no_test_by h n (spells_assign e) = absurd (omega arith)
+no_test_by h n (spells_drive e f) = absurd (omega arith)
+no_test_by h n (spells_wait e) = absurd (omega arith)
+no_test_by h n (spells_while e b) = n _ _ e
+no_test_by h n (spells_choice e q v) = absurd (omega arith)
+
+no_test_in : {d : ℕ} {p : Statement} {u r : List Token} → NoPhrase u loop_word → Spells one d p (word while_word ∷ u) r → ⊥
+no_test_in n h = no_test_by refl n h
 
 no_body_in : {d : ℕ} {e : Expression} {p : Statement} {u w r : List Token} → Says e u (word loop_word ∷ w) → NoList w d (Word end_word) → Spells one (suc d) p (word while_word ∷ u) r → ⊥
 no_body_in {w = w} f n h =

@@ -35,6 +35,13 @@ not_until a b d (no_until p) = not_for a b p
 not_until a b d (with_until p q) = d refl
 
 -- A code is a variable here: so antt needs not tell two long words apart by counting.
+for_time_by : {c : ℕ} {f : Option Expression} {s r : List Token} → c ≡ for_word → SaysFor f (word c ∷ s) r → (e : Expression) × Says e s (word semicolon ∷ r)
+for_time_by h no_for = absurd (omega arith)
+for_time_by h (with_for p) = (_, p)
+
+for_time : {f : Option Expression} {s r : List Token} → SaysFor f (word for_word ∷ s) r → (e : Expression) × Says e s (word semicolon ∷ r)
+for_time = for_time_by refl
+
 module _ {text : List ℕ} {at x : ℕ} {token : Lexeme} (t : FirstToken text at token x) where
   word_begun : (c : ℕ) → token ≡ Word c → FoundWord text at c x
   word_begun c e = let (l, m) = first_within t (Word c) e (λ z. cc) in record { begins = begins_as t (Word c) e (λ z. cc); within = (omega (arith, l), m) }

@@ -2,14 +2,15 @@
 -- Assumes nothing.
 use mathlib.Core.Path.{◌≡◌, refl, sym, ap, ◌∙◌}
 use mathlib.Core.Logic.{∥∥₁_elim}
-use mathlib.Core.List.{List, [], ◌∷◌, foldl, Permᴰ}
-use mathlib.Core.Bool.{true}
+use mathlib.Core.List.{List, [], ◌∷◌, ◌++◌, foldl, foldl-append, Permᴰ}
+use mathlib.Core.Bool.{Bool, true, false}
 use Prim.Native.Nat.{ℕ, ◌<◌}
 use native.Mathlib.Nat.{ℕ_set}
 use native.Mathlib.Omega.{arith}
 use lib.Dec.{lit<}
 use lib.ListN.{length, get_or}
 use Rattle.base.specs.Below.{all_below, list_below}
+use Rattle.base.specs.Cases.{◌∣◌, ◌⇒◌}
 use Rattle.values.specs.Nine.{code_of}
 use Rattle.values.specs.Resolve.{standard_rows, entry_of, table_by, standard, pair_in, pair_of, resolution_by, closed, row_symmetric, symmetric, pair_associative, row_associative, associative, PairLaws, ResolutionLaws, TableLaws}
 use Rattle.values.proofs.Tables.{pair_laws}
@@ -70,3 +71,19 @@ standard_associative = refl
 pub standard_resolution : ResolutionLaws pair_of
 unfolding pair_of
 standard_resolution = (table_laws standard).resolutions standard_closed standard_symmetric standard_associative
+
+-- there is a value
+abbrev pub some : List ℕ → Bool
+some [] = false
+some (v ∷ vs) = true
+
+pub some_more : (vs : List ℕ) (x : ℕ) → some (vs ++ (x ∷ [])) ≡ true
+some_more [] x = refl
+some_more (v ∷ vs) x = refl
+
+-- one value more
+module _ (f : ℕ → ℕ → ℕ) where
+  pub resolution_more : (vs : List ℕ) (x : ℕ) → resolution_by f (vs ++ (x ∷ [])) ≡ (some vs ⇒ f (resolution_by f vs) x ∣ x)
+  unfolding resolution_by
+  resolution_more [] x = refl
+  resolution_more (v ∷ vs) x = foldl-append f v vs (x ∷ [])
